@@ -2,7 +2,7 @@
 use Rattle.std.proofs.Common.{◌≡◌, ℕ, zero, suc, true, false, List, [], None, refl}
 use Rattle.coe_client.specs.declared.state.Awaits.{Awaits}
 use Rattle.coe_client.specs.Talk.{Talking, target_of, answers_from, awaited, is_replied, is_sound}
-use Rattle.coe_model.specs.Tables.{Target}
+use Rattle.protocol_models.specs.Tables.{Target}
 
 none_yet : (room : ℕ) (t : Target) (bytes value : List ℕ) (a : Awaits) → is_sound a value ≡ true → is_replied a ≡ false → answers_from room t bytes value a [] ≡ None
 none_yet room t bytes value Awaits.Nothing sound open_yet = refl

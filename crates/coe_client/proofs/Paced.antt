@@ -2,11 +2,11 @@
 use Rattle.std.proofs.Common.{◌≡◌, inl, inr, ℕ, zero, suc, ◌+◌, ◌-◌, ◌<◌, ◌≤◌, Bool, true, false, not, ◌&&◌, nat_lt, nat_le, ◌==◌, List, [], ◌∷◌, length, take, drop, if◌then◌else◌, Some, is_some, refl, sym, ap, ◌∙◌, subst, arith, length-drop, ltb-true, leb-true, le-leb, lt-ltb, ne_eqb}
 use Rattle.std.proofs.lemmas.Bool.{cases_lt, leb-false}
 use Rattle.coe_codec.specs.declared.viewing.CoeView.{CoeView}
-use Rattle.coe_model.specs.Mails.{mail, Expedited, First, Segment}
-use Rattle.coe_model.specs.Tables.{Target}
-use Rattle.coe_model.specs.Server.{is_expedited, parts_of}
-use Rattle.coe_model.specs.Client.{segments, behind_first, download_mails}
-use Rattle.coe_model.proofs.Basics.{one_part, more_parts}
+use Rattle.protocol_models.specs.CoeMails.{mail, Expedited, First, Segment}
+use Rattle.protocol_models.specs.Tables.{Target}
+use Rattle.protocol_models.specs.CoeServer.{is_expedited, parts_of}
+use Rattle.protocol_models.specs.CoeClient.{segments, behind_first, download_mails}
+use Rattle.protocol_models.proofs.Basics.{one_part, more_parts}
 use Rattle.coe_client.specs.declared.state.Task.{Task}
 use Rattle.coe_client.specs.declared.state.Unsent.{Unsent}
 use Rattle.coe_client.specs.declared.state.Awaits.{Awaits}

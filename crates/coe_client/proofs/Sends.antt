@@ -5,13 +5,13 @@ use Rattle.std.proofs.lemmas.Bool.{cases_lt, lt-leb, leb-false}
 use Rattle.exchange_model.specs.Dialogue.{Turn, next, again, stop, first_turn, turn_at, rest_at, said}
 use Rattle.object_dictionary.specs.declared.service.SdoService.{SdoService}
 use Rattle.coe_codec.specs.Writing.{HasSpelling, coe_text}
-use Rattle.coe_model.specs.Mails.{Coe, CoeMail, mail, unread, failed, fragment, other, Expedited, First, Upload, Segment, UploadSegment, ListRequest, ObjectRequest, EntryRequest}
-use Rattle.coe_model.specs.Tables.{Target, list, object, entry}
-use Rattle.coe_model.specs.Server.{is_expedited}
-use Rattle.coe_model.specs.Meaning.{Service, download, upload, information}
-use Rattle.coe_model.specs.Client.{segments, download_mails, requests, mails_of, decide}
-use Rattle.coe_model.specs.Model.{planned}
-use Rattle.coe_model.proofs.Speaks.{never}
+use Rattle.protocol_models.specs.CoeMails.{Coe, CoeMail, mail, unread, failed, fragment, other, Expedited, First, Upload, Segment, UploadSegment, ListRequest, ObjectRequest, EntryRequest}
+use Rattle.protocol_models.specs.Tables.{Target, list, object, entry}
+use Rattle.protocol_models.specs.CoeServer.{is_expedited}
+use Rattle.protocol_models.specs.CoeMeaning.{Service, download, upload, information}
+use Rattle.protocol_models.specs.CoeClient.{segments, download_mails, requests, mails_of, decide}
+use Rattle.protocol_models.specs.CoeModel.{planned}
+use Rattle.protocol_models.proofs.CoeSpeaks.{never}
 use Rattle.coe_client.specs.declared.state.Task.{Task}
 use Rattle.coe_client.specs.declared.state.Unsent.{Unsent}
 use Rattle.coe_client.specs.declared.state.Awaits.{Awaits}

@@ -4,10 +4,10 @@ use Rattle.std.proofs.lemmas.Bool.{eqb-false}
 use Rattle.arrayvec.specs.ArrayVec.{ArrayVec}
 use Rattle.mailbox_mail.specs.declared.outcome.ReplyKind.{ReplyKind}
 use Rattle.mailbox_mail.specs.declared.outcome.Took.{Took}
-use Rattle.coe_model.specs.Mails.{Coe, CoeMail, mail, unread, failed, fragment, other, Emergency, Expedited, First, Upload, DownloadAnswer, ExpeditedAnswer, FirstAnswer, Segment, SegmentAnswer, UploadSegment, UploadSegmentAnswer, Abort, ListRequest, ObjectRequest, EntryRequest, Information, InformationError}
-use Rattle.coe_model.specs.Tables.{Target}
-use Rattle.coe_model.specs.Server.{same}
-use Rattle.coe_model.specs.Client.{is_download_answer, is_part, is_information, information_refused, value_begins, is_of, most, at_end, segments_end, is_segment_answer, sdo_refused, parts_end, upload_ends, information_ends}
+use Rattle.protocol_models.specs.CoeMails.{Coe, CoeMail, mail, unread, failed, fragment, other, Emergency, Expedited, First, Upload, DownloadAnswer, ExpeditedAnswer, FirstAnswer, Segment, SegmentAnswer, UploadSegment, UploadSegmentAnswer, Abort, ListRequest, ObjectRequest, EntryRequest, Information, InformationError}
+use Rattle.protocol_models.specs.Tables.{Target}
+use Rattle.protocol_models.specs.CoeServer.{same}
+use Rattle.protocol_models.specs.CoeClient.{is_download_answer, is_part, is_information, information_refused, value_begins, is_of, most, at_end, segments_end, is_segment_answer, sdo_refused, parts_end, upload_ends, information_ends}
 use Rattle.coe_client.specs.declared.state.Task.{Task}
 use Rattle.coe_client.specs.declared.state.Unsent.{Unsent}
 use Rattle.coe_client.specs.declared.state.Awaits.{Awaits}

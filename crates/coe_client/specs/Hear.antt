@@ -2,9 +2,9 @@
 use Rattle.std.specs.Prelude.{◌≡◌, ℕ, ◌+◌, ◌-◌, ◌==◌, ◌||◌, not, nat_lt, Bool, true, false, List, [], ◌∷◌, ◌++◌, length, if◌then◌else◌, None, Some}
 use Rattle.mailbox_mail.specs.declared.outcome.ReplyKind.{ReplyKind}
 use Rattle.mailbox_mail.specs.declared.outcome.Took.{Took}
-use Rattle.coe_model.specs.Mails.{Coe, DownloadAnswer, SegmentAnswer, ExpeditedAnswer, FirstAnswer, UploadSegmentAnswer, Information, InformationError, Abort, CoeMail, mail, failed}
-use Rattle.coe_model.specs.Server.{same, parts_of}
-use Rattle.coe_model.specs.Client.{is_of, most}
+use Rattle.protocol_models.specs.CoeMails.{Coe, DownloadAnswer, SegmentAnswer, ExpeditedAnswer, FirstAnswer, UploadSegmentAnswer, Information, InformationError, Abort, CoeMail, mail, failed}
+use Rattle.protocol_models.specs.CoeServer.{same, parts_of}
+use Rattle.protocol_models.specs.CoeClient.{is_of, most}
 use Rattle.coe_client.specs.declared.state.Awaits.{Awaits}
 use Rattle.coe_client.specs.declared.state.Unsent.{Unsent}
 use Rattle.coe_client.specs.Talk.{Talking, target_of, later, awaited, is_replied}

@@ -1,4 +1,4 @@
-pub use Rattle.coe_model.specs as of_coe_model
+pub use Rattle.protocol_models.specs as of_protocol_models
 pub mod Talk
 pub mod Hear
 pub mod Send

@@ -4,9 +4,9 @@ use Rattle.mailbox_mail.specs.declared.mail.Kind.TheVariants.{CoE}
 use Rattle.coe_codec.specs.View.{coe_seen}
 use Rattle.coe_codec.specs.Writing.{HasSpelling, coe_text}
 use Rattle.coe_codec.specs.declared.viewing.CoeView.{CoeView}
-use Rattle.coe_model.specs.Mails.{Coe, CoeMail, mail, Expedited, First, Upload, Segment, UploadSegment, ListRequest, ObjectRequest, EntryRequest}
-use Rattle.coe_model.specs.Server.{is_expedited}
-use Rattle.coe_model.specs.Octets.{body_heard, coe_mail_written, mail_with}
+use Rattle.protocol_models.specs.CoeMails.{Coe, CoeMail, mail, Expedited, First, Upload, Segment, UploadSegment, ListRequest, ObjectRequest, EntryRequest}
+use Rattle.protocol_models.specs.CoeServer.{is_expedited}
+use Rattle.protocol_models.specs.CoeOctets.{body_heard, coe_mail_written, mail_with}
 use Rattle.coe_client.specs.declared.state.Task.{Task}
 use Rattle.coe_client.specs.declared.state.Unsent.{Unsent}
 use Rattle.coe_client.specs.Talk.{Talking, later, awaited}

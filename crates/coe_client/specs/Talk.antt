@@ -2,11 +2,11 @@
 use Rattle.std.specs.Prelude.{ℕ, zero, suc, ◌+◌, ◌-◌, ◌≤◌, ◌&&◌, nat_lt, nat_le, ◌==◌, Bool, true, false, List, [], ◌∷◌, length, take, drop, if◌then◌else◌, Option, None, Some}
 use Rattle.object_dictionary.specs.declared.service.SdoService.{SdoService}
 use Rattle.exchange_model.specs.Dialogue.{Turn, next}
-use Rattle.coe_model.specs.Mails.{Coe, CoeMail, mail, UploadSegmentAnswer, Upload, ListRequest, ObjectRequest, EntryRequest}
-use Rattle.coe_model.specs.Tables.{Target, nowhere, list, object, entry}
-use Rattle.coe_model.specs.Meaning.{Service, download, upload, information, Reply}
-use Rattle.coe_model.specs.Server.{parts_of}
-use Rattle.coe_model.specs.Client.{segments, download_mails, requests, turn_of, at_end, segments_end, download_ends, parts_end, upload_ends, information_ends}
+use Rattle.protocol_models.specs.CoeMails.{Coe, CoeMail, mail, UploadSegmentAnswer, Upload, ListRequest, ObjectRequest, EntryRequest}
+use Rattle.protocol_models.specs.Tables.{Target, nowhere, list, object, entry}
+use Rattle.protocol_models.specs.CoeMeaning.{Service, download, upload, information, Reply}
+use Rattle.protocol_models.specs.CoeServer.{parts_of}
+use Rattle.protocol_models.specs.CoeClient.{segments, download_mails, requests, turn_of, at_end, segments_end, download_ends, parts_end, upload_ends, information_ends}
 use Rattle.coe_client.specs.declared.state.Task.{Task}
 use Rattle.coe_client.specs.declared.state.Unsent.{Unsent}
 use Rattle.coe_client.specs.declared.state.Awaits.{Awaits}

@@ -1,7 +1,7 @@
 ghost use Rattle.std.specs.Prelude.{◌≡◌, ◌≤◌, ◌<◌, ◌+◌, List, [], ◌++◌, true, false, length, IfOk, OnOk, OnErr, Some, None};
-ghost use Rattle.coe_model.specs.Mails.{CoeMail};
-ghost use Rattle.coe_model.specs.Client.{ends};
-ghost use Rattle.coe_model.specs.Model.{planned};
+ghost use Rattle.protocol_models.specs.CoeMails.{CoeMail};
+ghost use Rattle.protocol_models.specs.CoeClient.{ends};
+ghost use Rattle.protocol_models.specs.CoeModel.{planned};
 ghost use Rattle.coe_client.specs.Talk.{service_view, octets_in, later, awaited, is_replied, IsFresh, is_paced, begun, begun_service};
 
 use crate::state::{Awaits, Task, Unsent};

@@ -1,7 +1,7 @@
 ghost use Rattle.std.specs.Prelude.{◌≡◌, ◌≤◌, ◌<◌, ◌+◌, ◌-◌, true, length};
-ghost use Rattle.coe_model.specs.Server.{parts_of};
-ghost use Rattle.coe_model.specs.Client.{is_of};
-ghost use Rattle.coe_model.specs.Octets.{body_heard, coe_mail_heard};
+ghost use Rattle.protocol_models.specs.CoeServer.{parts_of};
+ghost use Rattle.protocol_models.specs.CoeClient.{is_of};
+ghost use Rattle.protocol_models.specs.CoeOctets.{body_heard, coe_mail_heard};
 ghost use Rattle.coe_client.specs.Talk.{target_of, paced_with};
 ghost use Rattle.coe_codec.specs.View.{coe_seen, IsWithin};
 ghost use Rattle.coe_client.specs.Hear.{onward, refused, valued, answered, parted, hear_acceptance, hear_segment, hear_whole, hear_first, hear_part, hear_information, hear_abort, hear_error, hear_failed, hear_message, hear_mail, TookIs};

@@ -1,7 +1,7 @@
 ghost use Rattle.std.specs.Prelude.{◌≡◌, ◌≤◌, ◌<◌, ◌+◌, ◌-◌, ◌↔◌, List, [], true, false, length, Some, IfSome};
 ghost use Rattle.std.specs.Bool.{OnTrue, OnFalse};
 ghost use Rattle.coe_codec.specs.View.{coe_seen, IsCapped};
-ghost use Rattle.coe_model.specs.Mails.{CoeMail};
+ghost use Rattle.protocol_models.specs.CoeMails.{CoeMail};
 ghost use Rattle.coe_client.specs.Talk.{is_left, later, awaited};
 ghost use Rattle.coe_client.specs.Send.{send_download, send_first, send_segment, send, send_next, sent, sent_by, NextIs, SendsNext};
 

@@ -5,14 +5,14 @@ use Rattle.exchange_model.specs.Lifted.{EachOf}
 use Rattle.exchange_model.proofs.Lists.{filter-append}
 use Rattle.exchange_model.proofs.Words.{plain-append}
 use Rattle.mailbox_mail.specs.declared.outcome.Took.{Took}
-use Rattle.coe_model.specs.Mails.{CoeMail, mail, Coe, Emergency, Information, is_emission}
+use Rattle.protocol_models.specs.CoeMails.{CoeMail, mail, Coe, Emergency, Information, is_emission}
 use Rattle.arrayvec.specs.declared.array_vec.ArrayVec.{ArrayVec}
-use Rattle.coe_model.specs.Meaning.{Reply}
-use Rattle.coe_model.specs.Server.{information_parts, parts_of}
+use Rattle.protocol_models.specs.CoeMeaning.{Reply}
+use Rattle.protocol_models.specs.CoeServer.{information_parts, parts_of}
 use Rattle.coe_server.specs.declared.state.Pending.{Pending}
 use Rattle.coe_server.specs.declared.state.Emitted.{Emitted}
 use Rattle.mailbox_mail.specs.declared.mail.Mail.{Mail}
-use Rattle.coe_model.specs.Octets.{coe_mail_heard}
+use Rattle.protocol_models.specs.CoeOctets.{coe_mail_heard}
 use Rattle.coe_server.specs.Serving.{Serving, pending_mails, emergencies, waiting_mails, GivesNext}
 use Rattle.coe_client.specs.Talk.{Talking, later, awaited, is_replied}
 use Rattle.coe_client.specs.Hear.{TookIs}

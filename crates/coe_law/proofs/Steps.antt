@@ -5,19 +5,19 @@ use Rattle.exchange_model.specs.Exchange.{after, given, plain, emitted}
 use Rattle.exchange_model.proofs.Words.{after-append, given-append, plain-append, plain_given-append}
 use Rattle.object_dictionary.specs.Dictionary.{Table}
 use Rattle.object_dictionary.specs.Sound.{is_table}
-use Rattle.coe_model.specs.Mails.{CoeMail, is_emission}
+use Rattle.protocol_models.specs.CoeMails.{CoeMail, is_emission}
 use Rattle.object_dictionary.specs.declared.service.SdoService.{SdoService}
-use Rattle.coe_model.specs.Tables.{Target, Tables, AreLawful}
-use Rattle.coe_model.specs.Server.{Emission, emergency, packet, emission_of, issued, Server, serve, coe_outcome}
-use Rattle.coe_model.specs.Meaning.{Service, download, upload, information, meaning_of, download_means, value_means}
-use Rattle.coe_model.specs.Client.{ends}
-use Rattle.coe_model.specs.Model.{planned, full, value_length}
-use Rattle.coe_model.proofs.CoeLaw.{kept, bound, client_follows}
-use Rattle.coe_model.proofs.Closing.{closed}
-use Rattle.coe_model.proofs.Lasts.{none_behind}
-use Rattle.coe_model.proofs.Progress.{goes_on}
+use Rattle.protocol_models.specs.Tables.{Target, Tables, AreLawful}
+use Rattle.protocol_models.specs.CoeServer.{Emission, emergency, packet, emission_of, issued, Server, serve, coe_outcome}
+use Rattle.protocol_models.specs.CoeMeaning.{Service, download, upload, information, meaning_of, download_means, value_means}
+use Rattle.protocol_models.specs.CoeClient.{ends}
+use Rattle.protocol_models.specs.CoeModel.{planned, full, value_length}
+use Rattle.protocol_models.proofs.CoeLaw.{kept, bound, client_follows}
+use Rattle.protocol_models.proofs.CoeClosing.{closed}
+use Rattle.protocol_models.proofs.CoeLasts.{none_behind}
+use Rattle.protocol_models.proofs.Progress.{goes_on}
 use Rattle.coe_server.specs.declared.state.Emitted.{Emitted}
-use Rattle.coe_model.specs.Octets.{body_heard}
+use Rattle.protocol_models.specs.CoeOctets.{body_heard}
 use Rattle.coe_server.specs.ObjectTables.{object_tables}
 use Rattle.coe_server.specs.Serving.{Serving, transfer_of, waiting_mails, outcome_of}
 use Rattle.coe_server.proofs.ObjectsLaw.{lawful}

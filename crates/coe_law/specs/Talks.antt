@@ -4,12 +4,12 @@ use Rattle.exchange_model.specs.Areas.{Areas}
 use Rattle.exchange_model.specs.Prefix.{IsPrefixOf}
 use Rattle.exchange_model.specs.Exchange.{after, given, plain, emitted}
 use Rattle.object_dictionary.specs.Dictionary.{Table}
-use Rattle.coe_model.specs.Mails.{CoeMail, mail, fragment, Emergency, is_emission}
-use Rattle.coe_model.specs.Tables.{Tables}
-use Rattle.coe_model.specs.Server.{Server, serve}
-use Rattle.coe_model.specs.Meaning.{Service, Reply, Meaning, meaning_of}
-use Rattle.coe_model.specs.Client.{ends}
-use Rattle.coe_model.specs.Model.{planned, full}
+use Rattle.protocol_models.specs.CoeMails.{CoeMail, mail, fragment, Emergency, is_emission}
+use Rattle.protocol_models.specs.Tables.{Tables}
+use Rattle.protocol_models.specs.CoeServer.{Server, serve}
+use Rattle.protocol_models.specs.CoeMeaning.{Service, Reply, Meaning, meaning_of}
+use Rattle.protocol_models.specs.CoeClient.{ends}
+use Rattle.protocol_models.specs.CoeModel.{planned, full}
 use Rattle.coe_server.specs.ObjectTables.{tables_with}
 use Rattle.coe_server.specs.declared.state.Emitted.{Emitted}
 use Rattle.coe_server.specs.Serving.{Serving, transfer_of, waiting_mails}

@@ -2,9 +2,9 @@ ghost use Rattle.std.specs.Prelude.{◌≡◌, ◌≢◌, ◌≤◌, ◌+◌, Li
 ghost use Rattle.exchange_model.specs.Areas.{AreMailboxes};
 ghost use Rattle.exchange_model.specs.Exchange.{plain, emitted};
 ghost use Rattle.object_dictionary.specs.Dictionary.{Table};
-ghost use Rattle.coe_model.specs.Mails.{CoeMail, mail, fragment, Emergency, is_emission};
-ghost use Rattle.coe_model.specs.Meaning.{meaning_of};
-ghost use Rattle.coe_model.specs.Octets.{body_heard, coe_mail_heard};
+ghost use Rattle.protocol_models.specs.CoeMails.{CoeMail, mail, fragment, Emergency, is_emission};
+ghost use Rattle.protocol_models.specs.CoeMeaning.{meaning_of};
+ghost use Rattle.protocol_models.specs.CoeOctets.{body_heard, coe_mail_heard};
 ghost use Rattle.coe_server.specs.Serving.{transfer_of, waiting_mails};
 ghost use Rattle.coe_client.specs.Talk.{service_view, octets_in, is_replied};
 ghost use Rattle.coe_law.specs.Mailboxes.{lengths_of};

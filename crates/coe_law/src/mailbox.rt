@@ -1,7 +1,7 @@
 ghost use Rattle.std.specs.Prelude.{◌≡◌, ◌+◌, ◌≤◌, length, IfOk};
 ghost use Rattle.mailbox_mail.specs.Mail.{IsMail};
 ghost use Rattle.mailbox_mail.specs.declared.mail.Kind.TheVariants.{CoE};
-ghost use Rattle.coe_model.specs.Octets.{coe_mail_heard, mail_with};
+ghost use Rattle.protocol_models.specs.CoeOctets.{coe_mail_heard, mail_with};
 ghost use Rattle.coe_law.specs.Mailboxes.{empty, counted, posted, lengths_of};
 
 use ec_fields::{NoMemory, buffer_of};
@@ -18,7 +18,7 @@ pub struct Mailbox {
 
 impl Model for Mailbox {
     ghost use Rattle.std.specs.Prelude.{◌≤◌};
-    ghost use Rattle.coe_law.specs.Mailboxes.{Posted};
+    ghost use Rattle.coe_law.specs.Mailboxes.{Posted, Post};
 
     ghost Value = { Posted };
 
@@ -66,7 +66,6 @@ pub struct Mailboxes {
 }
 
 impl Model for Mailboxes {
-    ghost use Rattle.coe_law.specs.Mailboxes.{Post};
 
     ghost Value = { Post };
 

@@ -1,10 +1,10 @@
 -- What a server's call did with a mail is the step of the exchange of mails.
 use Rattle.std.proofs.Common.{◌≡◌, ℕ, Bool, List, ap, ◌∙◌, map}
 use Rattle.mailbox_mail.specs.declared.mail.Kind.TheVariants.{CoE}
-use Rattle.coe_model.specs.Tables.{Tables}
-use Rattle.coe_model.specs.Server.{Transfer, Outcome, Server, coe_outcome, behind}
+use Rattle.protocol_models.specs.Tables.{Tables}
+use Rattle.protocol_models.specs.CoeServer.{Transfer, Outcome, Server, coe_outcome, behind}
 use Rattle.exchange_model.specs.Areas.{Areas}
-use Rattle.coe_model.specs.Octets.{body_heard, coe_mail_written, mail_with, coe_mail_exchange}
+use Rattle.protocol_models.specs.CoeOctets.{body_heard, coe_mail_written, mail_with, coe_mail_exchange}
 use Rattle.coe_server.specs.Serving.{Serving, transfer_of, outcome_of, served_of}
 
 pub exchanged : {S : Type 0} (o : Tables S) (areas : Areas) (v : Server S) (old new : Serving) (app : S) (counts : Bool) (body : List ℕ) → v.transfer ≡ transfer_of old → areas.back ≡ old.room →

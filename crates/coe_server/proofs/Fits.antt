@@ -2,7 +2,7 @@
 use Rattle.std.proofs.Common.{◌≡◌, ℕ, ◌+◌, ◌-◌, ◌≤◌, List, ◌++◌, length, replicate, ap, ◌∙◌, arith, length-append}
 use Rattle.std.proofs.lemmas.List.{length-replicate}
 use Rattle.coe_codec.specs.Writing.{coe_text}
-use Rattle.coe_model.specs.Mails.{Coe, Emergency, DownloadAnswer, ExpeditedAnswer, FirstAnswer, SegmentAnswer, UploadSegmentAnswer, Abort, Information, InformationError}
+use Rattle.protocol_models.specs.CoeMails.{Coe, Emergency, DownloadAnswer, ExpeditedAnswer, FirstAnswer, SegmentAnswer, UploadSegmentAnswer, Abort, Information, InformationError}
 use Rattle.coe_server.specs.Serving.{IsShort}
 
 padded : (octets : List ℕ) (n : ℕ) → length (octets ++ replicate n 0) ≡ length octets + n

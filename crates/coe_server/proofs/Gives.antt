@@ -1,8 +1,8 @@
 -- The mails that a server gives are those that wait, in order.
 use Rattle.std.proofs.Common.{◌≡◌, inl, inr, ℕ, zero, suc, ◌+◌, ◌-◌, ◌<◌, ◌≤◌, nat_le, Bool, true, false, if◌then◌else◌, List, [], ◌∷◌, ◌++◌, length, take, drop, None, Some, refl, sym, ap, ◌∙◌, arith, length-drop, drop-drop, le-leb}
 use Rattle.std.proofs.lemmas.Bool.{cases_lt, lt-leb}
-use Rattle.coe_model.specs.Mails.{CoeMail, mail, failed, Information}
-use Rattle.coe_model.specs.Server.{information_parts, parts_of}
+use Rattle.protocol_models.specs.CoeMails.{CoeMail, mail, failed, Information}
+use Rattle.protocol_models.specs.CoeServer.{information_parts, parts_of}
 use Rattle.coe_server.specs.declared.state.Pending.{Pending}
 use Rattle.coe_server.specs.declared.state.Emitted.{Emitted}
 use Rattle.coe_server.specs.Serving.{Serving, pending_mails, answers_of, waiting_mails, emergencies, has_message, failure_in, first_part, first_message, pending_behind}

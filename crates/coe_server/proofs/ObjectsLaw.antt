@@ -10,9 +10,9 @@ use Rattle.object_dictionary.specs.Sound.{is_object, are_sized, is_row, is_table
 use Rattle.object_dictionary.proofs.Tests.{both, all_get}
 use Rattle.object_dictionary.proofs.Kept.{entry_kept, map_ok, row_of, table_is, download_kept}
 use Rattle.object_dictionary.proofs.WholeKept.{download_all_kept}
-use Rattle.coe_model.specs.Tables.{Target, Ask, list, object, entry, AreLawful}
-use Rattle.coe_model.specs.Server.{Emission, emergency, packet, emission_of}
-use Rattle.coe_model.specs.Octets.{AreSpelled, is_fragment}
+use Rattle.protocol_models.specs.Tables.{Target, Ask, list, object, entry, AreLawful}
+use Rattle.protocol_models.specs.CoeServer.{Emission, emergency, packet, emission_of}
+use Rattle.protocol_models.specs.CoeOctets.{AreSpelled, is_fragment}
 use Rattle.coe_server.specs.ObjectTables.{checks, stores, reads, tells, tables_with}
 use Rattle.coe_server.specs.Serving.{IsFitting}
 use Rattle.coe_server.proofs.ObjectsAnswer.{small_check, small_check_all, small_download, small_download_all, small_upload, small_upload_all, small_list, small_object_info, small_entry_info, short_upload, short_upload_all, short_list_info, short_object_info, short_entry_info}

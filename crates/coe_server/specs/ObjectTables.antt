@@ -4,7 +4,7 @@ use Rattle.object_dictionary.specs.Dictionary.{Table, check_download, download, 
 use Rattle.object_dictionary.specs.Whole.{check_download_all, download_all, upload_all}
 use Rattle.object_dictionary.specs.Information.{list_info, object_info, entry_info}
 use Rattle.object_dictionary.specs.Sound.{is_table}
-use Rattle.coe_model.specs.Tables.{Target, Ask, list, object, entry, Tables}
+use Rattle.protocol_models.specs.Tables.{Target, Ask, list, object, entry, Tables}
 
 -- an entry by its subindex, or all entries by complete access
 abbrev pub checks : ℕ → Table → Target → ℕ → Option ℕ

@@ -3,13 +3,13 @@ use Rattle.std.specs.Prelude.{◌≡◌, ℕ, suc, ◌+◌, ◌-◌, ◌≤◌, 
 use Rattle.coe_codec.specs.Coe.{IsCoe}
 use Rattle.coe_codec.specs.Reading.{is_information}
 use Rattle.coe_codec.specs.Writing.{coe_text}
-use Rattle.coe_model.specs.Mails.{Information, Coe, CoeMail, mail, failed, First, Emergency, DownloadAnswer, SegmentAnswer, Abort, InformationError, ExpeditedAnswer, FirstAnswer, UploadSegmentAnswer}
-use Rattle.coe_model.specs.Tables.{Ask}
-use Rattle.coe_model.specs.Tables as Tables
-use Rattle.coe_model.specs.Server.{Transfer, idle, downloading, uploading, Emission, emergency, packet, Outcome, Server, issued, one_more, parts_of, information_parts}
+use Rattle.protocol_models.specs.CoeMails.{Information, Coe, CoeMail, mail, failed, First, Emergency, DownloadAnswer, SegmentAnswer, Abort, InformationError, ExpeditedAnswer, FirstAnswer, UploadSegmentAnswer}
+use Rattle.protocol_models.specs.Tables.{Ask}
+use Rattle.protocol_models.specs.Tables as Tables
+use Rattle.protocol_models.specs.CoeServer.{Transfer, idle, downloading, uploading, Emission, emergency, packet, Outcome, Server, issued, one_more, parts_of, information_parts}
 pub use Rattle.object_dictionary.specs.Entries.{Stores}
 use Rattle.mailbox_mail.specs.declared.mail.Mail.{Mail}
-use Rattle.coe_model.specs.Octets.{coe_mail_heard, coe_mail_written}
+use Rattle.protocol_models.specs.CoeOctets.{coe_mail_heard, coe_mail_written}
 use Rattle.coe_server.specs.declared.dictionary.Target.{Target}
 use Rattle.coe_server.specs.declared.dictionary.Question.{Question}
 use Rattle.coe_server.specs.declared.state.State.{State}

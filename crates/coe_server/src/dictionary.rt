@@ -1,6 +1,6 @@
 ghost use Rattle.std.specs.Prelude.{◌≡◌, ℕ, ◌≤◌, Bool, None};
-ghost use Rattle.coe_model.specs.Tables.{Tables};
-ghost use Rattle.coe_model.specs.Server.{emission_of};
+ghost use Rattle.protocol_models.specs.Tables.{Tables};
+ghost use Rattle.protocol_models.specs.CoeServer.{emission_of};
 ghost use Rattle.coe_server.specs.Serving.{target_view, ask_view, Stores, Reads, IsFitting};
 
 use ec_fields::Transfer;

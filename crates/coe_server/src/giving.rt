@@ -4,7 +4,7 @@ ghost use Rattle.coe_codec.specs.Fields.{bit};
 ghost use Rattle.coe_codec.specs.Reading.{is_information};
 ghost use Rattle.coe_codec.specs.Writing.{HasSpelling, coe_text};
 ghost use Rattle.coe_codec.specs.View.{coe_seen, IsCapped};
-ghost use Rattle.coe_model.specs.Mails.{mail, Emergency};
+ghost use Rattle.protocol_models.specs.CoeMails.{mail, Emergency};
 ghost use Rattle.coe_server.specs.Serving.{first_answer, segment_answer, fragment, transfer_of, answers_of, waiting_mails, packet_of, has_message, failure_in, message_of, first_part, pending_behind, IsShort, IsWritten, GivesNext};
 
 use crate::dictionary::Target;

@@ -1,5 +1,5 @@
 ghost use Rattle.std.specs.Prelude.{◌≡◌, true};
-ghost use Rattle.coe_model.specs.Server.{takes_ask};
+ghost use Rattle.protocol_models.specs.CoeServer.{takes_ask};
 ghost use Rattle.coe_server.specs.Serving.{ask_view, transfer_of, told_of, outcome_of};
 
 use crate::dictionary::{Dictionary, Question};

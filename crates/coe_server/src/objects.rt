@@ -3,9 +3,9 @@ ghost use Rattle.object_dictionary.specs.Dictionary.{Table};
 ghost use Rattle.exchange_model.specs.Areas.{Areas};
 ghost use Rattle.exchange_model.specs.Lifted.{EachOf};
 ghost use Rattle.mailbox_mail.specs.declared.mail.Kind.TheVariants.{CoE};
-ghost use Rattle.coe_model.specs.Tables.{Tables, AreLawful};
-ghost use Rattle.coe_model.specs.Server.{Server, coe_outcome};
-ghost use Rattle.coe_model.specs.Octets.{AreSpelled, is_fragment, body_heard, mail_with, coe_mail_exchange};
+ghost use Rattle.protocol_models.specs.Tables.{Tables, AreLawful};
+ghost use Rattle.protocol_models.specs.CoeServer.{Server, coe_outcome};
+ghost use Rattle.protocol_models.specs.CoeOctets.{AreSpelled, is_fragment, body_heard, mail_with, coe_mail_exchange};
 ghost use Rattle.coe_server.specs.Serving.{Serving, transfer_of, outcome_of, served_of};
 ghost use Rattle.coe_server.specs.ObjectTables.{tables_with, object_tables};
 

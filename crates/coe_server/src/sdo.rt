@@ -1,6 +1,6 @@
 ghost use Rattle.std.specs.Prelude.{◌≡◌, ◌≤◌, ◌<◌, ◌+◌, ◌-◌, [], true, false, length};
-ghost use Rattle.coe_model.specs.Tables.{nowhere};
-ghost use Rattle.coe_model.specs.Server.{emission_of, ended, abort, takes_whole, takes_first, begins, takes_segment, opened, takes_upload_segment};
+ghost use Rattle.protocol_models.specs.Tables.{nowhere};
+ghost use Rattle.protocol_models.specs.CoeServer.{emission_of, ended, abort, takes_whole, takes_first, begins, takes_segment, opened, takes_upload_segment};
 ghost use Rattle.coe_server.specs.Serving.{target_view, transfer_of, told_of, outcome_of, emission_view, is_emitted, IsSmall, small_mail, IsFitting};
 
 use crate::dictionary::{Dictionary, Target};

@@ -1,5 +1,5 @@
 ghost use Rattle.std.specs.Prelude.{◌≡◌, ◌≤◌, ◌<◌, ◌+◌, ◌-◌, [], true, false, length, None, IfOk};
-ghost use Rattle.coe_model.specs.Server.{Transfer, idle};
+ghost use Rattle.protocol_models.specs.CoeServer.{Transfer, idle};
 ghost use Rattle.coe_server.specs.Serving.{transfer_of, waiting_mails, packet_of, told_of, is_sound, is_told};
 
 use crate::state::{Emitted, Pending, State};

@@ -3,8 +3,8 @@ ghost use Rattle.ec_fields.specs.Fields.{number_at};
 ghost use Rattle.coe_codec.specs.Fields.{service_in};
 ghost use Rattle.coe_codec.specs.Reading.{coe_read};
 ghost use Rattle.coe_codec.specs.View.{coe_seen, IsWithin};
-ghost use Rattle.coe_model.specs.Server.{coe_takes, takes_unread, coe_outcome};
-ghost use Rattle.coe_model.specs.Octets.{body_heard};
+ghost use Rattle.protocol_models.specs.CoeServer.{coe_takes, takes_unread, coe_outcome};
+ghost use Rattle.protocol_models.specs.CoeOctets.{body_heard};
 ghost use Rattle.coe_server.specs.Serving.{transfer_of, told_of, outcome_of};
 
 use crate::dictionary::{Dictionary, Question, Target};

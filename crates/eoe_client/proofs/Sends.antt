@@ -5,8 +5,8 @@ use Rattle.mailbox_mail.specs.declared.mail.Kind.TheVariants.{EoE}
 use Rattle.eoe.specs.declared.message.Fragment.{Fragment}
 use Rattle.eoe.specs.Message.{eoe_text}
 use Rattle.eoe.specs.Cutting.{Cutting, fragment_at, fragments_from, next_fragment, cutting_after}
-use Rattle.eoe_model.specs.Mails.{SetIp, GetIp, Part, mail, part}
-use Rattle.eoe_model.specs.Octets.{mail_with}
+use Rattle.protocol_models.specs.EoeMails.{SetIp, GetIp, Part, mail, part}
+use Rattle.protocol_models.specs.EoeOctets.{mail_with}
 use Rattle.eoe_client.specs.declared.address.Unsent.{Unsent}
 use Rattle.eoe_client.specs.Talk.{Talking, Sending, unsent_mails, fragments_left, SendsNext, SendsPart}
 

@@ -2,7 +2,7 @@
 use Rattle.std.specs.Prelude.{◌≡◌, ℕ, ◌==◌, true, List, [], ◌∷◌, if◌then◌else◌, None}
 use Rattle.mailbox_mail.specs.declared.outcome.ReplyKind.{ReplyKind}
 use Rattle.mailbox_mail.specs.declared.outcome.Took.{Took}
-use Rattle.eoe_model.specs.Mails.{Eoe, SetIpAnswer, GetIpAnswer, EoeMail, mail, failed}
+use Rattle.protocol_models.specs.EoeMails.{Eoe, SetIpAnswer, GetIpAnswer, EoeMail, mail, failed}
 use Rattle.eoe_client.specs.declared.address.Awaits.{Awaits}
 use Rattle.eoe_client.specs.Talk.{Talking, left, awaited, awaits_nothing}
 

@@ -1,3 +1,3 @@
-pub use Rattle.eoe_model.specs as of_eoe_model
+pub use Rattle.protocol_models.specs as of_protocol_models
 pub mod Talk
 pub mod Hear

@@ -3,9 +3,9 @@ use Rattle.std.specs.Prelude.{◌≡◌, ℕ, ◌-◌, Bool, true, false, List, 
 use Rattle.mailbox_mail.specs.declared.mail.Kind.TheVariants.{EoE}
 pub use Rattle.mailbox_mail.specs.Replies.{at_end}
 use Rattle.eoe.specs.Cutting.{Cutting, fragments_from}
-use Rattle.eoe_model.specs.Mails.{SetIp, GetIp, EoeMail, mail, part}
-use Rattle.eoe_model.specs.Client.{Reply, set_reply, get_reply}
-use Rattle.eoe_model.specs.Octets.{eoe_mail_written, mail_with}
+use Rattle.protocol_models.specs.EoeMails.{SetIp, GetIp, EoeMail, mail, part}
+use Rattle.protocol_models.specs.EoeClient.{Reply, set_reply, get_reply}
+use Rattle.protocol_models.specs.EoeOctets.{eoe_mail_written, mail_with}
 use Rattle.eoe_client.specs.declared.address.Unsent.{Unsent}
 use Rattle.eoe_client.specs.declared.address.Awaits.{Awaits}
 

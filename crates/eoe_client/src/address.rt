@@ -1,8 +1,8 @@
 ghost use Rattle.std.specs.Prelude.{◌≡◌, ◌≤◌, ◌+◌, ◌↔◌, List, [], ◌++◌, true, false, length, None, Some, OnOk, OnErr};
 ghost use Rattle.std.specs.Bool.{OnTrue, OnFalse};
-ghost use Rattle.eoe_model.specs.Mails.{EoeMail};
-ghost use Rattle.eoe_model.specs.Client.{set_ip, get_ip, mails_of, ends};
-ghost use Rattle.eoe_model.specs.Octets.{eoe_mail_heard, heard};
+ghost use Rattle.protocol_models.specs.EoeMails.{EoeMail};
+ghost use Rattle.protocol_models.specs.EoeClient.{set_ip, get_ip, mails_of, ends};
+ghost use Rattle.protocol_models.specs.EoeOctets.{eoe_mail_heard, heard};
 ghost use Rattle.eoe.specs.Message.{eoe_read};
 ghost use Rattle.eoe_client.specs.Talk.{left, awaited, awaits_nothing, SendsNext};
 ghost use Rattle.eoe_client.specs.Hear.{closed, hear_set, hear_get, hear_failed, hear_mail, TookIs};

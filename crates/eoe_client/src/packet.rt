@@ -1,6 +1,6 @@
 ghost use Rattle.std.specs.Prelude.{◌≡◌, ◌≤◌, ◌<◌, ◌+◌, ◌^◌, ◌↔◌, [], true, false, length};
 ghost use Rattle.std.specs.Bool.{OnTrue, OnFalse};
-ghost use Rattle.eoe_model.specs.Mails.{packet_mails};
+ghost use Rattle.protocol_models.specs.EoeMails.{packet_mails};
 ghost use Rattle.eoe_client.specs.Talk.{fragments_left, SendsPart};
 
 use arrayvec::ArrayVec;

@@ -3,11 +3,11 @@ use Rattle.std.specs.Prelude.{◌≡◌, ℕ, ◌+◌, ◌-◌, ◌*◌, ◌/◌
 use Rattle.mailbox_mail.specs.declared.mail.Mail.{Mail}
 use Rattle.eoe.specs.declared.joining.Unfinished.{Unfinished}
 use Rattle.eoe.specs.Cutting.{Cutting, fragments_from}
-use Rattle.eoe_model.specs.Mails.{SetIpAnswer, GetIpAnswer, EoeMail, mail, part, unsupported, failed}
-use Rattle.eoe_model.specs.Network.{Network}
-use Rattle.eoe_model.specs.Echo.{echo_of}
-use Rattle.eoe_model.specs.Octets.{eoe_mail_written}
-use Rattle.eoe_model.specs.Server.{Outcome}
+use Rattle.protocol_models.specs.EoeMails.{SetIpAnswer, GetIpAnswer, EoeMail, mail, part, unsupported, failed}
+use Rattle.protocol_models.specs.Network.{Network}
+use Rattle.protocol_models.specs.Echo.{echo_of}
+use Rattle.protocol_models.specs.EoeOctets.{eoe_mail_written}
+use Rattle.protocol_models.specs.EoeServer.{Outcome}
 use Rattle.eoe_server.specs.declared.Answer.{Answer}
 use Rattle.eoe_server.specs.declared.Addresses.{Addresses}
 

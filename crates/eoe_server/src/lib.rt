@@ -3,12 +3,12 @@
 
 ghost use Rattle.std.specs.Prelude.{◌≡◌, ◌≢◌, ◌≤◌, ◌<◌, ◌+◌, ◌-◌, ◌%◌, ◌↔◌, ◌++◌, ◌∷◌, ℕ, true, false, List, [], None, length, option_map};
 ghost use Rattle.eoe.specs.Joining.{taken};
-ghost use Rattle.eoe_model.specs.Server.{addressed, delivered, joined, eoe_outcome, set_answer, takes_unread};
-ghost use Rattle.eoe_model.specs.Octets.{heard, eoe_mail_written};
+ghost use Rattle.protocol_models.specs.EoeServer.{addressed, delivered, joined, eoe_outcome, set_answer, takes_unread};
+ghost use Rattle.protocol_models.specs.EoeOctets.{heard, eoe_mail_written};
 ghost use Rattle.eoe.specs.Message.{IsSpellable, eoe_read, octets_of};
-ghost use Rattle.eoe_model.specs.Mails.{mail, part, packet_mails, unsupported};
+ghost use Rattle.protocol_models.specs.EoeMails.{mail, part, packet_mails, unsupported};
 ghost use Rattle.eoe.specs.declared.message.EoeFault.TheVariants.{WrongType};
-ghost use Rattle.eoe_model.specs.Echo.{is_echo, echo_of};
+ghost use Rattle.protocol_models.specs.Echo.{is_echo, echo_of};
 ghost use Rattle.eoe_server.specs.Serving.{Serving, answer_mail, cut_mails, waiting_mails, outcome_of, fresh, addresses_network, is_roomy, GivesNext};
 ghost use Rattle.eoe_server.specs.declared.Addresses.{Addresses};
 

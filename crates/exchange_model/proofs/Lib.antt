@@ -11,3 +11,7 @@ pub mod Lifting
 pub mod Lasts
 pub mod Toys
 pub mod ToyRun
+pub mod SumLaw
+pub mod Refusals
+pub mod RefusingLaw
+mod ToyLaw

@@ -6,3 +6,6 @@ pub mod Laws
 pub mod Lifted
 pub mod Toy
 pub mod Areas
+pub mod Sides
+pub mod Refusing
+pub mod Toys

@@ -1,7 +1,9 @@
-//! One mailbox server against the services of one client, over mails alone: what an exchange is made of, the laws that each protocol owes
-//! for its services, and what follows for the rows of a session. No octets and no running code: the functions here do nothing, and their
-//! contracts state the laws.
+//! One mailbox server against the services of one client, over mails alone: what an exchange is made of, the laws that each protocol owes for its
+//! services, and what follows for the rows of a session; and several protocols of one slave as one exchange. No octets and no running code: the
+//! functions here do nothing, and their contracts state the laws.
 #![tactic(auto)]
+
+pub mod exchange_sum;
 
 ghost use Rattle.std.specs.Prelude.{◌≡◌, ◌≤◌, ◌+◌, ℕ, Bool, true, List, [], ◌∷◌, ◌++◌, length, Option, Some};
 ghost use Rattle.exchange_model.specs.Prefix.{IsPrefixOf};

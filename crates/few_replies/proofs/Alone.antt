@@ -4,19 +4,19 @@ use Rattle.std.proofs.lemmas.List.{length-map}
 use Rattle.exchange_model.specs.Areas.{Areas, AreMailboxes}
 use Rattle.exchange_model.specs.Exchange.{given}
 use Rattle.exchange_model.specs.Lifted.{EachOf, ReadsBack, lifted_serve}
-use Rattle.exchange_sum.specs.Refusing.{Refusal, refused_serve, gated}
-use Rattle.soe_model.specs.Client.{Service, read, write, mails_of}
-use Rattle.soe_model.specs.Elements.{Target, Elements, AreLawful}
-use Rattle.soe_model.specs.Mails as SoeMails
-use Rattle.soe_model.specs.Octets as SoeOctets
-use Rattle.soe_model.specs.Server as Soe
-use Rattle.soe_model.proofs.Carries.{answer_to}
-use Rattle.slave_served.specs.SoeServed.{ahead_of, soe_served}
-use Rattle.slave_served.proofs.ServedLaw.{kept}
-use Rattle.slave_served.specs.Whole.{gated_whole}
-use Rattle.slave_served.proofs.JoinedLaw.{given_whole}
-use Rattle.state_exchange.specs.Families.{InState}
-use Rattle.state_exchange.proofs.FamilyLaw.{given_in}
+use Rattle.exchange_model.specs.Refusing.{Refusal, refused_serve, gated}
+use Rattle.protocol_models.specs.SoeClient.{Service, read, write, mails_of}
+use Rattle.protocol_models.specs.Elements.{Target, Elements, AreLawful}
+use Rattle.protocol_models.specs.SoeMails as SoeMails
+use Rattle.protocol_models.specs.SoeOctets as SoeOctets
+use Rattle.protocol_models.specs.SoeServer as Soe
+use Rattle.protocol_models.proofs.SoeCarries.{answer_to}
+use Rattle.slave_parts.specs.SoeServed.{ahead_of, soe_served}
+use Rattle.slave_parts.proofs.ServedLaw.{kept}
+use Rattle.slave_parts.specs.Whole.{gated_whole}
+use Rattle.slave_parts.proofs.JoinedLaw.{given_whole}
+use Rattle.state_model.specs.Families.{InState}
+use Rattle.state_model.proofs.FamilyLaw.{given_in}
 use Rattle.few_replies.specs.Counts.{mails_between}
 use Rattle.slave_parts.specs.of_slave_model.Application.{Parts, ArePartsLawful, station_valid, station_files, station_elements}
 use Rattle.slave_parts.specs.of_slave_model.Product.{served, refusal, serve, protocols, product}
@@ -24,11 +24,11 @@ use Rattle.slave_parts.specs.of_slave_model.Profile.{Protocol, Profile, IsProfil
 use Rattle.slave_parts.specs.of_slave_model.Server.{Server, seat, reseated, ServiceOf, heard_by, told_by}
 use Rattle.slave_parts.proofs.of_slave_model.Sides.{sized, told_spells}
 use Rattle.slave_parts.proofs.of_slave_model.Stations.{left_of, elements_law}
-use Rattle.slave_served.specs.FoeServed.{has_its_room}
-use Rattle.slave_served.specs.Served.{core_of, served_whole, side_whole, is_fine, slave_whole, protocols_whole, product_whole, AreFilesServed}
-use Rattle.slave_served.proofs.Sides.{side_of}
-use Rattle.slave_served.proofs.SlaveLaw.{client}
-use Rattle.slave_served.proofs.SoeSpelled.{served_spells}
+use Rattle.slave_parts.specs.FoeServed.{has_its_room}
+use Rattle.slave_parts.specs.Served.{core_of, served_whole, side_whole, is_fine, slave_whole, protocols_whole, product_whole, AreFilesServed}
+use Rattle.slave_parts.proofs.Sides.{side_of}
+use Rattle.slave_parts.proofs.SlaveLaw.{client}
+use Rattle.slave_parts.proofs.SoeSpelled.{served_spells}
 
 -- what is written and read back is served in as many mails
 written_many : {V M N : Type 0} (serve : V → M → V × List M) (hears : N → M) (tells : M → N) (v : V) (ms : List M) → EachOf (ReadsBack hears tells) ms → length (given (lifted_serve serve hears tells) v (map tells ms)) ≡ length (given serve v ms)

@@ -5,7 +5,7 @@ use Rattle.exchange_model.specs.Exchange.{Exchange, after, given}
 use Rattle.exchange_model.proofs.Lifting.{map_append}
 use Rattle.segment_model.specs.Ends.{Outcome}
 use Rattle.state_model.specs.States.{Table}
-use Rattle.state_exchange.specs.Stated.{Stated, Act, Service, Counting, acts, with_states}
+use Rattle.state_model.specs.Stated.{Stated, Act, Service, Counting, acts, with_states}
 use Rattle.few_replies.specs.RowCounts.{AreCounted}
 use Rattle.few_replies.specs.Services.{service_count}
 

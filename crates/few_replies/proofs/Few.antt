@@ -11,26 +11,26 @@ use Rattle.eoe.specs.Cutting.{blocks_of}
 use Rattle.eoe.specs.Joining.{taken}
 use Rattle.eoe.specs.declared.joining.Joined.{Joined}
 use Rattle.eoe.specs.declared.joining.Joined.TheVariants.{More, Whole, Dropped}
-use Rattle.exchange_sum.specs.Refusing.{gated}
-use Rattle.coe_model.specs.Mails as Coe
-use Rattle.coe_model.specs.Mails.{CoeMail, mail, unread, failed, fragment, other, Abort, DownloadAnswer, SegmentAnswer, ExpeditedAnswer, FirstAnswer, UploadSegmentAnswer, Information, InformationError}
-use Rattle.coe_model.specs.Model.{value_length}
-use Rattle.coe_model.specs.Octets as CoeOctets
-use Rattle.coe_model.specs.Tables.{Target, nowhere, Ask, list, object, entry, Tables}
-use Rattle.coe_model.specs.Server as CoeServer
-use Rattle.coe_model.specs.Server.{Transfer, idle, downloading, uploading, Outcome, ended, goes_on, silent, abort, download_answer, same, stored, takes_whole, begins, takes_first, takes_segment, is_expedited, opened, takes_upload_segment, information_parts, informed, takes_ask, unknown_command, takes_unread, coe_takes, coe_outcome, emergency, packet, emission_of, issued}
-use Rattle.foe_model.specs.Files as Files
-use Rattle.foe_model.specs.Mails as Foe
-use Rattle.foe_model.specs.Octets as FoeOctets
-use Rattle.foe_model.specs.Server as FoeServer
-use Rattle.soe_model.specs.Elements as Elements
-use Rattle.soe_model.specs.Mails as Soe
-use Rattle.soe_model.specs.Octets as SoeOctets
-use Rattle.soe_model.specs.Server as SoeServer
-use Rattle.eoe_model.specs.Mails as Eoe
-use Rattle.eoe_model.specs.Octets as EoeOctets
-use Rattle.eoe_model.specs.Server as EoeServer
-use Rattle.eoe_model.specs.Network.{Network, Station}
+use Rattle.exchange_model.specs.Refusing.{gated}
+use Rattle.protocol_models.specs.CoeMails as Coe
+use Rattle.protocol_models.specs.CoeMails.{CoeMail, mail, unread, failed, fragment, other, Abort, DownloadAnswer, SegmentAnswer, ExpeditedAnswer, FirstAnswer, UploadSegmentAnswer, Information, InformationError}
+use Rattle.protocol_models.specs.CoeModel.{value_length}
+use Rattle.protocol_models.specs.CoeOctets as CoeOctets
+use Rattle.protocol_models.specs.Tables.{Target, nowhere, Ask, list, object, entry, Tables}
+use Rattle.protocol_models.specs.CoeServer as CoeServer
+use Rattle.protocol_models.specs.CoeServer.{Transfer, idle, downloading, uploading, Outcome, ended, goes_on, silent, abort, download_answer, same, stored, takes_whole, begins, takes_first, takes_segment, is_expedited, opened, takes_upload_segment, information_parts, informed, takes_ask, unknown_command, takes_unread, coe_takes, coe_outcome, emergency, packet, emission_of, issued}
+use Rattle.protocol_models.specs.Files as Files
+use Rattle.protocol_models.specs.FoeMails as Foe
+use Rattle.protocol_models.specs.FoeOctets as FoeOctets
+use Rattle.protocol_models.specs.FoeServer as FoeServer
+use Rattle.protocol_models.specs.Elements as Elements
+use Rattle.protocol_models.specs.SoeMails as Soe
+use Rattle.protocol_models.specs.SoeOctets as SoeOctets
+use Rattle.protocol_models.specs.SoeServer as SoeServer
+use Rattle.protocol_models.specs.EoeMails as Eoe
+use Rattle.protocol_models.specs.EoeOctets as EoeOctets
+use Rattle.protocol_models.specs.EoeServer as EoeServer
+use Rattle.protocol_models.specs.Network.{Network, Station}
 use Rattle.slave_parts.specs.of_slave_model.Application.{Parts, ArePartsLawful, core_valid, station_valid, station_tables, station_files, station_elements, network}
 use Rattle.slave_parts.specs.of_slave_model.Product.{served, side, refusal, protocol_of, serve_by, serve_other, serve}
 use Rattle.slave_parts.specs.of_slave_model.Profile.{Protocol, Profile, IsProfile, serves}

@@ -4,8 +4,8 @@ use Rattle.std.proofs.lemmas.List.{length-map}
 use Rattle.exchange_model.specs.Exchange.{Exchange, given}
 use Rattle.exchange_model.specs.Lifted.{EachOf, ReadsBack, Spells, lifted, lifted_serve}
 use Rattle.exchange_model.proofs.Lifting.{map_append}
-use Rattle.exchange_sum.specs.Refusing.{Refusal, IsAsked, refused_serve, refusing}
-use Rattle.exchange_sum.specs.Sides.{Slave, IsSide}
+use Rattle.exchange_model.specs.Refusing.{Refusal, IsAsked, refused_serve, refusing}
+use Rattle.exchange_model.specs.Sides.{Slave, IsSide}
 use Rattle.few_replies.specs.Counts.{mails_between}
 
 module _ {V A M N Q R : Type 0} (x : Exchange V A M Q R) (read : N → M) (write : M → N) where

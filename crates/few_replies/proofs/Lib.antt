@@ -20,3 +20,21 @@ pub mod Stays
 mod Sums
 pub mod Thirds
 pub mod Whole
+pub mod Awaits
+pub mod Clears
+pub mod Clients
+pub mod Drains
+pub mod Founds
+pub mod Heard
+pub mod Hears
+pub mod Naturals
+pub mod PassingSteps
+pub mod Passings
+pub mod Picks
+pub mod Rows
+pub mod Silences
+pub mod Steps
+pub mod Turns
+pub mod Ways
+pub mod Wholes
+pub mod Withdrawn

@@ -5,16 +5,16 @@ use Rattle.exchange_model.specs.Areas.{Areas, AreMailboxes}
 use Rattle.exchange_model.specs.Exchange.{given}
 use Rattle.exchange_model.specs.Dialogue.{next, stop}
 use Rattle.exchange_model.proofs.Turns.{sent_none, sent_few}
-use Rattle.coe_model.specs.Mails.{CoeMail, mail, is_emission, Expedited, First, Upload, ExpeditedAnswer, FirstAnswer, UploadSegment, UploadSegmentAnswer}
-use Rattle.coe_model.specs.Tables.{Target, Ask, list, object, entry, Tables, AreLawful}
-use Rattle.coe_model.specs.Server.{idle, uploading, Server, coe_outcome, ended, goes_on, opened, informed, information_parts, answer_opcode, takes_upload_segment, abort, is_expedited, behind, serve}
-use Rattle.coe_model.specs.Meaning.{Service, download, upload, information, meaning_of}
-use Rattle.coe_model.specs.Client.{decide, segments, download_mails, requests, information_mail}
-use Rattle.coe_model.specs.Model.{value_length, turns, full, is_service, coe_exchange}
-use Rattle.coe_model.proofs.Basics.{same_itself}
-use Rattle.coe_model.proofs.Carries.{talk, talk_onward, talk_over}
-use Rattle.coe_model.proofs.Speaks.{replies_counted, never}
-use Rattle.coe_model.proofs.CoeLaw.{IsSdo, full_all, ask_full, coe_law}
+use Rattle.protocol_models.specs.CoeMails.{CoeMail, mail, is_emission, Expedited, First, Upload, ExpeditedAnswer, FirstAnswer, UploadSegment, UploadSegmentAnswer}
+use Rattle.protocol_models.specs.Tables.{Target, Ask, list, object, entry, Tables, AreLawful}
+use Rattle.protocol_models.specs.CoeServer.{idle, uploading, Server, coe_outcome, ended, goes_on, opened, informed, information_parts, answer_opcode, takes_upload_segment, abort, is_expedited, behind, serve}
+use Rattle.protocol_models.specs.CoeMeaning.{Service, download, upload, information, meaning_of}
+use Rattle.protocol_models.specs.CoeClient.{decide, segments, download_mails, requests, information_mail}
+use Rattle.protocol_models.specs.CoeModel.{value_length, turns, full, is_service, coe_exchange}
+use Rattle.protocol_models.proofs.Basics.{same_itself}
+use Rattle.protocol_models.proofs.CoeCarries.{talk, talk_onward, talk_over}
+use Rattle.protocol_models.proofs.CoeSpeaks.{replies_counted, never}
+use Rattle.protocol_models.proofs.CoeLaw.{IsSdo, full_all, ask_full, coe_law}
 use Rattle.few_replies.specs.Counts.{third, mails_between, mails_within, coe_octets}
 use Rattle.few_replies.proofs.Thirds.{Fits, fits, one_less, both_kinds}
 

@@ -5,12 +5,12 @@ use Rattle.std.proofs.lemmas.List.{length-map}
 use Rattle.eoe.specs.Cutting.{blocks_of, fragments_from}
 use Rattle.exchange_model.specs.Areas.{Areas, AreMailboxes}
 use Rattle.exchange_model.specs.Exchange.{given, plain}
-use Rattle.eoe_model.specs.Mails.{part, packet_mails, is_emission}
-use Rattle.eoe_model.specs.Network.{Network, Station, IsSound, is_ready}
-use Rattle.eoe_model.specs.Server.{Server, serve, set_answer, addressed}
-use Rattle.eoe_model.specs.Client.{Service, packet, set_ip, get_ip, is_service, mails_of, meaning_of}
-use Rattle.eoe_model.specs.Model.{eoe_exchange}
-use Rattle.eoe_model.proofs.EoeLaw.{eoe_law}
+use Rattle.protocol_models.specs.EoeMails.{part, packet_mails, is_emission}
+use Rattle.protocol_models.specs.Network.{Network, Station, IsSound, is_ready}
+use Rattle.protocol_models.specs.EoeServer.{Server, serve, set_answer, addressed}
+use Rattle.protocol_models.specs.EoeClient.{Service, packet, set_ip, get_ip, is_service, mails_of, meaning_of}
+use Rattle.protocol_models.specs.EoeModel.{eoe_exchange}
+use Rattle.protocol_models.proofs.EoeLaw.{eoe_law}
 use Rattle.few_replies.specs.Counts.{mails_between, eoe_mails}
 use Rattle.few_replies.proofs.Thirds.{both_kinds}
 

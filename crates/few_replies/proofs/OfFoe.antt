@@ -3,14 +3,14 @@ use Rattle.std.proofs.Common.{◌≡◌, ℕ, zero, suc, ◌+◌, ◌*◌, ◌/�
 use Rattle.std.proofs.lemmas.Bool.{cases_lt}
 use Rattle.exchange_model.specs.Areas.{Areas, AreMailboxes}
 use Rattle.exchange_model.proofs.Turns.{sent_none}
-use Rattle.foe_model.specs.Mails.{FoeMail, mail, is_emission, Read, Write, Data, Ack, Busy}
-use Rattle.foe_model.specs.Files.{Files}
-use Rattle.foe_model.specs.Server.{idle, reading, writing, closing, Server, ended, goes_on, silent, refusal, ack, packet_room, packet_of, is_last, opened, begun, closes, stores, takes_data, takes_ack}
-use Rattle.foe_model.specs.Meaning.{Service, read, write}
-use Rattle.foe_model.specs.Client.{decide, acks, packets, turn_behind, write_turn}
-use Rattle.foe_model.specs.Model.{read_length, full, foe_exchange}
-use Rattle.foe_model.proofs.Carries.{step, foe_takes, talk, talk_onward, talk_again, talk_over, talk_waits}
-use Rattle.foe_model.proofs.Speaks.{replies_few}
+use Rattle.protocol_models.specs.FoeMails.{FoeMail, mail, is_emission, Read, Write, Data, Ack, Busy}
+use Rattle.protocol_models.specs.Files.{Files}
+use Rattle.protocol_models.specs.FoeServer.{idle, reading, writing, closing, Server, ended, goes_on, silent, refusal, ack, packet_room, packet_of, is_last, opened, begun, closes, stores, takes_data, takes_ack}
+use Rattle.protocol_models.specs.FoeMeaning.{Service, read, write}
+use Rattle.protocol_models.specs.FoeClient.{decide, acks, packets, turn_behind, write_turn}
+use Rattle.protocol_models.specs.FoeModel.{read_length, full, foe_exchange}
+use Rattle.protocol_models.proofs.FoeCarries.{step, foe_takes, talk, talk_onward, talk_again, talk_over, talk_waits}
+use Rattle.protocol_models.proofs.FoeSpeaks.{replies_few}
 use Rattle.few_replies.specs.Counts.{third, mails_between, mails_within, foe_octets, foe_busy}
 use Rattle.few_replies.proofs.Thirds.{Fits, fits, one_less}
 

@@ -12,17 +12,17 @@ use Rattle.object_dictionary.specs.Dictionary.{Table}
 use Rattle.object_dictionary.specs.Sound.{is_table}
 use Rattle.file_store.specs.Files as Store
 use Rattle.idn_table.specs.Idns as Idns
-use Rattle.coe_model.specs.Meaning as CoeMeaning
-use Rattle.coe_model.specs.Mails.{fragment}
-use Rattle.coe_model.specs.Server.{Emission, emergency, packet, emission_of, issued}
+use Rattle.protocol_models.specs.CoeMeaning as CoeMeaning
+use Rattle.protocol_models.specs.CoeMails.{fragment}
+use Rattle.protocol_models.specs.CoeServer.{Emission, emergency, packet, emission_of, issued}
 use Rattle.slave_parts.specs.of_coe_server.ObjectTables.{stores}
-use Rattle.foe_model.specs.Meaning as FoeMeaning
-use Rattle.soe_model.specs.Client as SoeClient
-use Rattle.eoe_model.specs.Client as EoeClient
-use Rattle.eoe_model.specs.Echo.{echo_of}
-use Rattle.eoe_model.specs.Mails.{part}
-use Rattle.eoe_model.specs.Network.{Station}
-use Rattle.eoe_model.specs.Server.{addressed, sends}
+use Rattle.protocol_models.specs.FoeMeaning as FoeMeaning
+use Rattle.protocol_models.specs.SoeClient as SoeClient
+use Rattle.protocol_models.specs.EoeClient as EoeClient
+use Rattle.protocol_models.specs.Echo.{echo_of}
+use Rattle.protocol_models.specs.EoeMails.{part}
+use Rattle.protocol_models.specs.Network.{Station}
+use Rattle.protocol_models.specs.EoeServer.{addressed, sends}
 use Rattle.slave_parts.specs.of_slave_model.Application.{ArePartsLawful, core_valid, station_valid, stored, station_tables, station_files, station_elements, network, fragment_bodies}
 use Rattle.slave_parts.specs.of_slave_model.Product.{served, refusal, product}
 use Rattle.slave_parts.specs.of_slave_model.Profile.{Protocol, Profile, IsProfile, areas_of, serves}

@@ -1,27 +1,27 @@
 -- The mails of a service at a slave.
 use Rattle.std.proofs.Common.{◌≡◌, ℕ, suc, ◌+◌, ◌-◌, ◌≤◌, Bool, true, false, List, [], map, take, length, refl, ap, ◌∙◌, arith, length-take}
 use Rattle.std.proofs.lemmas.List.{length-map}
-use Rattle.exchange_sum.specs.Refusing.{gated}
-use Rattle.coe_model.specs.Client as CoeClient
-use Rattle.coe_model.specs.Meaning as CoeMeaning
-use Rattle.coe_model.specs.Model as CoeModel
-use Rattle.coe_model.specs.Mails as CoeMails
-use Rattle.coe_model.specs.Octets as CoeOctets
-use Rattle.foe_model.specs.Client as FoeClient
-use Rattle.foe_model.specs.Model as FoeModel
-use Rattle.foe_model.specs.Mails as FoeMails
-use Rattle.foe_model.specs.Octets as FoeOctets
-use Rattle.soe_model.specs.Client as SoeClient
-use Rattle.soe_model.specs.Model as SoeModel
-use Rattle.soe_model.specs.Mails as SoeMails
-use Rattle.soe_model.specs.Octets as SoeOctets
-use Rattle.eoe_model.specs.Client as EoeClient
-use Rattle.eoe_model.specs.Model as EoeModel
-use Rattle.eoe_model.specs.Mails as EoeMails
-use Rattle.eoe_model.specs.Octets as EoeOctets
-use Rattle.eoe_model.specs.Network.{Station}
-use Rattle.state_exchange.specs.Families.{InState}
-use Rattle.state_exchange.proofs.FamilyLaw.{given_in}
+use Rattle.exchange_model.specs.Refusing.{gated}
+use Rattle.protocol_models.specs.CoeClient as CoeClient
+use Rattle.protocol_models.specs.CoeMeaning as CoeMeaning
+use Rattle.protocol_models.specs.CoeModel as CoeModel
+use Rattle.protocol_models.specs.CoeMails as CoeMails
+use Rattle.protocol_models.specs.CoeOctets as CoeOctets
+use Rattle.protocol_models.specs.FoeClient as FoeClient
+use Rattle.protocol_models.specs.FoeModel as FoeModel
+use Rattle.protocol_models.specs.FoeMails as FoeMails
+use Rattle.protocol_models.specs.FoeOctets as FoeOctets
+use Rattle.protocol_models.specs.SoeClient as SoeClient
+use Rattle.protocol_models.specs.SoeModel as SoeModel
+use Rattle.protocol_models.specs.SoeMails as SoeMails
+use Rattle.protocol_models.specs.SoeOctets as SoeOctets
+use Rattle.protocol_models.specs.EoeClient as EoeClient
+use Rattle.protocol_models.specs.EoeModel as EoeModel
+use Rattle.protocol_models.specs.EoeMails as EoeMails
+use Rattle.protocol_models.specs.EoeOctets as EoeOctets
+use Rattle.protocol_models.specs.Network.{Station}
+use Rattle.state_model.specs.Families.{InState}
+use Rattle.state_model.proofs.FamilyLaw.{given_in}
 use Rattle.slave_parts.specs.of_slave_model.Application.{Core, Parts, ArePartsLawful, station_tables, station_files, station_elements, network}
 use Rattle.slave_parts.specs.of_slave_model.Product.{served, refusal, side, slave, protocols, product}
 use Rattle.slave_parts.specs.of_slave_model.Profile.{Protocol, Profile, IsProfile, areas_of, serves}

@@ -2,14 +2,14 @@
 use Rattle.std.proofs.Common.{◌≡◌, ℕ, zero, suc, ◌-◌, ◌/◌, ◌<◌, ◌≤◌, inl, inr, true, List, length, drop, Result, Ok, Err, refl, ap, arith, length-drop, le-leb}
 use Rattle.std.proofs.lemmas.Bool.{cases_lt, lt-leb}
 use Rattle.exchange_model.specs.Areas.{Areas, AreMailboxes}
-use Rattle.coe_model.specs.Model.{value_length}
-use Rattle.soe_model.specs.Elements.{Target, Elements, AreLawful}
-use Rattle.soe_model.specs.Mails.{fragments}
-use Rattle.soe_model.specs.Server.{Server}
-use Rattle.soe_model.specs.Client.{Service, read, write, is_service}
-use Rattle.soe_model.specs.Model.{is_ready, soe_exchange}
-use Rattle.soe_model.proofs.Carries.{answer_to}
-use Rattle.soe_model.proofs.SoeLaw.{answer_to_read, kept}
+use Rattle.protocol_models.specs.CoeModel.{value_length}
+use Rattle.protocol_models.specs.Elements.{Target, Elements, AreLawful}
+use Rattle.protocol_models.specs.SoeMails.{fragments}
+use Rattle.protocol_models.specs.SoeServer.{Server}
+use Rattle.protocol_models.specs.SoeClient.{Service, read, write, is_service}
+use Rattle.protocol_models.specs.SoeModel.{is_ready, soe_exchange}
+use Rattle.protocol_models.proofs.SoeCarries.{answer_to}
+use Rattle.protocol_models.proofs.SoeLaw.{answer_to_read, kept}
 use Rattle.few_replies.specs.Counts.{third, mails_between, mails_within, soe_octets}
 use Rattle.few_replies.proofs.Thirds.{fits, one_less}
 

@@ -11,21 +11,21 @@ use Rattle.segment_model.specs.Seats.{Side, Seat, Planned, rows_of, newest, side
 use Rattle.segment_model.specs.Laws.{EachSeat}
 use Rattle.state_model.specs.States.{Table}
 use Rattle.state_model.specs.Promises.{IsTable}
-use Rattle.state_exchange.specs.Stated.{Stated, IsStated, Act, acts, mails, with_states}
-use Rattle.state_exchange.proofs.StatedLaw.{stated_law}
-use Rattle.task_model.specs.Accounts.{Account}
-use Rattle.task_model.specs.Tasks.{TaskTurn, TaskSession, IsTaskPlan, IsTasked, mails_turn, happens, run, new_tasks}
-use Rattle.task_model.specs.Promise.{EachTask, services_in}
-use Rattle.task_model.proofs.Ghosts.{GhostRow, counting, starts_of, Untouched, Rowed}
-use Rattle.task_model.proofs.Newest.{Holds}
-use Rattle.task_model.proofs.Stately.{state_over}
-use Rattle.task_model.proofs.Walks.{EachOne}
+use Rattle.state_model.specs.Stated.{Stated, IsStated, Act, acts, mails, with_states}
+use Rattle.state_model.proofs.StatedLaw.{stated_law}
+use Rattle.state_model.specs.Accounts.{Account}
+use Rattle.state_model.specs.Tasks.{TaskTurn, TaskSession, IsTaskPlan, IsTasked, mails_turn, happens, run, new_tasks}
+use Rattle.state_model.specs.Promise.{EachTask, services_in}
+use Rattle.state_model.proofs.Ghosts.{GhostRow, counting, starts_of, Untouched, Rowed}
+use Rattle.state_model.proofs.Newest.{Holds}
+use Rattle.state_model.proofs.Stately.{state_over}
+use Rattle.state_model.proofs.Walks.{EachOne}
 use Rattle.few_replies.specs.RowCounts.{AreCounted, rows_mails, rows_count}
 use Rattle.few_replies.proofs.OfRows.{rows_within}
 use Rattle.few_replies.specs.Services.{service_count, services_count}
 use Rattle.few_replies.proofs.Seating.{Within, turn_within, new_within}
 use Rattle.few_replies.proofs.Both.{both_counted}
-use Rattle.task_model.proofs.Sessions.{Whole, holds, session_keeps}
+use Rattle.state_model.proofs.Sessions.{Whole, holds, session_keeps}
 
 mails_few : {M : Type 0} (as' : List (Act M)) → length (mails as') ≤ length as'
 mails_few [] = omega arith

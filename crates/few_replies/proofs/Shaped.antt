@@ -6,30 +6,30 @@ use Rattle.link_mails.specs.Body.{Body}
 use Rattle.object_dictionary.specs.Dictionary.{Table}
 use Rattle.file_store.specs.Files as Store
 use Rattle.idn_table.specs.Idns as Idns
-use Rattle.exchange_sum.specs.Refusing.{gated}
-use Rattle.coe_model.specs.Mails as CoeMails
-use Rattle.coe_model.specs.Octets as CoeOctets
+use Rattle.exchange_model.specs.Refusing.{gated}
+use Rattle.protocol_models.specs.CoeMails as CoeMails
+use Rattle.protocol_models.specs.CoeOctets as CoeOctets
 use Rattle.slave_parts.specs.of_coe_server.ObjectTables.{stores}
-use Rattle.foe_model.specs.Mails as FoeMails
-use Rattle.foe_model.specs.Octets as FoeOctets
-use Rattle.soe_model.specs.Mails as SoeMails
-use Rattle.soe_model.specs.Octets as SoeOctets
-use Rattle.eoe_model.specs.Mails as EoeMails
-use Rattle.eoe_model.specs.Octets as EoeOctets
-use Rattle.eoe_model.specs.Echo.{echo_of}
-use Rattle.eoe_model.specs.Network.{Station}
-use Rattle.eoe_model.specs.Server.{sends}
-use Rattle.slave_served.specs.SoeServed.{met}
-use Rattle.slave_served.specs.Whole.{gated_whole}
+use Rattle.protocol_models.specs.FoeMails as FoeMails
+use Rattle.protocol_models.specs.FoeOctets as FoeOctets
+use Rattle.protocol_models.specs.SoeMails as SoeMails
+use Rattle.protocol_models.specs.SoeOctets as SoeOctets
+use Rattle.protocol_models.specs.EoeMails as EoeMails
+use Rattle.protocol_models.specs.EoeOctets as EoeOctets
+use Rattle.protocol_models.specs.Echo.{echo_of}
+use Rattle.protocol_models.specs.Network.{Station}
+use Rattle.protocol_models.specs.EoeServer.{sends}
+use Rattle.slave_parts.specs.SoeServed.{met}
+use Rattle.slave_parts.specs.Whole.{gated_whole}
 use Rattle.slave_parts.specs.of_slave_model.Application.{with_objects, stored, station_tables, station_files, written, station_elements, network}
 use Rattle.slave_parts.specs.of_slave_model.Product.{served, refusal, serve, serve_by, serve_other, protocol_of}
 use Rattle.slave_parts.specs.of_slave_model.Profile.{Protocol, Profile, serves, areas_of}
 use Rattle.slave_parts.specs.of_slave_model.Server.{Seat, seat, reseated, ServiceOf, heard_by, refused_counts}
 use Rattle.slave_parts.specs.Parts.{Core, Server, parts}
-use Rattle.slave_served.specs.Served.{served_whole, side_whole}
-use Rattle.slave_served.proofs.SoeKeeping as Soe
-use Rattle.slave_served.proofs.Keeping as Coe
-use Rattle.slave_served.proofs.EoeKeeping as Eoe
+use Rattle.slave_parts.specs.Served.{served_whole, side_whole}
+use Rattle.slave_parts.proofs.SoeKeeping as Soe
+use Rattle.slave_parts.proofs.Keeping as Coe
+use Rattle.slave_parts.proofs.EoeKeeping as Eoe
 use Rattle.few_replies.specs.Shapes.{Shape, shape_of}
 use Rattle.few_replies.proofs.Stays.{with_table, with_kept, stored_sizes, shape_stays}
 use Rattle.few_replies.proofs.Filed as Foe

@@ -20,10 +20,10 @@ use Rattle.file_store.specs.Files as Store
 use Rattle.idn_table.specs.declared.element.Element.{Element}
 use Rattle.idn_table.specs.declared.element.Element.TheVariants.{State, Name, Attribute, Unit as UnitOf, Minimum, Maximum, Value}
 use Rattle.idn_table.specs.Idns as Idns
-use Rattle.coe_model.specs.Model.{value_length}
-use Rattle.coe_model.specs.Tables.{Target, Ask, list, object, entry}
+use Rattle.protocol_models.specs.CoeModel.{value_length}
+use Rattle.protocol_models.specs.Tables.{Target, Ask, list, object, entry}
 use Rattle.slave_parts.specs.of_coe_server.ObjectTables.{reads, tells}
-use Rattle.foe_model.specs.Model.{read_length}
+use Rattle.protocol_models.specs.FoeModel.{read_length}
 use Rattle.few_replies.specs.Shapes.{mosts, object_size, found_size, entry_size, ask_octets}
 
 -- ---- a value of a dictionary

@@ -2,18 +2,18 @@
 use Rattle.std.proofs.Common.{◌≡◌, ℕ, zero, suc, ◌-◌, ◌*◌, ◌/◌, ◌≤◌, ◌<◌, not, Bool, true, false, List, length, Result, Ok, Err, refl, ap, ◌∙◌, arith}
 use Rattle.std.proofs.lemmas.Nat.{le-div}
 use Rattle.std.proofs.Math.Nat.{div-mul-le_self}
-use Rattle.coe_model.specs.Meaning.{Service, download, upload, information}
-use Rattle.coe_model.specs.Model.{value_length}
-use Rattle.coe_model.specs.Server.{Transfer}
-use Rattle.slave_served.specs.CoeServed.{transfer_behind}
-use Rattle.slave_served.specs.FoeServed.{has_its_room}
-use Rattle.slave_served.specs.Whole.{gated_whole}
+use Rattle.protocol_models.specs.CoeMeaning.{Service, download, upload, information}
+use Rattle.protocol_models.specs.CoeModel.{value_length}
+use Rattle.protocol_models.specs.CoeServer.{Transfer}
+use Rattle.slave_parts.specs.CoeServed.{transfer_behind}
+use Rattle.slave_parts.specs.FoeServed.{has_its_room}
+use Rattle.slave_parts.specs.Whole.{gated_whole}
 use Rattle.slave_parts.specs.of_slave_model.Application.{Parts, ArePartsLawful, station_valid, station_files}
 use Rattle.slave_parts.specs.of_slave_model.Product.{refusal}
 use Rattle.slave_parts.specs.of_slave_model.Profile.{Protocol, Profile, IsProfile, serves}
 use Rattle.slave_parts.specs.of_slave_model.Server.{Server, seat, reseated, ServiceOf}
 use Rattle.slave_parts.proofs.of_slave_model.Stations.{left_of}
-use Rattle.slave_served.specs.Served.{served_whole, side_whole, product_whole}
+use Rattle.slave_parts.specs.Served.{served_whole, side_whole, product_whole}
 use Rattle.few_replies.specs.Most.{Tells, AreEnough, brings_packet, begins_packet}
 use Rattle.few_replies.proofs.Few.{replies, frees, not_true}
 use Rattle.few_replies.specs.Calm.{IsCalm}

@@ -2,12 +2,12 @@
 use Rattle.std.proofs.Common.{◌≡◌, ◌≤◌, true, sym, ap, ◌∙◌, subst, arith, refl}
 use Rattle.object_dictionary.specs.Dictionary.{Table}
 use Rattle.object_dictionary.specs.Sound.{is_table}
-use Rattle.coe_model.specs.Model.{value_length}
-use Rattle.coe_model.specs.Tables.{Ask, list, object, entry}
+use Rattle.protocol_models.specs.CoeModel.{value_length}
+use Rattle.protocol_models.specs.Tables.{Ask, list, object, entry}
 use Rattle.slave_parts.specs.of_coe_server.ObjectTables.{tells}
 use Rattle.exchange_model.specs.Exchange.{IsLawful}
 use Rattle.few_replies.specs.Most.{Tells}
-use Rattle.slave_served.specs.FoeServed.{has_its_room}
+use Rattle.slave_parts.specs.FoeServed.{has_its_room}
 use Rattle.few_replies.specs.RowCounts.{AreCounted}
 use Rattle.few_replies.specs.Calm.{IsCalm, KeepsPassed, calm_tagged, asked_count}
 use Rattle.few_replies.proofs.Calms.{calm_lawful, calm_counted}
@@ -21,10 +21,10 @@ use Rattle.slave_parts.specs.of_slave_model.Application.{ArePartsLawful, station
 use Rattle.slave_parts.specs.of_slave_model.Profile.{Profile, IsProfile}
 use Rattle.slave_parts.proofs.of_slave_model.Stations.{both, left_of}
 use Rattle.slave_parts.specs.Parts.{Server, parts}
-use Rattle.slave_served.specs.Served.{product_whole, AreFilesServed}
-use Rattle.slave_served.proofs.Sides.{side_speech}
-use Rattle.slave_served.proofs.SlaveLaw.{product_served}
-use Rattle.state_exchange.specs.Families.{InState}
+use Rattle.slave_parts.specs.Served.{product_whole, AreFilesServed}
+use Rattle.slave_parts.proofs.Sides.{side_speech}
+use Rattle.slave_parts.proofs.SlaveLaw.{product_served}
+use Rattle.state_model.specs.Families.{InState}
 use Rattle.few_replies.proofs.Alone.{alone, product_many}
 use Rattle.few_replies.proofs.Shaped.{mail_stays, exec_stays}
 

@@ -3,15 +3,15 @@ use Rattle.std.specs.Prelude.{ℕ, ◌+◌, ◌*◌, ◌/◌, nat_le, if◌then�
 use Rattle.eoe.specs.Cutting.{blocks_of}
 use Rattle.exchange_model.specs.Areas.{Areas}
 use Rattle.exchange_model.specs.Exchange.{Exchange, given}
-use Rattle.coe_model.specs.Tables as Tables
-use Rattle.coe_model.specs.Meaning as CoeMeaning
-use Rattle.coe_model.specs.Model.{value_length}
-use Rattle.foe_model.specs.Files as Files
-use Rattle.foe_model.specs.Meaning as FoeMeaning
-use Rattle.foe_model.specs.Model.{read_length}
-use Rattle.soe_model.specs.Elements as Elements
-use Rattle.soe_model.specs.Client as SoeClient
-use Rattle.eoe_model.specs.Client as EoeClient
+use Rattle.protocol_models.specs.Tables as Tables
+use Rattle.protocol_models.specs.CoeMeaning as CoeMeaning
+use Rattle.protocol_models.specs.CoeModel.{value_length}
+use Rattle.protocol_models.specs.Files as Files
+use Rattle.protocol_models.specs.FoeMeaning as FoeMeaning
+use Rattle.protocol_models.specs.FoeModel.{read_length}
+use Rattle.protocol_models.specs.Elements as Elements
+use Rattle.protocol_models.specs.SoeClient as SoeClient
+use Rattle.protocol_models.specs.EoeClient as EoeClient
 
 -- the mails of a service at a server: those of its client, and those that the server gives
 abbrev pub mails_between : {V A M Q R : Type 0} → Exchange V A M Q R → V → Q → ℕ

@@ -6,3 +6,13 @@ pub mod RowCounts
 pub mod Services
 pub mod Shapes
 pub mod Slave
+pub mod Clearing
+pub mod Client
+pub mod Drained
+pub mod Erased
+pub mod Frames
+pub mod Heard
+pub mod Led
+pub mod Newest
+pub mod Silent
+pub mod Steps

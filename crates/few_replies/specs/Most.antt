@@ -2,15 +2,15 @@
 use Rattle.std.specs.Prelude.{◌≡◌, ℕ, suc, ◌-◌, ◌/◌, ◌≤◌, ◌==◌, ◌&&◌, not, Bool, true, false, []}
 use Rattle.eoe.specs.Cutting.{blocks_of}
 use Rattle.link_mails.specs.Body.{Body}
-use Rattle.coe_model.specs.Mails.{CoeMail, mail, unread, failed, fragment, other, Coe, Expedited, First}
-use Rattle.coe_model.specs.Model.{value_length}
-use Rattle.coe_model.specs.Octets.{coe_mail_heard}
-use Rattle.coe_model.specs.Server.{Transfer, idle, downloading, uploading}
-use Rattle.coe_model.specs.Tables.{Target, Ask}
+use Rattle.protocol_models.specs.CoeMails.{CoeMail, mail, unread, failed, fragment, other, Coe, Expedited, First}
+use Rattle.protocol_models.specs.CoeModel.{value_length}
+use Rattle.protocol_models.specs.CoeOctets.{coe_mail_heard}
+use Rattle.protocol_models.specs.CoeServer.{Transfer, idle, downloading, uploading}
+use Rattle.protocol_models.specs.Tables.{Target, Ask}
 use Rattle.slave_parts.specs.of_slave_model.Application.{Parts}
 use Rattle.slave_parts.specs.of_slave_model.Profile.{Profile}
 use Rattle.slave_parts.specs.of_slave_model.Server.{Server, heard_by}
-use Rattle.soe_model.specs.Elements as Elements
+use Rattle.protocol_models.specs.Elements as Elements
 
 -- WHAT AN APPLICATION TELLS: no information of its objects has more octets than the one number, and no element of its IDNs more than the other
 pub record Tells {T F I : Type 0} (o : Parts T F I) (information element : ℕ) : Type 0 where

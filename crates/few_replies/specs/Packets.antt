@@ -2,7 +2,7 @@
 use Rattle.std.specs.Prelude.{not, Bool}
 use Rattle.link_mails.specs.Body.{Body}
 use Rattle.slave_parts.specs.of_slave_model.Server.{Server}
-use Rattle.state_exchange.specs.Families.{InState}
+use Rattle.state_model.specs.Families.{InState}
 use Rattle.few_replies.specs.Most.{begins_packet, is_packet_free}
 
 -- A CALM SLAVE, in whatever AL state: no download to the entry 2F01:01 is unfinished

@@ -6,18 +6,18 @@ use Rattle.object_dictionary.specs.declared.entry.EntrySpec.{EntrySpec}
 use Rattle.object_dictionary.specs.declared.object.Object.{Object}
 use Rattle.object_dictionary.specs.Dictionary.{Table, object_of}
 use Rattle.file_store.specs.Files.{busy_of}
-use Rattle.coe_model.specs.Meaning as CoeMeaning
-use Rattle.coe_model.specs.Tables.{Ask, list, object, entry}
-use Rattle.coe_model.specs.Server.{Emission, emergency, packet, emission_of}
-use Rattle.foe_model.specs.Meaning as FoeMeaning
-use Rattle.soe_model.specs.Client as SoeClient
-use Rattle.eoe_model.specs.Client as EoeClient
-use Rattle.eoe_model.specs.Echo.{echo_of}
+use Rattle.protocol_models.specs.CoeMeaning as CoeMeaning
+use Rattle.protocol_models.specs.Tables.{Ask, list, object, entry}
+use Rattle.protocol_models.specs.CoeServer.{Emission, emergency, packet, emission_of}
+use Rattle.protocol_models.specs.FoeMeaning as FoeMeaning
+use Rattle.protocol_models.specs.SoeClient as SoeClient
+use Rattle.protocol_models.specs.EoeClient as EoeClient
+use Rattle.protocol_models.specs.Echo.{echo_of}
 use Rattle.few_replies.specs.Counts.{mails_within, eoe_mails}
 use Rattle.slave_parts.specs.of_slave_model.Profile.{Protocol, Profile, areas_of}
 use Rattle.slave_parts.specs.of_slave_model.Server.{ServiceOf}
 use Rattle.slave_parts.specs.Parts.{Core, Server}
-use Rattle.state_exchange.specs.Families.{InState}
+use Rattle.state_model.specs.Families.{InState}
 
 -- the greatest size at a subindex, of an object of this code and these sizes: the number of an array's or record's entries has one octet
 abbrev pub size_at : ℕ → List ℕ → ℕ → ℕ

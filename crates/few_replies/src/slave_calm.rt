@@ -4,9 +4,9 @@
 ghost use Rattle.std.specs.Prelude.{◌≡◌, ℕ, length, replicate};
 ghost use Rattle.slave_parts.specs.of_slave_model.Application.{Parts, ArePartsLawful};
 ghost use Rattle.slave_parts.specs.of_slave_model.Profile.{Profile, IsProfile};
-ghost use Rattle.slave_served.specs.Served.{product_whole};
-ghost use Rattle.soe_model.specs.Elements.{target};
-ghost use Rattle.soe_model.specs.Mails.{fragments_of};
+ghost use Rattle.slave_parts.specs.Served.{product_whole};
+ghost use Rattle.protocol_models.specs.Elements.{target};
+ghost use Rattle.protocol_models.specs.SoeMails.{fragments_of};
 ghost use Rattle.few_replies.specs.Most.{Tells, AreEnough};
 ghost use Rattle.few_replies.specs.Calm.{IsCalm};
 ghost use Rattle.few_replies.specs.Packets.{is_calm, is_fair};

@@ -10,7 +10,7 @@ ghost use Rattle.serving_model.specs.Tagged.{ideal};
 ghost use Rattle.few_replies.specs.Packets.{is_calm, is_fair};
 ghost use Rattle.slave_parts.specs.of_slave_model.Profile.{Profile, IsProfile};
 ghost use Rattle.slave_parts.specs.Parts.{parts};
-ghost use Rattle.slave_served.specs.Served.{product_whole};
+ghost use Rattle.slave_parts.specs.Served.{product_whole};
 
 /// A SERVICE TAKES NO MORE MAILS THAN THE SHAPE OF ITS SLAVE SAYS, also where mails that were passed on left transfers unfinished, an element half
 /// joined among them; and neither a service nor a mail changes that shape.
@@ -19,7 +19,7 @@ pub fn whole_counts()
     ensures kept { (p : Profile) → KeepsPassed (product_whole parts p) is_calm is_fair shape_at }
 {
     slave_parts::parts_are_lawful();
-    slave_served::parts_served::files_are_served();
+    slave_parts::parts_served::files_are_served();
 }
 
 /// THE PARTS OF A SLAVE TELL FEW OCTETS: 1,024 of its objects and 4,096 of an element. So it answers each fair mail with 76 mails at most.
@@ -37,5 +37,5 @@ pub fn passed_law()
     ensures counted { (p : Profile) → IsProfile p → AreCounted (calm_tagged (product_whole parts p) is_calm is_fair) (λ w. shape_at (ideal (product_whole parts p) w)) (asked_count (λ k q. shape_most p k q.0 q.1) 76) }
 {
     slave_parts::parts_are_lawful();
-    slave_served::parts_served::files_are_served();
+    slave_parts::parts_served::files_are_served();
 }

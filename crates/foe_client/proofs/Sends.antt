@@ -5,12 +5,12 @@ use Rattle.std.proofs.lemmas.List.{drop-drop}
 use Rattle.exchange_model.specs.Areas.{Areas}
 use Rattle.exchange_model.specs.Dialogue.{chosen, said}
 use Rattle.foe_codec.specs.Message.{is_name, IsSpellable, foe_text}
-use Rattle.foe_model.specs.Mails.{Read, Write, Data, Ack, Error, Busy, FoeMail, mail, unread, failed, other}
-use Rattle.foe_model.specs.Server.{packet_room, packet_of, is_last}
-use Rattle.foe_model.specs.Meaning.{read, write}
-use Rattle.foe_model.specs.Client.{is_busy, packets, acks, decide, read_turn, write_turn, turn_behind, full_packets}
-use Rattle.foe_model.specs.Model.{planned}
-use Rattle.foe_model.proofs.Counts.{none_full, one_full}
+use Rattle.protocol_models.specs.FoeMails.{Read, Write, Data, Ack, Error, Busy, FoeMail, mail, unread, failed, other}
+use Rattle.protocol_models.specs.FoeServer.{packet_room, packet_of, is_last}
+use Rattle.protocol_models.specs.FoeMeaning.{read, write}
+use Rattle.protocol_models.specs.FoeClient.{is_busy, packets, acks, decide, read_turn, write_turn, turn_behind, full_packets}
+use Rattle.protocol_models.specs.FoeModel.{planned}
+use Rattle.protocol_models.proofs.Counts.{none_full, one_full}
 use Rattle.foe_client.specs.declared.state.Unsent.{Unsent}
 use Rattle.foe_client.specs.declared.state.Awaits.{Awaits}
 use Rattle.foe_client.specs.Talk.{Talking, mail_of, following, sending, is_data, is_any_ack, is_value, for_packets, for_acks, lets_go, later, is_left, is_next, begun}

@@ -3,9 +3,9 @@ use Rattle.std.proofs.Common.{◌≡◌, ℕ, zero, suc, ◌+◌, ◌-◌, ◌<�
 use Rattle.std.proofs.lemmas.Bool.{eqb-false, and_parts}
 use Rattle.arrayvec.specs.ArrayVec.{ArrayVec}
 use Rattle.mailbox_mail.specs.declared.outcome.ReplyKind.{ReplyKind}
-use Rattle.foe_model.specs.Mails.{Foe, FoeMail, mail, unread, failed, other, Read, Write, Data, Ack, Error, Busy}
-use Rattle.foe_model.specs.Server.{is_last}
-use Rattle.foe_model.specs.Client.{at_end, refused_by, is_ack, is_busy, acks_end, is_packet, most, packets_end}
+use Rattle.protocol_models.specs.FoeMails.{Foe, FoeMail, mail, unread, failed, other, Read, Write, Data, Ack, Error, Busy}
+use Rattle.protocol_models.specs.FoeServer.{is_last}
+use Rattle.protocol_models.specs.FoeClient.{at_end, refused_by, is_ack, is_busy, acks_end, is_packet, most, packets_end}
 use Rattle.foe_client.specs.declared.state.Unsent.{Unsent}
 use Rattle.foe_client.specs.declared.state.Awaits.{Awaits}
 use Rattle.foe_client.specs.Talk.{Talking, sending, is_data, is_any_ack, is_value, for_packets, for_acks, lets_go, awaited, is_sound, is_next}

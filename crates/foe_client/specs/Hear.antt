@@ -2,9 +2,9 @@
 use Rattle.std.specs.Prelude.{◌≡◌, ℕ, ◌+◌, ◌-◌, ◌<◌, ◌==◌, nat_lt, true, false, List, [], ◌∷◌, ◌++◌, length, if◌then◌else◌, None, Some}
 use Rattle.mailbox_mail.specs.declared.outcome.ReplyKind.{ReplyKind}
 use Rattle.mailbox_mail.specs.declared.outcome.Took.{Took}
-use Rattle.foe_model.specs.Mails.{Foe, Data, Ack, Error, Busy, FoeMail, mail, failed}
-use Rattle.foe_model.specs.Server.{is_last}
-use Rattle.foe_model.specs.Client.{most}
+use Rattle.protocol_models.specs.FoeMails.{Foe, Data, Ack, Error, Busy, FoeMail, mail, failed}
+use Rattle.protocol_models.specs.FoeServer.{is_last}
+use Rattle.protocol_models.specs.FoeClient.{most}
 use Rattle.foe_client.specs.declared.state.Unsent.{Unsent}
 use Rattle.foe_client.specs.declared.state.Awaits.{Awaits}
 use Rattle.foe_client.specs.Talk.{Talking, areas_of, later, awaited, awaits_nothing}

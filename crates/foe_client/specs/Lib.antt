@@ -1,5 +1,5 @@
 pub use Rattle.exchange_model.specs as of_exchange_model
-pub use Rattle.foe_model.specs as of_foe_model
+pub use Rattle.protocol_models.specs as of_protocol_models
 pub mod Talk
 pub mod Send
 pub mod Hear

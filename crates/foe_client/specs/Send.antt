@@ -2,9 +2,9 @@
 use Rattle.std.specs.Prelude.{◌≡◌, ℕ, ◌+◌, ◌-◌, ◌≤◌, List, ◌∷◌, length, take, drop}
 use Rattle.mailbox_mail.specs.declared.mail.Kind.TheVariants.{FoE}
 use Rattle.foe_codec.specs.Message.{IsSpellable, foe_text}
-use Rattle.foe_model.specs.Mails.{Foe, Read, Write, Data, Ack, FoeMail, mail}
-use Rattle.foe_model.specs.Server.{packet_room}
-use Rattle.foe_model.specs.Octets.{foe_mail_written, mail_with}
+use Rattle.protocol_models.specs.FoeMails.{Foe, Read, Write, Data, Ack, FoeMail, mail}
+use Rattle.protocol_models.specs.FoeServer.{packet_room}
+use Rattle.protocol_models.specs.FoeOctets.{foe_mail_written, mail_with}
 use Rattle.foe_client.specs.declared.state.Unsent.{Unsent}
 use Rattle.foe_client.specs.Talk.{Talking, areas_of, following, later, awaited}
 

@@ -2,11 +2,11 @@
 use Rattle.std.specs.Prelude.{◌≡◌, ℕ, zero, suc, ◌+◌, ◌-◌, ◌≤◌, ◌&&◌, nat_lt, nat_le, ◌==◌, Bool, true, false, List, [], ◌∷◌, length, drop, if◌then◌else◌, Option, None}
 use Rattle.mailbox_mail.specs.declared.outcome.ReplyKind.{ReplyKind}
 use Rattle.foe_codec.specs.Message.{is_name}
-use Rattle.foe_model.specs.Mails.{Read, Write, Data, Ack, FoeMail, mail}
-use Rattle.foe_model.specs.Server.{packet_room, packet_of}
-use Rattle.foe_model.specs.Meaning.{Reply}
+use Rattle.protocol_models.specs.FoeMails.{Read, Write, Data, Ack, FoeMail, mail}
+use Rattle.protocol_models.specs.FoeServer.{packet_room, packet_of}
+use Rattle.protocol_models.specs.FoeMeaning.{Reply}
 use Rattle.exchange_model.specs.Areas.{Areas}
-use Rattle.foe_model.specs.Client.{at_end, is_busy, acks_end, packets_end}
+use Rattle.protocol_models.specs.FoeClient.{at_end, is_busy, acks_end, packets_end}
 use Rattle.foe_client.specs.declared.state.Unsent.{Unsent}
 use Rattle.foe_client.specs.declared.state.Awaits.{Awaits}
 

@@ -1,10 +1,10 @@
 ghost use Rattle.std.specs.Prelude.{◌≡◌, ◌≤◌, ◌<◌, ◌+◌, List, [], ◌++◌, true, length, IfOk, OnOk, OnErr, Some, None, suc};
 ghost use Rattle.foe_codec.specs.Message.{is_name};
-ghost use Rattle.foe_model.specs.Mails.{FoeMail};
-ghost use Rattle.foe_model.specs.Meaning.{Service, read, write};
+ghost use Rattle.protocol_models.specs.FoeMails.{FoeMail};
+ghost use Rattle.protocol_models.specs.FoeMeaning.{Service, read, write};
 ghost use Rattle.exchange_model.specs.Areas.{Areas};
-ghost use Rattle.foe_model.specs.Client.{full_packets, ends};
-ghost use Rattle.foe_model.specs.Model.{planned};
+ghost use Rattle.protocol_models.specs.FoeClient.{full_packets, ends};
+ghost use Rattle.protocol_models.specs.FoeModel.{planned};
 ghost use Rattle.foe_client.specs.Talk.{areas_of, later, awaited, awaits_nothing, begun, IsFresh};
 
 use crate::state::{Awaits, Unsent};

@@ -1,6 +1,6 @@
 ghost use Rattle.std.specs.Prelude.{◌≡◌, ◌≤◌, length};
 ghost use Rattle.foe_codec.specs.View.{foe_seen};
-ghost use Rattle.foe_model.specs.Octets.{body_heard, foe_mail_heard};
+ghost use Rattle.protocol_models.specs.FoeOctets.{body_heard, foe_mail_heard};
 ghost use Rattle.foe_client.specs.Hear.{onward, refused, hear_data, hear_ack, hear_busy, hear_refusal, hear_message, hear_mail, TookIs};
 
 use crate::client::{FoeClient, HEADER, MOST};

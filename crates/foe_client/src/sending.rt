@@ -1,9 +1,9 @@
 ghost use Rattle.std.specs.Prelude.{◌≡◌, ◌≤◌, ◌<◌, ◌+◌, ◌↔◌, List, [], true, false, length, take, drop};
 ghost use Rattle.foe_codec.specs.Message.{IsSpellable, foe_text};
 ghost use Rattle.foe_codec.specs.View.{foe_seen, IsCapped};
-ghost use Rattle.foe_model.specs.Server.{packet_room};
+ghost use Rattle.protocol_models.specs.FoeServer.{packet_room};
 ghost use Rattle.std.specs.Bool.{OnTrue, OnFalse};
-ghost use Rattle.foe_model.specs.Mails.{FoeMail};
+ghost use Rattle.protocol_models.specs.FoeMails.{FoeMail};
 ghost use Rattle.foe_client.specs.Talk.{following, later, awaited};
 ghost use Rattle.foe_client.specs.Send.{message_of, sent_first, SendsNext};
 

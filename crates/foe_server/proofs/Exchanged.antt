@@ -4,9 +4,9 @@ use Rattle.mailbox_mail.specs.declared.mail.Kind.TheVariants.{FoE}
 use Rattle.exchange_model.specs.Areas.{Areas}
 use Rattle.file_store.specs.Files.{Kept}
 use Rattle.file_store.specs.Stored.{Stored}
-use Rattle.foe_model.specs.Files.{Files}
-use Rattle.foe_model.specs.Server.{Transfer, Outcome, Server, foe_outcome, behind as server_behind}
-use Rattle.foe_model.specs.Octets.{body_heard, foe_mail_written, mail_with, foe_mail_exchange}
+use Rattle.protocol_models.specs.Files.{Files}
+use Rattle.protocol_models.specs.FoeServer.{Transfer, Outcome, Server, foe_outcome, behind as server_behind}
+use Rattle.protocol_models.specs.FoeOctets.{body_heard, foe_mail_written, mail_with, foe_mail_exchange}
 use Rattle.foe_server.specs.Serving.{Serving, transfer_of, outcome_of, served_of}
 
 pub exchanged : (o : Files Kept) (areas : Areas) (v : Server Kept) (old new : Serving) (before behind : Stored) (counts : Bool) (body : List ℕ) →

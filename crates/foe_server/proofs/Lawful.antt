@@ -6,7 +6,7 @@ use Rattle.std.proofs.lemmas.Bool.{le-leb, leb-true, and_parts, and_from}
 use Rattle.std.proofs.lemmas.List.Sums.{sum_by-cons}
 use Rattle.file_store.specs.of_block_pool.Region.{blocks_for}
 use Rattle.file_store.specs.Files.{Filed, Kept, taken, free_of, is_named, file_of, has_room, is_valid, code_at, rewritten, put}
-use Rattle.foe_model.specs.Files.{AreLawful, AreSpelled}
+use Rattle.protocol_models.specs.Files.{AreLawful, AreSpelled}
 use Rattle.foe_server.specs.Stores.{store_files}
 
 -- what holds of files within the limits

@@ -1,3 +1,3 @@
-pub use Rattle.foe_model.proofs as of_foe_model
+pub use Rattle.protocol_models.proofs as of_protocol_models
 pub mod Lawful
 pub mod Exchanged

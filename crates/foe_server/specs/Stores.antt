@@ -1,7 +1,7 @@
 -- The files of a store, at an AL state, as a server works on them.
 use Rattle.std.specs.Prelude.{ℕ}
 use Rattle.file_store.specs.Files.{Kept, is_valid, allowed, has_room, put, get, busy_of}
-use Rattle.foe_model.specs.Files.{Files}
+use Rattle.protocol_models.specs.Files.{Files}
 
 -- the files, asked at this AL state
 abbrev pub store_files : ℕ → Files Kept

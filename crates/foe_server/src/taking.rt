@@ -1,9 +1,9 @@
 ghost use Rattle.std.specs.Prelude.{◌≡◌, ◌≤◌, ◌+◌, ℕ, true, is_some, length, drop, None};
 ghost use Rattle.file_store.specs.Files.{file_of, get};
 ghost use Rattle.file_store.specs.Stored.{Stored, part_octets};
-ghost use Rattle.foe_model.specs.Server.{takes_read, takes_write, takes_data, stores, closes, takes_ack, continues, foe_takes, takes_unread, foe_outcome};
+ghost use Rattle.protocol_models.specs.FoeServer.{takes_read, takes_write, takes_data, stores, closes, takes_ack, continues, foe_takes, takes_unread, foe_outcome};
 ghost use Rattle.foe_codec.specs.View.{foe_seen, IsCapped};
-ghost use Rattle.foe_model.specs.Octets.{body_heard};
+ghost use Rattle.protocol_models.specs.FoeOctets.{body_heard};
 ghost use Rattle.foe_server.specs.Stores.{store_files};
 ghost use Rattle.foe_server.specs.Serving.{Serving, Serves, IsWriting, transfer_of, outcome_of, told_of};
 

@@ -1,6 +1,9 @@
-//! Frames as a session sees them: what each datagram asks of the mailboxes and of the other registers
-//! of the slave that it is addressed to, and what it brings back. No running code.
+//! Frames as a session sees them: what each datagram asks of the mailboxes and of the other registers of the slave that it is addressed to, and what
+//! it brings back; and what a master's frame has for each slave of a ring, with what its return or loss makes of each life. No running code: each
+//! function here does nothing, and its contract states a law.
 #![tactic(auto)]
+
+pub mod life_frames;
 
 ghost use Rattle.std.specs.Prelude.{◌≡◌, ℕ, List, map};
 ghost use Rattle.datagrams.specs.Datagram as Raw;

@@ -5,8 +5,8 @@ use Rattle.std.proofs.lemmas.Bool.{eqb-true, ne_eqb, eqb-false}
 use Rattle.datagrams.specs.declared.command.Command.{Command}
 use Rattle.datagrams.specs.declared.command.Command.TheVariants.{Fprd, Fpwr, Fprw}
 use Rattle.datagrams.specs.Datagram as Raw
-use Rattle.frame_pass.specs.of_esc_registers.declared.registers.Registers as Esc
-use Rattle.frame_pass.specs.Passing.{passed}
+use Rattle.slave_node.specs.of_esc_registers.declared.registers.Registers as Esc
+use Rattle.slave_node.specs.Passing.{passed}
 use Rattle.link_mails.specs.Body.{Body}
 use Rattle.mailbox_slave.specs.Kept.{Kept}
 use Rattle.segment_model.specs.Slaves.{Serving}

@@ -6,11 +6,11 @@ use Rattle.std.proofs.Math.Bool.{and-true}
 use Rattle.datagrams.specs.declared.command.Command.TheVariants.{Fprd, Fpwr}
 use Rattle.datagrams.specs.declared.command.Command.{Command}
 use Rattle.datagrams.specs.Datagram as Raw
-use Rattle.frame_pass.specs.of_esc_registers.declared.registers.Registers.{Registers}
-use Rattle.frame_pass.specs.of_esc_registers.Access.{Passed}
-use Rattle.frame_pass.specs.of_esc_registers.Manager.{is_right, is_enabled}
-use Rattle.frame_pass.specs.of_esc_registers.Registers.{are_areas_right}
-use Rattle.frame_pass.specs.Passing.{passed}
+use Rattle.slave_node.specs.of_esc_registers.declared.registers.Registers.{Registers}
+use Rattle.slave_node.specs.of_esc_registers.Access.{Passed}
+use Rattle.slave_node.specs.of_esc_registers.Manager.{is_right, is_enabled}
+use Rattle.slave_node.specs.of_esc_registers.Registers.{are_areas_right}
+use Rattle.slave_node.specs.Passing.{passed}
 use Rattle.link_mails.specs.Body.{Body, bit_1}
 use Rattle.mailbox_slave.specs.Kept.{Kept}
 use Rattle.segment_model.specs.Slaves.{Serving}

@@ -2,8 +2,8 @@
 use Rattle.std.proofs.Common.{ℕ, List, [], ◌∷◌, refl, ap, sym, ◌∙◌, subst}
 use Rattle.datagrams.specs.Datagram as Raw
 use Rattle.datagrams.specs.Frame.{IsFrame}
-use Rattle.frame_pass.specs.of_esc_registers.declared.registers.Registers.{Registers}
-use Rattle.frame_pass.specs.Passing.{passed, datagrams_after, IsPassed}
+use Rattle.slave_node.specs.of_esc_registers.declared.registers.Registers.{Registers}
+use Rattle.slave_node.specs.Passing.{passed, datagrams_after, IsPassed}
 use Rattle.link_mails.specs.Body.{Body}
 use Rattle.mailbox_slave.specs.Kept.{Kept}
 use Rattle.segment_model.specs.Slaves.{Serving, slave_after, frame_after, slave_meets}

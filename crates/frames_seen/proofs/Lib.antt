@@ -14,3 +14,6 @@ pub mod Places
 pub mod Rows
 pub mod Passes
 mod Worked
+pub mod Tables
+pub mod Carries
+pub mod Returned

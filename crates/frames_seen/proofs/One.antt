@@ -6,9 +6,9 @@ use Rattle.byteorder.specs.Endian.{little_bytes}
 use Rattle.datagrams.specs.declared.command.Command.TheVariants.{Aprd, Apwr, Aprw, Fprd, Fpwr, Fprw}
 use Rattle.datagrams.specs.declared.command.Command.{Command}
 use Rattle.datagrams.specs.Datagram as Raw
-use Rattle.frame_pass.specs.of_esc_registers.declared.registers.Registers.{Registers}
-use Rattle.frame_pass.specs.of_esc_registers.Access.{Passed}
-use Rattle.frame_pass.specs.of_esc_registers.Manager.{is_enabled}
+use Rattle.slave_node.specs.of_esc_registers.declared.registers.Registers.{Registers}
+use Rattle.slave_node.specs.of_esc_registers.Access.{Passed}
+use Rattle.slave_node.specs.of_esc_registers.Manager.{is_enabled}
 use Rattle.link_model.specs.Frames.{Ask}
 use Rattle.link_mails.specs.Body.{Body}
 use Rattle.mailbox_slave.specs.Kept.{Kept}

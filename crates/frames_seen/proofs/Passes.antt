@@ -10,10 +10,10 @@ use Rattle.datagrams.proofs.Building.{text_of-append}
 use Rattle.datagrams.proofs.Changing.{IsFrame-set}
 use Rattle.datagrams.proofs.Header.{frame_read-only}
 use Rattle.datagrams.proofs.Spelled.{length-datagram_text}
-use Rattle.frame_pass.specs.of_esc_registers.declared.registers.Registers as Esc
-use Rattle.frame_pass.specs.of_esc_registers.Access.{access}
-use Rattle.frame_pass.specs.Passing.{passed, datagram_after, registers_after, datagrams_after, replaced, part_passed, parts_passed, passed_as, frame_passed, IsPassed}
-use Rattle.frame_pass.proofs.Parts.{one_passed, body_here, each_at}
+use Rattle.slave_node.specs.of_esc_registers.declared.registers.Registers as Esc
+use Rattle.slave_node.specs.of_esc_registers.Access.{access}
+use Rattle.slave_node.specs.Passing.{passed, datagram_after, registers_after, datagrams_after, replaced, part_passed, parts_passed, passed_as, frame_passed, IsPassed}
+use Rattle.slave_node.proofs.Parts.{one_passed, body_here, each_at}
 use Rattle.frames_seen.specs.Kept.{FrameKeeps}
 use Rattle.frames_seen.proofs.Rows.{access_len, access_keeps, access_adp, access_counter, keeps_both}
 

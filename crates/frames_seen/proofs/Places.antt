@@ -5,10 +5,10 @@ use Rattle.std.proofs.lemmas.Bool.{ne_eqb, eqb-false}
 use Rattle.datagrams.specs.declared.command.Command.{Command}
 use Rattle.datagrams.specs.declared.command.Command.TheVariants.{Aprd, Apwr, Aprw}
 use Rattle.datagrams.specs.Datagram as Raw
-use Rattle.frame_pass.specs.of_esc_registers.declared.registers.Registers as Esc
-use Rattle.frame_pass.specs.of_esc_registers.declared.row.Row.{Row}
-use Rattle.frame_pass.specs.of_esc_registers.Access.{passed_at, row_of}
-use Rattle.frame_pass.specs.Passing.{passed, datagram_after, datagrams_after}
+use Rattle.slave_node.specs.of_esc_registers.declared.registers.Registers as Esc
+use Rattle.slave_node.specs.of_esc_registers.declared.row.Row.{Row}
+use Rattle.slave_node.specs.of_esc_registers.Access.{passed_at, row_of}
+use Rattle.slave_node.specs.Passing.{passed, datagram_after, datagrams_after}
 use Rattle.link_mails.specs.Body.{Body}
 use Rattle.mailbox_slave.specs.Kept.{Kept}
 use Rattle.segment_model.specs.Slaves.{Serving}

@@ -3,11 +3,11 @@ use Rattle.std.proofs.Common.{◌≡◌, ℕ, ◌+◌, ◌%◌, ◌==◌, ◌&&�
 use Rattle.std.specs.Prelude.{if◌then◌else◌, Option, Some, None}
 use Rattle.datagrams.specs.declared.command.Command.TheVariants.{Aprd, Apwr, Fprd, Fpwr}
 use Rattle.datagrams.specs.Datagram as Raw
-use Rattle.frame_pass.specs.of_esc_registers.declared.registers.Registers.{Registers}
-use Rattle.frame_pass.specs.of_esc_registers.declared.row.Row.{Row}
-use Rattle.frame_pass.specs.of_esc_registers.declared.row.Row.TheVariants.{Station, AlControl, AlStatus, AlStatusAndCode, AlStatusCode, Whole, Status, Activate, PdiControl, OutArea, InArea}
-use Rattle.frame_pass.specs.of_esc_registers.declared.row.Mailbox.TheVariants.{Outward, Inward}
-use Rattle.frame_pass.specs.of_esc_registers.Access.{accessed, passed_by, row_of}
+use Rattle.slave_node.specs.of_esc_registers.declared.registers.Registers.{Registers}
+use Rattle.slave_node.specs.of_esc_registers.declared.row.Row.{Row}
+use Rattle.slave_node.specs.of_esc_registers.declared.row.Row.TheVariants.{Station, AlControl, AlStatus, AlStatusAndCode, AlStatusCode, Whole, Status, Activate, PdiControl, OutArea, InArea}
+use Rattle.slave_node.specs.of_esc_registers.declared.row.Mailbox.TheVariants.{Outward, Inward}
+use Rattle.slave_node.specs.of_esc_registers.Access.{accessed, passed_by, row_of}
 use Rattle.link_model.specs.Frames.{Ask}
 use Rattle.link_mails.specs.Body.{Body}
 use Rattle.mailbox_slave.specs.Kept.{Kept}

@@ -3,13 +3,13 @@ use Rattle.std.proofs.Common.{◌≡◌, ℕ, ◌+◌, ◌%◌, ◌<◌, ◌==�
 use Rattle.std.specs.Prelude.{Option, Some, None, if◌then◌else◌, is_some, unwrap_or}
 use Rattle.std.proofs.lemmas.Bool.{eqb-true, and_parts}
 use Rattle.datagrams.specs.declared.head.Head.{Head}
-use Rattle.frame_pass.specs.of_esc_registers.declared.registers.Registers as Esc
-use Rattle.frame_pass.specs.of_esc_registers.declared.row.Row.{Row}
-use Rattle.frame_pass.specs.of_esc_registers.declared.row.Row.TheVariants.{Station, AlControl, AlStatus, AlStatusAndCode, AlStatusCode, Whole, Status, Activate, PdiControl, OutArea, InArea}
-use Rattle.frame_pass.specs.of_esc_registers.declared.row.Mailbox.TheVariants.{Outward, Inward}
+use Rattle.slave_node.specs.of_esc_registers.declared.registers.Registers as Esc
+use Rattle.slave_node.specs.of_esc_registers.declared.row.Row.{Row}
+use Rattle.slave_node.specs.of_esc_registers.declared.row.Row.TheVariants.{Station, AlControl, AlStatus, AlStatusAndCode, AlStatusCode, Whole, Status, Activate, PdiControl, OutArea, InArea}
+use Rattle.slave_node.specs.of_esc_registers.declared.row.Mailbox.TheVariants.{Outward, Inward}
 use Rattle.byteorder.specs.Endian.{little_bytes}
-use Rattle.frame_pass.specs.of_esc_registers.Manager.{is_right, manager_text, status_of, pdi_control_of}
-use Rattle.frame_pass.specs.of_esc_registers.Access.{row_of, row_len, manager_of, read_row, behind_read, write_row, reads, writes, accessed, is_meant, is_by_place, passed_at, access}
+use Rattle.slave_node.specs.of_esc_registers.Manager.{is_right, manager_text, status_of, pdi_control_of}
+use Rattle.slave_node.specs.of_esc_registers.Access.{row_of, row_len, manager_of, read_row, behind_read, write_row, reads, writes, accessed, is_meant, is_by_place, passed_at, access}
 use Rattle.frames_seen.specs.Kept.{FrameKeeps}
 
 -- a row that was found has the length of the access

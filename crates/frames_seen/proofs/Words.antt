@@ -6,10 +6,10 @@ use Rattle.byteorder.specs.Endian.{little_bytes}
 use Rattle.ec_fields.specs.Fields.{number_at, bits_of}
 use Rattle.datagrams.specs.declared.command.Command.TheVariants.{Aprd, Apwr, Fprd, Fpwr}
 use Rattle.datagrams.specs.Datagram as Raw
-use Rattle.frame_pass.specs.of_esc_registers.declared.registers.Registers.{Registers}
-use Rattle.frame_pass.specs.of_esc_registers.Access.{Passed}
-use Rattle.frame_pass.specs.of_esc_registers.Manager.{status_of}
-use Rattle.frame_pass.specs.Passing.{passed}
+use Rattle.slave_node.specs.of_esc_registers.declared.registers.Registers.{Registers}
+use Rattle.slave_node.specs.of_esc_registers.Access.{Passed}
+use Rattle.slave_node.specs.of_esc_registers.Manager.{status_of}
+use Rattle.slave_node.specs.Passing.{passed}
 use Rattle.link_mails.specs.Body.{Body}
 use Rattle.mailbox_slave.specs.Kept.{Kept}
 use Rattle.segment_model.specs.Slaves.{Serving, Address, Access, Found, found_met}

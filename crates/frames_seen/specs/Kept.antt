@@ -1,6 +1,6 @@
 -- What a frame leaves of a slave's registers, whatever its octets are.
 use Rattle.std.specs.Prelude.{◌≡◌, length}
-use Rattle.frame_pass.specs.of_esc_registers.declared.registers.Registers as Esc
+use Rattle.slave_node.specs.of_esc_registers.declared.registers.Registers as Esc
 
 -- AL status and AL status code, which only the slave writes, and the lengths of its mailboxes
 pub record FrameKeeps (r q : Esc.Registers) : Type 0 where

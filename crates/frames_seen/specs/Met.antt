@@ -1,9 +1,9 @@
 -- A datagram at an open slave, as the session has it.
 use Rattle.std.specs.Prelude.{◌≡◌, ℕ}
 use Rattle.datagrams.specs.Datagram as Raw
-use Rattle.frame_pass.specs.of_esc_registers.declared.registers.Registers as Esc
-use Rattle.frame_pass.specs.of_esc_registers.Access.{Passed}
-use Rattle.frame_pass.specs.Passing.{passed}
+use Rattle.slave_node.specs.of_esc_registers.declared.registers.Registers as Esc
+use Rattle.slave_node.specs.of_esc_registers.Access.{Passed}
+use Rattle.slave_node.specs.Passing.{passed}
 use Rattle.link_mails.specs.Body.{Body}
 use Rattle.mailbox_slave.specs.Kept.{Kept}
 use Rattle.segment_model.specs.Slaves.{Serving, datagram_meets, slave_meets}

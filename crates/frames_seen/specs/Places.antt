@@ -1,7 +1,7 @@
 -- Datagrams by place, along a ring.
 use Rattle.std.specs.Prelude.{◌≡◌, ℕ, ◌+◌, ◌-◌, ◌%◌, ◌<◌, ◌==◌, true, false, List, [], ◌∷◌, ⊤}
 use Rattle.datagrams.specs.Datagram as Raw
-use Rattle.frame_pass.specs.of_esc_registers.Access.{is_by_place}
+use Rattle.slave_node.specs.of_esc_registers.Access.{is_by_place}
 
 -- behind `passed` slaves: one by place was sent to another place than this one
 abbrev pub IsElse : ℕ → ℕ → Raw.Datagram → Type 0

@@ -1,8 +1,8 @@
 -- A frame through a ring of slaves, over their registers, and what one slave has of it.
 use Rattle.std.specs.Prelude.{◌≡◌, ℕ, List, [], ◌∷◌, ⊤}
 use Rattle.datagrams.specs.Datagram as Raw
-use Rattle.frame_pass.specs.of_esc_registers.declared.registers.Registers as Esc
-use Rattle.frame_pass.specs.Passing.{registers_after, datagrams_after}
+use Rattle.slave_node.specs.of_esc_registers.declared.registers.Registers as Esc
+use Rattle.slave_node.specs.Passing.{registers_after, datagrams_after}
 use Rattle.link_mails.specs.Body.{Body}
 use Rattle.mailbox_slave.specs.Kept.{Kept}
 use Rattle.segment_model.specs.Slaves.{Serving, Datagram, slave_after, frame_after}

@@ -1,9 +1,9 @@
 -- A slave's registers and box as a session sees them.
 use Rattle.std.specs.Prelude.{◌≡◌, ℕ, ◌<◌, ◌==◌, not, true, if◌then◌else◌, Some, None, length, Ok}
 use Rattle.ec_fields.specs.Fields.{bits_of}
-use Rattle.frame_pass.specs.of_esc_registers.Manager.{is_right}
-use Rattle.frame_pass.specs.of_esc_registers.Registers.{are_areas_right}
-use Rattle.frame_pass.specs.of_esc_registers.declared.registers.Registers as Esc
+use Rattle.slave_node.specs.of_esc_registers.Manager.{is_right}
+use Rattle.slave_node.specs.of_esc_registers.Registers.{are_areas_right}
+use Rattle.slave_node.specs.of_esc_registers.declared.registers.Registers as Esc
 use Rattle.mailbox_mail.specs.declared.mail.Mail.{Mail}
 use Rattle.mailbox_mail.specs.Mail.{mail_read}
 use Rattle.mailbox_slave.specs.Kept.{Kept}

@@ -1,12 +1,16 @@
-//! Frames and slaves as a session sees them: what real registers do with a frame of octets is what the session's slaves do with its
-//! datagrams. No running code: each function here does nothing, and its contract states a law.
+//! Frames and slaves as a session sees them: what real registers do with a frame of octets is what the session's slaves do with its datagrams, what
+//! comes back from a ring is the return of what was sent, and the slave's AL state machine is the model's. No running code: each function here does
+//! nothing, and its contract states a law.
 #![tactic(auto)]
+
+pub mod ring_returns;
+pub mod state_law;
 
 ghost use Rattle.std.specs.Prelude.{◌≡◌, ◌<◌, ◌==◌, ℕ, List, false, ◌+◌, length};
 ghost use Rattle.datagrams.specs.Datagram as Raw;
 ghost use Rattle.datagrams.specs.Frame.{IsFrame};
-ghost use Rattle.frame_pass.specs.of_esc_registers.declared.registers.Registers.{Registers};
-ghost use Rattle.frame_pass.specs.Passing.{IsPassed, frame_passed, datagrams_after};
+ghost use Rattle.slave_node.specs.of_esc_registers.declared.registers.Registers.{Registers};
+ghost use Rattle.slave_node.specs.Passing.{IsPassed, frame_passed, datagrams_after};
 ghost use Rattle.link_mails.specs.Body.{Body};
 ghost use Rattle.mailbox_slave.specs.Kept.{Kept};
 ghost use Rattle.segment_model.specs.Slaves.{Serving, Slave, Datagram, frame_after};

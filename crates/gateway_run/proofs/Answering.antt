@@ -4,10 +4,10 @@ use Rattle.std.specs.Prelude.{replicate, All}
 use Rattle.std.proofs.lemmas.List.{length-map, map-append}
 use Rattle.std.proofs.lemmas.List.Elements.{All-nil, All-cons, All-head, All-tail}
 use Rattle.run_record.specs.of_served_places.Rows.{ToldAll, passed_rows, passings, replies_of}
-use Rattle.run_record.specs.of_served_places.of_served_runs.Served.{IsServedLed, Keyed, Serves, all_serve, asked_at, new_serves}
+use Rattle.run_record.specs.of_served_places.of_life_runs.Served.{IsServedLed, Keyed, Serves, all_serve, asked_at, new_serves}
 use Rattle.master_node.specs.Happened.{events_of as switch_events}
 use Rattle.master_node.specs.Ports.{ports_behind, ports_of}
-use Rattle.master_node.specs.of_life_frames.Shares.{AllBoth}
+use Rattle.master_node.specs.of_frame_view.Shares.{AllBoth}
 use Rattle.master_node.specs.of_life_runs.First.{first_leads, leads_from, lens_of}
 use Rattle.master_node.specs.of_life_runs.Led.{Exchanged, Leads}
 use Rattle.master_node.specs.of_master_tour.Made.{is_in}

@@ -5,14 +5,14 @@ use Rattle.std.proofs.lemmas.List.Elements.{All-nil, All-append, All-cons, All-h
 use Rattle.master_node.specs.Wants.{gave_of}
 use Rattle.master_node.specs.of_datagrams.Datagram as Raw
 use Rattle.master_node.specs.of_frame_view.View.{Lens}
-use Rattle.master_node.specs.of_life_frames.Shares.{AllBoth}
-use Rattle.master_node.specs.of_life_frames.of_exchange_model.Rows.{Row, begun}
+use Rattle.master_node.specs.of_frame_view.Shares.{AllBoth}
+use Rattle.master_node.specs.of_frame_view.of_exchange_model.Rows.{Row, begun}
 use Rattle.master_node.specs.of_life_runs.First.{first_leads, leads_from, lens_of}
 use Rattle.master_node.specs.of_life_runs.Led.{Exchanged, Leads, gives_up_at}
 use Rattle.master_node.specs.of_life_runs.of_link_mails.Body.{Body}
 use Rattle.master_node.specs.of_life_runs.of_segment_plan.declared.service.Service as Plan
 use Rattle.master_node.specs.of_master_duty.Reply.{Reply}
-use Rattle.master_node.specs.of_master_duty.of_state_exchange.Stated.{Service}
+use Rattle.master_node.specs.of_master_duty.of_state_model.Stated.{Service}
 use Rattle.master_node.specs.of_master_hand.Spoken.{Asked, is_passed}
 use Rattle.master_node.specs.of_segment_ring.declared.wire.Fate.{Fate}
 use Rattle.master_node.specs.of_segment_ring.declared.wire.Fate.TheVariants as Fates
@@ -24,7 +24,7 @@ use Rattle.segment_plan.specs.declared.slave.SlaveSpec.{SlaveSpec}
 use Rattle.run_record.proofs.of_served_places.Behind.{behind_stays}
 use Rattle.run_record.proofs.of_served_places.Next.{next_stays}
 use Rattle.run_record.specs.of_served_places.Rows.{Stays, passed_rows, row_begun}
-use Rattle.run_record.specs.of_served_places.of_served_runs.Served.{AllServedTurn, IsServedLed, IsServedTurn, Keyed, ServedTurn, Serves, all_serve, asked_at, new_serves, served_behind}
+use Rattle.run_record.specs.of_served_places.of_life_runs.Served.{AllServedTurn, IsServedLed, IsServedTurn, Keyed, ServedTurn, Serves, all_serve, asked_at, new_serves, served_behind}
 use Rattle.gateway_run.specs.Since.{NoneSince}
 
 -- these rows began before the frame of this number

@@ -2,13 +2,13 @@
 use Rattle.std.proofs.Common.{◌≡◌, ℕ, ◌≤◌, Bool, true, false, Option, Some, None, List, [], ◌∷◌, ◌++◌, refl, sym, ap, ◌∙◌, subst, append-nil, eqb-true}
 use Rattle.std.specs.Prelude.{◌==◌, if◌then◌else◌, map, not, slice_get, All, Ok}
 use Rattle.std.proofs.lemmas.List.Elements.{All-filter, All-head, filter_passes}
-use Rattle.master_node.specs.of_life_frames.of_exchange_model.Rows.{begun}
+use Rattle.master_node.specs.of_frame_view.of_exchange_model.Rows.{begun}
 use Rattle.gateway_core.specs.Framing.{request_in}
 use Rattle.run_record.specs.of_served_places.Rows.{Stays, passed_rows, passings, replies_of, row_begun}
 use Rattle.run_record.proofs.of_served_places.Next.{next_free, next_heard, next_over, next_passing, next_stays, waiting_row}
 use Rattle.run_record.proofs.of_served_places.Stay.{StaysOver}
-use Rattle.run_record.specs.of_served_places.of_served_runs.Served.{Keyed, Serves, ServedComes, ServedTurn, IsServedTurn}
-use Rattle.run_record.specs.of_served_places.of_served_runs.Told.{Passed}
+use Rattle.run_record.specs.of_served_places.of_life_runs.Served.{Keyed, Serves, ServedComes, ServedTurn, IsServedTurn}
+use Rattle.run_record.specs.of_served_places.of_life_runs.Told.{Passed}
 use Rattle.mailbox_mail.specs.declared.mail.Mail.{Mail}
 use Rattle.master_node.proofs.Handeds.{comes_own}
 use Rattle.master_node.specs.Begins.{is_other}
@@ -20,9 +20,9 @@ use Rattle.master_node.specs.declared.event.Event.TheVariants as events
 use Rattle.master_node.specs.declared.event.Origin.{Origin}
 use Rattle.master_node.specs.of_datagrams.Datagram as Raw
 use Rattle.master_node.specs.of_frame_view.View.{Lens}
-use Rattle.master_node.specs.of_life_frames.Shares.{AllBoth}
+use Rattle.master_node.specs.of_frame_view.Shares.{AllBoth}
 use Rattle.master_node.specs.of_life_runs.of_segment_plan.declared.service.Service as Plan
-use Rattle.master_node.specs.of_master_duty.of_state_exchange.Stated.{Service}
+use Rattle.master_node.specs.of_master_duty.of_state_model.Stated.{Service}
 use Rattle.master_node.specs.of_master_hand.Spoken.{Asked, is_passed, passed}
 use Rattle.master_node.specs.of_master_side.Passing.{passing_behind}
 use Rattle.run_book.specs.declared.book.GramIn.{GramIn}

@@ -4,8 +4,8 @@ use Rattle.std.specs.Prelude.{if◌then◌else◌, is_some, All}
 use Rattle.std.proofs.lemmas.List.Elements.{All-filter, All-weaker}
 use Rattle.run_record.proofs.of_served_places.Behind.{behind_stays, unpassed_behind}
 use Rattle.run_record.specs.of_served_places.Rows.{AreAll, Stays, passed_rows, passings, told_besides}
-use Rattle.run_record.specs.of_served_places.of_served_runs.Served.{Serves, ServedTurn, TellsSo, served_behind}
-use Rattle.run_record.specs.of_served_places.of_served_runs.Told.{Passed, replies_in, told_on}
+use Rattle.run_record.specs.of_served_places.of_life_runs.Served.{Serves, ServedTurn, TellsSo, served_behind}
+use Rattle.run_record.specs.of_served_places.of_life_runs.Told.{Passed, replies_in, told_on}
 use Rattle.master_node.specs.Gateways.{done_told, life_told, replies_told}
 use Rattle.master_node.specs.Named.{is_left}
 use Rattle.master_node.specs.Serving.{serves_of}
@@ -13,7 +13,7 @@ use Rattle.master_node.specs.Wants.{gave_of}
 use Rattle.master_node.specs.declared.event.Event.{Event}
 use Rattle.master_node.specs.of_frame_view.Seen.{seen}
 use Rattle.master_node.specs.of_frame_view.View.{Lens}
-use Rattle.master_node.specs.of_life_frames.Shares.{AllBoth}
+use Rattle.master_node.specs.of_frame_view.Shares.{AllBoth}
 use Rattle.master_node.specs.of_life_model.Lives.{Stand}
 use Rattle.master_node.specs.of_life_runs.of_link_mails.Body.{Body}
 use Rattle.master_node.specs.of_master_tour.Brings.{accepted_in}

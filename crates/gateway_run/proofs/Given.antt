@@ -4,14 +4,14 @@ use Rattle.std.specs.Prelude.{cond, filter, slice_get, All, Ok, Err}
 use Rattle.std.proofs.lemmas.List.Elements.{All-nil, All-cons, All-push, filter-append}
 use Rattle.std.proofs.lemmas.List.Quantifiers.{Any-push}
 use Rattle.master_node.specs.Wants.{gave_of}
-use Rattle.master_node.specs.of_life_frames.of_exchange_model.Rows.{Row}
+use Rattle.master_node.specs.of_frame_view.of_exchange_model.Rows.{Row}
 use Rattle.gateway_core.specs.Framing.{request_in}
 use Rattle.run_record.specs.of_served_places.Rows.{Stays, eras_rows, is_passed_row, passed_rows}
-use Rattle.run_record.specs.of_served_places.of_served_runs.Served.{Keyed, Serves}
-use Rattle.run_record.specs.of_served_places.of_served_runs.Told.{Passed, TellsOwn}
+use Rattle.run_record.specs.of_served_places.of_life_runs.Served.{Keyed, Serves}
+use Rattle.run_record.specs.of_served_places.of_life_runs.Told.{Passed, TellsOwn}
 use Rattle.mailbox_mail.specs.Mail.{error_of}
 use Rattle.mailbox_mail.specs.declared.mail.Mail.{Mail}
-use Rattle.master_node.specs.of_life_frames.Shares.{AllBoth}
+use Rattle.master_node.specs.of_frame_view.Shares.{AllBoth}
 use Rattle.master_node.specs.of_life_runs.of_link_mails.Body.{Body}
 use Rattle.master_node.specs.of_master_duty.Reply.{Reply}
 use Rattle.master_node.specs.of_master_hand.Spoken.{Asked, is_passed}

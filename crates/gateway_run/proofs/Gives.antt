@@ -6,9 +6,9 @@ use Rattle.std.proofs.lemmas.List.Elements.{All-nil, All-cons, All-head, All-tai
 use Rattle.run_record.proofs.of_served_places.Hears.{last_none, last_push}
 use Rattle.run_record.proofs.of_served_places.Stay.{StaysOver}
 use Rattle.run_record.specs.of_served_places.Rows.{last_more, passed_rows, passings, replies_of}
-use Rattle.run_record.specs.of_served_places.of_served_runs.Served.{Keyed, Serves, asked_at}
+use Rattle.run_record.specs.of_served_places.of_life_runs.Served.{Keyed, Serves, asked_at}
 use Rattle.mailbox_mail.specs.declared.mail.Mail.{Mail}
-use Rattle.master_node.specs.of_life_frames.Shares.{AllBoth}
+use Rattle.master_node.specs.of_frame_view.Shares.{AllBoth}
 use Rattle.master_node.specs.of_life_runs.of_link_mails.Body.{Body}
 use Rattle.master_node.specs.of_master_tour.Made.{is_in}
 use Rattle.master_node.specs.of_segment_model.Ends.{Passing}

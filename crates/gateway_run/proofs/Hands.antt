@@ -3,14 +3,14 @@ use Rattle.std.proofs.Common.{◌≡◌, ℕ, zero, suc, ◌<◌, ◌≤◌, Boo
 use Rattle.std.specs.Prelude.{◌==◌, if◌then◌else◌, slice_get, All}
 use Rattle.std.proofs.lemmas.List.Elements.{All-nil, All-head, All-tail, All-cons, All-push, All-weaker}
 use Rattle.master_node.specs.Wants.{gave_of}
-use Rattle.master_node.specs.of_life_frames.of_exchange_model.Exchange.{plain}
-use Rattle.master_node.specs.of_life_frames.of_exchange_model.Rows.{Row}
+use Rattle.master_node.specs.of_frame_view.of_exchange_model.Exchange.{plain}
+use Rattle.master_node.specs.of_frame_view.of_exchange_model.Rows.{Row}
 use Rattle.run_record.proofs.of_served_places.of_exchange_model.Words.{plain-append}
 use Rattle.run_record.specs.of_served_places.Rows.{Stays, passed_rows}
-use Rattle.run_record.specs.of_served_places.of_served_runs.Served.{Serves}
-use Rattle.run_record.specs.of_served_places.of_served_runs.Told.{Passed}
+use Rattle.run_record.specs.of_served_places.of_life_runs.Served.{Serves}
+use Rattle.run_record.specs.of_served_places.of_life_runs.Told.{Passed}
 use Rattle.mailbox_mail.specs.declared.mail.Mail.{Mail}
-use Rattle.master_node.specs.of_life_frames.Shares.{AllBoth}
+use Rattle.master_node.specs.of_frame_view.Shares.{AllBoth}
 use Rattle.master_node.specs.of_life_runs.of_link_mails.Body.{Body}
 use Rattle.master_node.specs.of_master_duty.Reply.{Reply}
 use Rattle.master_node.specs.of_master_hand.Spoken.{Asked, emission}

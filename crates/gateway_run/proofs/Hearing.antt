@@ -4,12 +4,12 @@ use Rattle.std.specs.Prelude.{◌≢◌, ◌==◌, ◌&&◌, cond, filter, if◌
 use Rattle.std.proofs.lemmas.List.{map-append}
 use Rattle.std.proofs.lemmas.List.Elements.{All-nil, All-append, All-cons, All-head, All-map, All-push, All-tail, All-weaker, filter-append}
 use Rattle.run_record.specs.of_served_places.Rows.{ToldAll, passed_rows}
-use Rattle.run_record.specs.of_served_places.of_served_runs.Served.{Keyed, Serves, asked_at}
-use Rattle.run_record.specs.of_served_places.of_served_runs.Told.{Passed}
+use Rattle.run_record.specs.of_served_places.of_life_runs.Served.{Keyed, Serves, asked_at}
+use Rattle.run_record.specs.of_served_places.of_life_runs.Told.{Passed}
 use Rattle.mailbox_mail.specs.declared.mail.Mail.{Mail}
 use Rattle.master_node.specs.Wants.{gave_of}
-use Rattle.master_node.specs.of_life_frames.Shares.{AllBoth}
-use Rattle.master_node.specs.of_life_frames.of_exchange_model.Rows.{Row}
+use Rattle.master_node.specs.of_frame_view.Shares.{AllBoth}
+use Rattle.master_node.specs.of_frame_view.of_exchange_model.Rows.{Row}
 use Rattle.master_node.specs.of_life_runs.of_link_mails.Body.{Body}
 use Rattle.master_node.specs.of_master_duty.Reply.{Reply}
 use Rattle.master_node.specs.of_master_hand.Spoken.{Asked}

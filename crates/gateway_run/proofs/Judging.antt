@@ -5,12 +5,12 @@ use Rattle.std.proofs.lemmas.List.Elements.{All-nil, All-append, All-cons, All-p
 use Rattle.std.proofs.lemmas.List.Sums.{count_by-le-length, length-filter}
 use Rattle.gateway_core.specs.Framing.{request_in}
 use Rattle.run_record.specs.of_served_places.Rows.{ToldAll}
-use Rattle.run_record.specs.of_served_places.of_served_runs.Served.{Keyed, MayAsk, Serves, asked_at}
+use Rattle.run_record.specs.of_served_places.of_life_runs.Served.{Keyed, MayAsk, Serves, asked_at}
 use Rattle.mailbox_mail.specs.Mail.{error_of}
 use Rattle.mailbox_mail.specs.declared.mail.Mail.{Mail}
 use Rattle.master_node.specs.Wants.{gave_of}
 use Rattle.master_node.specs.of_frame_view.View.{Lens}
-use Rattle.master_node.specs.of_life_frames.Shares.{AllBoth}
+use Rattle.master_node.specs.of_frame_view.Shares.{AllBoth}
 use Rattle.master_node.specs.of_life_runs.First.{lens_of}
 use Rattle.master_node.specs.of_life_runs.Led.{Exchanged}
 use Rattle.master_node.specs.of_master_tour.Made.{is_in}

@@ -8,14 +8,14 @@ use Rattle.master_node.specs.Events.{oldest_in, oldest_of}
 use Rattle.master_node.specs.Serving.{run_lead, run_turn}
 use Rattle.master_node.specs.of_datagrams.Datagram as Raw
 use Rattle.master_node.specs.of_frame_view.View.{Lens}
-use Rattle.master_node.specs.of_life_frames.Shares.{AllBoth}
-use Rattle.master_node.specs.of_life_frames.of_exchange_model.Rows.{Row, begun}
+use Rattle.master_node.specs.of_frame_view.Shares.{AllBoth}
+use Rattle.master_node.specs.of_frame_view.of_exchange_model.Rows.{Row, begun}
 use Rattle.master_node.specs.of_life_runs.First.{leads_from, lens_of}
 use Rattle.master_node.specs.of_life_runs.Led.{Exchanged, gives_up_at}
 use Rattle.master_node.specs.of_life_runs.of_link_mails.Body.{Body}
 use Rattle.master_node.specs.of_life_runs.of_segment_plan.declared.service.Service as Plan
 use Rattle.master_node.specs.of_master_duty.Reply.{Reply}
-use Rattle.master_node.specs.of_master_duty.of_state_exchange.Stated.{Service}
+use Rattle.master_node.specs.of_master_duty.of_state_model.Stated.{Service}
 use Rattle.master_node.specs.of_master_hand.Spoken.{Asked}
 use Rattle.run_book.specs.declared.book.GramIn.{GramIn}
 use Rattle.run_book.specs.declared.book.SlaveBook.{SlaveBook}
@@ -28,8 +28,8 @@ use Rattle.segment_plan.specs.declared.slave.SlaveSpec.{SlaveSpec}
 use Rattle.run_record.proofs.of_served_places.Behind.{behind_stays}
 use Rattle.run_record.proofs.of_served_places.Next.{next_stays}
 use Rattle.run_record.specs.of_served_places.Rows.{Stays, passed_rows, row_begun}
-use Rattle.run_record.specs.of_served_places.of_served_runs.Served.{AllServedTurn, IsServedLed, IsServedTurn, Keyed, Serves, ServedComes, ServedTurn, all_serve, asked_at, gives_it, served_behind}
-use Rattle.run_record.specs.of_served_places.of_served_runs.Told.{Passed}
+use Rattle.run_record.specs.of_served_places.of_life_runs.Served.{AllServedTurn, IsServedLed, IsServedTurn, Keyed, Serves, ServedComes, ServedTurn, all_serve, asked_at, gives_it, served_behind}
+use Rattle.run_record.specs.of_served_places.of_life_runs.Told.{Passed}
 use Rattle.gateway_run.specs.Mails.{AreLate, HasMails, IsLateRow, IsRowOf}
 use Rattle.gateway_run.specs.Replies.{AllDesk, IsLate}
 use Rattle.gateway_run.specs.declared.desk.Request.{Request}

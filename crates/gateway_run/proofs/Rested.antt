@@ -6,7 +6,7 @@ use Rattle.master_node.specs.Happened.{events_of}
 use Rattle.master_node.specs.Serving.{run_lead}
 use Rattle.master_node.specs.Wants.{AllCounted, IsServedOut}
 use Rattle.master_node.specs.of_frame_view.View.{Lens}
-use Rattle.master_node.specs.of_life_frames.Shares.{AllBoth}
+use Rattle.master_node.specs.of_frame_view.Shares.{AllBoth}
 use Rattle.master_node.specs.of_life_runs.First.{lens_of}
 use Rattle.run_book.specs.declared.book.Book.{Book}
 use Rattle.run_book.specs.declared.book.SlaveBook.{SlaveBook}
@@ -22,7 +22,7 @@ use Rattle.run_record.specs.Session.{SessionState, are_at_rest, session_rows}
 use Rattle.run_record.specs.Written.{WereServedDue}
 use Rattle.run_record.specs.of_run_notes.Switched.{SameSwitch}
 use Rattle.segment_plan.specs.declared.plan.Scenario.{Scenario}
-use Rattle.run_record.specs.of_served_places.of_served_runs.Served.{Serves}
+use Rattle.run_record.specs.of_served_places.of_life_runs.Served.{Serves}
 use Rattle.gateway_run.specs.Done.{ServedRestAll, ServedRestsSo}
 use Rattle.gateway_run.specs.Serving.{LivesOn}
 

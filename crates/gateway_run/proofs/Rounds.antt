@@ -5,8 +5,8 @@ use Rattle.std.proofs.lemmas.List.Elements.{All-filter, filter-append, filter_pa
 use Rattle.gateway_core.specs.Framing.{request_in}
 use Rattle.run_record.proofs.of_served_places.Hears.{behind_heard, behind_over}
 use Rattle.run_record.specs.of_served_places.Rows.{AreAll, HearsNoMore, passed_rows, told_besides}
-use Rattle.run_record.specs.of_served_places.of_served_runs.Served.{Serves, ServedTurn, IsServedTurn, TellsSo, accepted_by, gives_it, served_behind}
-use Rattle.run_record.specs.of_served_places.of_served_runs.Told.{Passed, TellsOwn, replies_in}
+use Rattle.run_record.specs.of_served_places.of_life_runs.Served.{Serves, ServedTurn, IsServedTurn, TellsSo, accepted_by, gives_it, served_behind}
+use Rattle.run_record.specs.of_served_places.of_life_runs.Told.{Passed, TellsOwn, replies_in}
 use Rattle.mailbox_mail.specs.declared.mail.Mail.{Mail}
 use Rattle.master_node.specs.Events.{begun_told}
 use Rattle.master_node.specs.Serving.{serves_of}

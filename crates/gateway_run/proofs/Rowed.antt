@@ -8,7 +8,7 @@ use Rattle.run_record.specs.of_packets_heard.Servings.{ServedNumbered}
 use Rattle.run_record.specs.Session.{SessionState}
 use Rattle.run_record.specs.of_eoe_switch.declared.switching.SwitchEvent.{SwitchEvent}
 use Rattle.segment_plan.specs.declared.plan.Scenario.{Scenario}
-use Rattle.run_record.specs.of_served_places.of_served_runs.Served.{IsServedLed, Serves}
+use Rattle.run_record.specs.of_served_places.of_life_runs.Served.{IsServedLed, Serves}
 use Rattle.gateway_run.specs.Account.{Owing}
 use Rattle.gateway_run.specs.Replies.{Answers}
 use Rattle.gateway_run.specs.declared.desk.Request.{Request}

@@ -4,11 +4,11 @@ use Rattle.std.specs.Prelude.{◌≢◌, ◌==◌, cond, filter, find, if◌then
 use Rattle.std.proofs.lemmas.Bool.{leb-true}
 use Rattle.std.proofs.lemmas.List.Elements.{All-nil, All-append, All-cons, All-filter, All-head, All-map, All-tail, All-weaker}
 use Rattle.run_record.proofs.of_served_places.Held.{all_has}
-use Rattle.run_record.proofs.of_served_places.of_served_runs.Tells.{HasPassed}
-use Rattle.run_record.proofs.of_served_places.of_served_runs.Telling.{serves_tell}
+use Rattle.run_record.proofs.of_served_places.of_life_runs.Tells.{HasPassed}
+use Rattle.run_record.proofs.of_served_places.of_life_runs.Telling.{serves_tell}
 use Rattle.run_record.specs.of_served_places.Rows.{ToldAll}
-use Rattle.run_record.specs.of_served_places.of_served_runs.Served.{Serves, ServedTurn, TellsSo}
-use Rattle.run_record.specs.of_served_places.of_served_runs.Told.{Passed}
+use Rattle.run_record.specs.of_served_places.of_life_runs.Served.{Serves, ServedTurn, TellsSo}
+use Rattle.run_record.specs.of_served_places.of_life_runs.Told.{Passed}
 use Rattle.mailbox_mail.specs.Mail.{error_of}
 use Rattle.mailbox_mail.specs.declared.mail.Mail.{Mail}
 use Rattle.master_node.specs.Begins.{begun_of as began_of}
@@ -23,7 +23,7 @@ use Rattle.master_node.specs.declared.event.Event.TheVariants as events
 use Rattle.master_node.specs.declared.post.Post.{Post}
 use Rattle.master_node.specs.declared.post.Work.{Work}
 use Rattle.master_node.specs.of_frame_view.View.{Lens}
-use Rattle.master_node.specs.of_life_frames.Shares.{AllBoth, AllThree}
+use Rattle.master_node.specs.of_frame_view.Shares.{AllBoth, AllThree}
 use Rattle.master_node.specs.of_life_model.Lives.{Stand}
 use Rattle.master_node.specs.of_life_runs.First.{first_leads, lens_of}
 use Rattle.master_node.specs.of_life_runs.Led.{Exchanged, gives_up_at}

@@ -6,12 +6,12 @@ use Rattle.std.proofs.lemmas.List.Elements.{All-nil, All-head, All-push, All-tai
 use Rattle.gateway_core.specs.Framing.{request_in}
 use Rattle.gateway_core.specs.Gateway.{is_passed, judged_at, place_from, unfinished_at}
 use Rattle.gateway_core.specs.declared.asker.Asker.{Asker}
-use Rattle.run_record.specs.of_served_places.of_served_runs.Served.{Serves, served_behind}
+use Rattle.run_record.specs.of_served_places.of_life_runs.Served.{Serves, served_behind}
 use Rattle.mailbox_mail.specs.Mail.{error_of}
 use Rattle.mailbox_mail.specs.declared.mail.Mail.{Mail}
 use Rattle.master_node.specs.Serving.{run_lead}
 use Rattle.master_node.specs.Wants.{gave_of}
-use Rattle.master_node.specs.of_life_frames.Shares.{AllBoth}
+use Rattle.master_node.specs.of_frame_view.Shares.{AllBoth}
 use Rattle.master_node.specs.of_life_runs.First.{lens_of}
 use Rattle.master_node.specs.of_life_runs.Led.{gives_up_at}
 use Rattle.run_book.specs.declared.book.GramIn.{GramIn}
@@ -30,7 +30,7 @@ use Rattle.segment_plan.specs.declared.plan.Scenario.{Scenario}
 use Rattle.master_node.specs.of_segment_ring.declared.wire.Fate.{Fate}
 use Rattle.master_node.specs.of_segment_ring.declared.wire.Fate.TheVariants as Fates
 use Rattle.slab.specs.Slab.{Slab}
-use Rattle.run_book.specs.of_slave_steps.Node.{Node}
+use Rattle.run_book.specs.of_slave_node.Node.{Node}
 use Rattle.run_book.specs.of_slave_server.declared.server.SlaveServer.{SlaveServer}
 use Rattle.gateway_run.specs.Account.{Owing, Course, Course.begins, Course.hears, Course.steps, Judges, Judges.ignored as is_ignored, Judges.refused as is_refused, Judges.too_many, Judges.queues}
 use Rattle.gateway_run.specs.Events.{events_of}

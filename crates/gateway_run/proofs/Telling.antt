@@ -5,12 +5,12 @@ use Rattle.std.proofs.lemmas.List.Elements.{All-filter, All-map, All-weaker}
 use Rattle.gateway_core.specs.Framing.{request_in}
 use Rattle.run_record.proofs.of_served_places.Stay.{StaysOver, passings_last}
 use Rattle.run_record.specs.of_served_places.Rows.{AreAll, Stays, last_more, passed_rows, passings, replies_of}
-use Rattle.run_record.specs.of_served_places.of_served_runs.Served.{Serves}
-use Rattle.run_record.specs.of_served_places.of_served_runs.Told.{Passed, TellsOwn}
+use Rattle.run_record.specs.of_served_places.of_life_runs.Served.{Serves}
+use Rattle.run_record.specs.of_served_places.of_life_runs.Told.{Passed, TellsOwn}
 use Rattle.mailbox_mail.specs.declared.mail.Mail.{Mail}
 use Rattle.master_node.specs.Wants.{gave_of}
 use Rattle.master_node.specs.declared.event.Event.{Event}
-use Rattle.master_node.specs.of_life_frames.Shares.{AllBoth}
+use Rattle.master_node.specs.of_frame_view.Shares.{AllBoth}
 use Rattle.master_node.specs.of_life_runs.of_link_mails.Body.{Body}
 use Rattle.master_node.specs.of_master_hand.Spoken.{is_passed}
 use Rattle.master_node.specs.of_master_tour.Made.{is_in}

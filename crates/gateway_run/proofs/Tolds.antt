@@ -3,8 +3,8 @@ use Rattle.std.proofs.Common.{◌≡◌, ◌≤◌, ℕ, zero, suc, Bool, true, 
 use Rattle.std.specs.Prelude.{◌&&◌, cond, nat_lt, if◌then◌else◌, is_some, filter, slice_get, Ok, Err}
 use Rattle.std.proofs.lemmas.Bool.{le-ltb, lt-ltb}
 use Rattle.run_record.proofs.of_served_places.Unread.{unread_accepted, unread_passing}
-use Rattle.run_record.specs.of_served_places.of_served_runs.Served.{Serves, ServedTurn, IsServedTurn, gives_it, served_behind}
-use Rattle.run_record.specs.of_served_places.of_served_runs.Told.{Passed, replies_in}
+use Rattle.run_record.specs.of_served_places.of_life_runs.Served.{Serves, ServedTurn, IsServedTurn, gives_it, served_behind}
+use Rattle.run_record.specs.of_served_places.of_life_runs.Told.{Passed, replies_in}
 use Rattle.master_node.proofs.Counts.{lost_gave}
 use Rattle.master_node.specs.Begins.{begun_of as began_of}
 use Rattle.master_node.specs.Besides.{given_told}
@@ -21,13 +21,13 @@ use Rattle.master_node.specs.of_datagrams.Datagram as Raw
 use Rattle.master_node.specs.of_datagrams.Frame.{IsFrame, chained}
 use Rattle.master_node.specs.of_frame_view.Seen.{seen}
 use Rattle.master_node.specs.of_frame_view.View.{Lens}
-use Rattle.master_node.specs.of_life_frames.Shares.{given_where}
-use Rattle.master_node.specs.of_life_frames.of_exchange_model.Exchange.{Speech}
+use Rattle.master_node.specs.of_frame_view.Shares.{given_where}
+use Rattle.master_node.specs.of_frame_view.of_exchange_model.Exchange.{Speech}
 use Rattle.master_node.specs.of_life_model.Lives.{Life, Spot, Stand, gives_up, life_lost}
 use Rattle.master_node.specs.of_life_runs.Led.{Exchanged, speech_at}
 use Rattle.master_node.specs.of_life_runs.of_link_mails.Body.{Body}
 use Rattle.master_node.specs.of_master_duty.Reply.{Reply}
-use Rattle.master_node.specs.of_master_duty.of_state_exchange.Stated.{Service}
+use Rattle.master_node.specs.of_master_duty.of_state_model.Stated.{Service}
 use Rattle.master_node.specs.of_master_hand.Spoken.{Asked, acknowledged, is_followed, is_passed}
 use Rattle.master_node.specs.of_master_side.Passing.{news_lost}
 use Rattle.master_node.specs.of_master_tour.Brings.{accepted_in}

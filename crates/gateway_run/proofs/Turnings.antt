@@ -6,10 +6,10 @@ use Rattle.gateway_core.specs.Framing.{request_in}
 use Rattle.run_record.proofs.of_served_places.All.{goes_told, same_stand, turn_held}
 use Rattle.run_record.proofs.of_served_places.Held.{next_has}
 use Rattle.run_record.proofs.of_served_places.Next.{next_free, next_passing}
-use Rattle.run_record.proofs.of_served_places.of_served_runs.Tells.{HasPassed}
+use Rattle.run_record.proofs.of_served_places.of_life_runs.Tells.{HasPassed}
 use Rattle.run_record.specs.of_served_places.Rows.{AreAll, HearsNoMore, IsHeld, StandsTold, ToldAll}
-use Rattle.run_record.specs.of_served_places.of_served_runs.Served.{AllServedTurn, IsServedTurn, Keyed, ServedComes, Serves, ServedTurn, TellsSo, gives_it}
-use Rattle.run_record.specs.of_served_places.of_served_runs.Told.{Passed, replies_in, told_on}
+use Rattle.run_record.specs.of_served_places.of_life_runs.Served.{AllServedTurn, IsServedTurn, Keyed, ServedComes, Serves, ServedTurn, TellsSo, gives_it}
+use Rattle.run_record.specs.of_served_places.of_life_runs.Told.{Passed, replies_in, told_on}
 use Rattle.mailbox_mail.specs.declared.mail.Mail.{Mail}
 use Rattle.master_node.proofs.Counts.{lost_gave}
 use Rattle.master_node.proofs.Handeds.{comes_own}
@@ -21,17 +21,17 @@ use Rattle.master_node.specs.Shows.{is_carried}
 use Rattle.master_node.specs.Wants.{gave_of}
 use Rattle.master_node.specs.declared.event.Event.{Event}
 use Rattle.master_node.specs.declared.event.Event.TheVariants as events
-use Rattle.run_record.specs.of_served_places.of_counters_kept.Lives.{LifeKept}
+use Rattle.run_record.specs.of_served_places.of_life_runs.Lives.{LifeKept}
 use Rattle.master_node.specs.of_datagrams.Datagram as Raw
 use Rattle.master_node.specs.of_datagrams.Frame.{IsFrame, chained}
 use Rattle.master_node.specs.of_frame_view.Seen.{seen}
 use Rattle.master_node.specs.of_frame_view.View.{Lens}
-use Rattle.master_node.specs.of_life_frames.Shares.{AllBoth, given_where}
+use Rattle.master_node.specs.of_frame_view.Shares.{AllBoth, given_where}
 use Rattle.master_node.specs.of_life_model.Lives.{Life, Stand, life_lost}
 use Rattle.master_node.specs.of_life_runs.Led.{speech_at}
 use Rattle.master_node.specs.of_life_runs.of_link_mails.Body.{Body}
 use Rattle.master_node.specs.of_life_runs.of_segment_plan.declared.service.Service as Plan
-use Rattle.master_node.specs.of_master_duty.of_state_exchange.Stated.{Service}
+use Rattle.master_node.specs.of_master_duty.of_state_model.Stated.{Service}
 use Rattle.master_node.specs.of_master_duty.Reply.{Reply}
 use Rattle.master_node.specs.of_master_hand.Spoken.{Asked, acknowledged, is_followed, is_passed}
 use Rattle.master_node.specs.of_master_side.Passing.{news_back, news_lost, passing_behind}

@@ -3,12 +3,12 @@ use Rattle.std.proofs.Common.{◌≡◌, ◌<◌, ◌≤◌, ◌⊎◌, ℕ, tru
 use Rattle.std.specs.Prelude.{Option, Some, None, Ok, slice_index_or}
 use Rattle.std.proofs.lemmas.List.Elements.{All-cons, All-nil}
 use Rattle.std.proofs.lemmas.List.Quantifiers.{Any-push}
-use Rattle.run_record.specs.of_served_places.of_served_runs.Served.{Serves}
+use Rattle.run_record.specs.of_served_places.of_life_runs.Served.{Serves}
 use Rattle.mailbox_mail.specs.Mail.{error_of}
 use Rattle.mailbox_mail.specs.declared.mail.Kind.TheVariants.{SoE}
 use Rattle.mailbox_mail.specs.declared.mail.Mail.{Mail}
 use Rattle.gateway_core.specs.declared.framing.GatewayFault.TheVariants as faults
-use Rattle.master_node.specs.of_life_frames.of_exchange_model.Rows.{Row}
+use Rattle.master_node.specs.of_frame_view.of_exchange_model.Rows.{Row}
 use Rattle.master_node.specs.of_life_runs.of_link_mails.Body.{Body}
 use Rattle.master_node.specs.of_master_duty.Reply.{Reply}
 use Rattle.master_node.specs.of_master_hand.Spoken.{Asked, passed}

@@ -3,9 +3,9 @@ use Rattle.std.specs.Prelude.{◌≡◌, ◌⊎◌, ℕ, suc, Bool, true, false,
 use Rattle.mailbox_mail.specs.Mail.{error_of}
 use Rattle.mailbox_mail.specs.declared.mail.Mail.{Mail}
 use Rattle.run_record.specs.of_served_places.Rows.{AreAll}
-use Rattle.run_record.specs.of_served_places.of_served_runs.Served.{Serves}
+use Rattle.run_record.specs.of_served_places.of_life_runs.Served.{Serves}
 use Rattle.master_node.specs.Serving.{run_lead}
-use Rattle.master_node.specs.of_life_frames.Shares.{AllBoth}
+use Rattle.master_node.specs.of_frame_view.Shares.{AllBoth}
 use Rattle.master_node.specs.of_life_runs.First.{lens_of}
 use Rattle.master_node.specs.of_master_tour.Made.{is_in}
 use Rattle.master_node.specs.Wants.{IsMailless, gave_of}
@@ -16,7 +16,7 @@ use Rattle.run_book.specs.declared.book.Book.{Book}
 use Rattle.run_book.specs.declared.book.GramIn.{GramIn}
 use Rattle.run_book.specs.declared.book.SlaveBook.{SlaveBook}
 use Rattle.run_book.specs.of_slave_server.Serving.{next_mail}
-use Rattle.run_book.specs.of_slave_steps.Node.{is_settled}
+use Rattle.run_book.specs.of_slave_node.Node.{is_settled}
 pub use Rattle.run_record.specs.Led.{LeavesNone}
 use Rattle.run_record.specs.Led.{LeavesNoPacket}
 use Rattle.segment_plan.specs.declared.plan.Scenario.{Scenario}

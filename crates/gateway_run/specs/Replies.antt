@@ -1,17 +1,17 @@
 -- WHAT EACH DATAGRAM OF A SERVING GOT, by the lives of the slaves: nothing, one error, or the first of the replies of its own row, and all of them where that is
 -- done.
 use Rattle.std.specs.Prelude.{◌≡◌, ◌≢◌, ◌<◌, ◌≤◌, ◌⊎◌, ℕ, suc, Bool, true, false, Option, Some, None, List, [], ◌∷◌, ◌++◌, length, map, slice_get, All, Ok, Err, ⊤}
-use Rattle.master_node.specs.of_life_frames.of_exchange_model.Exchange.{plain}
+use Rattle.master_node.specs.of_frame_view.of_exchange_model.Exchange.{plain}
 use Rattle.master_node.specs.Wants.{gave_of}
-use Rattle.master_node.specs.of_life_frames.of_exchange_model.Rows.{Row}
+use Rattle.master_node.specs.of_frame_view.of_exchange_model.Rows.{Row}
 use Rattle.gateway_core.specs.Framing.{request_in}
 use Rattle.gateway_core.specs.declared.framing.GatewayFault.{GatewayFault}
 use Rattle.run_record.specs.of_served_places.Rows.{AreAll, HearsNoMore, ToldAll, passed_rows, passings, replies_of}
-use Rattle.run_record.specs.of_served_places.of_served_runs.Served.{IsServedFrame, Keyed, ServedTurn, Serves}
-use Rattle.run_record.specs.of_served_places.of_served_runs.Told.{Passed}
+use Rattle.run_record.specs.of_served_places.of_life_runs.Served.{IsServedFrame, Keyed, ServedTurn, Serves}
+use Rattle.run_record.specs.of_served_places.of_life_runs.Told.{Passed}
 use Rattle.mailbox_mail.specs.Mail.{error_of}
 use Rattle.mailbox_mail.specs.declared.mail.Mail.{Mail}
-use Rattle.master_node.specs.of_life_frames.Shares.{AllBoth}
+use Rattle.master_node.specs.of_frame_view.Shares.{AllBoth}
 use Rattle.master_node.specs.of_life_runs.First.{lens_of}
 use Rattle.master_node.specs.of_life_runs.Led.{Exchanged}
 use Rattle.master_node.specs.of_life_runs.of_link_mails.Body.{Body}

@@ -7,21 +7,21 @@ use Rattle.mailbox_mail.specs.declared.mail.Mail.{Mail}
 use Rattle.mailbox_mail.specs.declared.outcome.Took.{Took}
 use Rattle.exchange_model.specs.Areas.{Areas}
 use Rattle.exchange_model.specs.Dialogue.{Turn, next, again, stop, chosen, turn_at, said}
-use Rattle.coe_model.specs.Mails as CoeMails
-use Rattle.coe_model.specs.Octets.{coe_mail_heard, coe_mail_written}
-use Rattle.coe_model.specs.Client as CoeClient
-use Rattle.coe_model.specs.Model as CoeModel
+use Rattle.protocol_models.specs.CoeMails as CoeMails
+use Rattle.protocol_models.specs.CoeOctets.{coe_mail_heard, coe_mail_written}
+use Rattle.protocol_models.specs.CoeClient as CoeClient
+use Rattle.protocol_models.specs.CoeModel as CoeModel
 use Rattle.coe_client.specs.Talk as CoeTalk
 use Rattle.coe_client.specs.Hear as CoeHear
 use Rattle.coe_client.specs.Send as CoeSend
 use Rattle.coe_client.specs.declared.state.Awaits as CoeAwaits
 use Rattle.coe_client.specs.declared.state.Task.{Task}
 use Rattle.coe_client.specs.declared.state.Unsent as CoeUnsent
-use Rattle.foe_model.specs.Mails as FoeMails
-use Rattle.foe_model.specs.Octets.{foe_mail_heard, foe_mail_written}
-use Rattle.foe_model.specs.Meaning as FoeMeaning
-use Rattle.foe_model.specs.Client as FoeClient
-use Rattle.foe_model.specs.Model as FoeModel
+use Rattle.protocol_models.specs.FoeMails as FoeMails
+use Rattle.protocol_models.specs.FoeOctets.{foe_mail_heard, foe_mail_written}
+use Rattle.protocol_models.specs.FoeMeaning as FoeMeaning
+use Rattle.protocol_models.specs.FoeClient as FoeClient
+use Rattle.protocol_models.specs.FoeModel as FoeModel
 use Rattle.foe_client.specs.Talk as FoeTalk
 use Rattle.foe_client.specs.Hear as FoeHear
 use Rattle.foe_client.specs.Send as FoeSend

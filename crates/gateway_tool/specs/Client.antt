@@ -7,9 +7,9 @@ use Rattle.mailbox_mail.specs.declared.mail.Kind.{Kind}
 use Rattle.mailbox_mail.specs.declared.outcome.ReplyKind.{ReplyKind}
 use Rattle.mailbox_mail.specs.declared.outcome.Took.{Took}
 use Rattle.exchange_model.specs.Areas.{Areas}
-use Rattle.coe_model.specs.Octets.{coe_mail_heard, coe_mail_written}
+use Rattle.protocol_models.specs.CoeOctets.{coe_mail_heard, coe_mail_written}
 use Rattle.coe_client.specs.Talk as CoeTalk
-use Rattle.foe_model.specs.Octets.{foe_mail_heard, foe_mail_written}
+use Rattle.protocol_models.specs.FoeOctets.{foe_mail_heard, foe_mail_written}
 use Rattle.foe_client.specs.Talk as FoeTalk
 use Rattle.segment_plan.specs.declared.service.Service.{Service}
 use Rattle.gateway_tool.specs.Rule.{planned, ends}

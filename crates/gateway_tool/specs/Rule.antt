@@ -8,14 +8,14 @@ use Rattle.mailbox_mail.specs.declared.mail.Mail.{Mail}
 use Rattle.mailbox_mail.specs.declared.outcome.ReplyKind.{ReplyKind}
 use Rattle.link_model.specs.Counters.{counter_of}
 use Rattle.exchange_model.specs.Areas.{Areas}
-use Rattle.coe_model.specs.Octets.{coe_mail_heard, coe_mail_written}
-use Rattle.coe_model.specs.Model as CoeModel
-use Rattle.coe_model.specs.Client as CoeClient
+use Rattle.protocol_models.specs.CoeOctets.{coe_mail_heard, coe_mail_written}
+use Rattle.protocol_models.specs.CoeModel as CoeModel
+use Rattle.protocol_models.specs.CoeClient as CoeClient
 use Rattle.coe_client.specs.Talk.{service_view}
-use Rattle.foe_model.specs.Octets.{foe_mail_heard, foe_mail_written}
-use Rattle.foe_model.specs.Meaning.{read, write}
-use Rattle.foe_model.specs.Model as FoeModel
-use Rattle.foe_model.specs.Client as FoeClient
+use Rattle.protocol_models.specs.FoeOctets.{foe_mail_heard, foe_mail_written}
+use Rattle.protocol_models.specs.FoeMeaning.{read, write}
+use Rattle.protocol_models.specs.FoeModel as FoeModel
+use Rattle.protocol_models.specs.FoeClient as FoeClient
 use Rattle.object_dictionary.specs.declared.service.SdoService.{SdoService}
 use Rattle.segment_plan.specs.Sound.{IsSdo, IsName}
 use Rattle.segment_plan.specs.declared.service.Service.{Service}

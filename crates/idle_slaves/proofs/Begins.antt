@@ -6,7 +6,7 @@ use Rattle.exchange_model.specs.Exchange.{Speech}
 use Rattle.frame_view.specs.View.{Lens}
 use Rattle.idle_slaves.specs.Visited.{IsFor, is_boxed}
 use Rattle.idle_slaves.specs.Waiting.{Wanted}
-use Rattle.life_measure.specs.Repairs.{way_of, stand_way, half_way}
+use Rattle.life_model.specs.Repairs.{way_of, stand_way, half_way}
 use Rattle.life_model.specs.Lives.{Life, Spot, Stand, returns_to_init}
 use Rattle.link_mails.specs.Body.{Body}
 use Rattle.link_model.specs.Link.{Halves}
@@ -21,8 +21,8 @@ use Rattle.segment_model.specs.Slaves.{serving}
 use Rattle.segment_plan.specs.declared.service.Service as Plan
 use Rattle.segment_plan.specs.declared.slave.SlaveSpec.{SlaveSpec}
 use Rattle.plan_ring.specs.of_slave_server.Serving.{Serving}
-use Rattle.slave_steps.specs.Node.{Node}
-use Rattle.task_model.specs.Accounts.{Duty, Stage}
+use Rattle.slave_node.specs.Node.{Node}
+use Rattle.state_model.specs.Accounts.{Duty, Stage}
 use Rattle.idle_slaves.proofs.Fits.{IsFit, exchange_at, table_at}
 
 clear_way : (state : InState) → half_way 1 1 state ≡ None → state ≡ InState.Clear

@@ -3,7 +3,7 @@ use Rattle.std.proofs.Common.{◌≡◌, ℕ, ◌==◌, Bool, true, false, Optio
 use Rattle.std.specs.Prelude.{◌&&◌, not, option_map, drop}
 use Rattle.exchange_model.specs.Exchange.{Speech, plain}
 use Rattle.exchange_model.specs.Rows.{Row, left, row_heard, answer_after}
-use Rattle.never_waits.specs.Moments.{NowAnswered}
+use Rattle.slave_model.specs.Moments.{NowAnswered}
 use Rattle.idle_slaves.specs.Visited.{IsFor}
 use Rattle.idle_slaves.specs.Waiting.{Wanted}
 use Rattle.idle_slaves.proofs.Returning.{reopens_era}
@@ -14,7 +14,7 @@ use Rattle.segment_model.specs.Ends.{Passing}
 use Rattle.segment_model.specs.Record.{News, is_for}
 use Rattle.segment_model.specs.Seats.{side_back}
 use Rattle.segment_model.specs.Slaves.{Datagram, Found, grams}
-use Rattle.task_model.specs.Accounts.{Duty, account_back, account_met, account_by, access_done}
+use Rattle.state_model.specs.Accounts.{Duty, account_back, account_met, account_by, access_done}
 
 module _ {M Q R : Type 0} (x : Speech M Q R) (acknowledged : Q → Bool) (more : M → Bool) (passed : Q → Bool) (frame : ℕ) (spot : Spot) (ns : List (News M)) (back : List (Datagram M)) (came : Option (Bool × Option Found)) (l : Life M Q R) (stands : l.stand ≡ Stand.Open) where
   abbrev pub behind : Life M Q R

@@ -10,8 +10,8 @@ use Rattle.link_model.specs.Slave.{Node}
 use Rattle.plan_ring.proofs.of_run_frames.Access.{begins_same, holds_same}
 use Rattle.segment_model.specs.Ends.{Passing}
 use Rattle.segment_model.specs.Seats.{Side, Choice, side_begins, side_holds, side_next, next_mail, first_left, is_over}
-use Rattle.state_exchange.specs.Stated.{Service}
-use Rattle.task_model.specs.Accounts.{Account, Duty, Pick, mails_begin, mails_choice, account_begins, account_next}
+use Rattle.state_model.specs.Stated.{Service}
+use Rattle.state_model.specs.Accounts.{Account, Duty, Pick, mails_begin, mails_choice, account_begins, account_next}
 
 module _ {M Q R : Type 0} (x : Speech M Q R) (frame : ℕ) where
   -- the inward half stays

@@ -11,8 +11,8 @@ use Rattle.link_model.specs.Slave.{Node, Server}
 use Rattle.plan_ring.specs.of_run_frames.Waits.{Waits}
 use Rattle.segment_model.specs.Ends.{Passing}
 use Rattle.segment_model.specs.Seats.{Side, Choice, side_begins, side_holds, side_next, next_mail, first_left, is_over, is_none_left}
-use Rattle.state_exchange.specs.Stated.{Service}
-use Rattle.task_model.specs.Accounts.{Account, Duty, Pick, Stage, account_begins, mails_begin, mails_choice, is_free, is_acknowledged, starts, state_begins}
+use Rattle.state_model.specs.Stated.{Service}
+use Rattle.state_model.specs.Accounts.{Account, Duty, Pick, Stage, account_begins, mails_begin, mails_choice, is_free, is_acknowledged, starts, state_begins}
 use Rattle.idle_slaves.specs.Waiting.{Wanted, Memory, Coming}
 use Rattle.idle_slaves.specs.Visited.{IsFor, IsUnpaused, Waiting, Chosen, is_boxed, is_served, memory_next}
 

@@ -12,15 +12,15 @@ use Rattle.segment_model.specs.Laws.{EachSeat}
 use Rattle.segment_model.specs.Record.{Frame, News}
 use Rattle.segment_model.specs.Seats.{Side, Seat, Planned, IsFrame, ring_of, sides_of, seat_next, seats_next, seat_back, seats_after, seats_back, seats_lost, side_lost, seat_steps, new_seats}
 use Rattle.segment_model.specs.Slaves.{Processor, Datagram, Registers, Ring, Slave, slave_after, frame_after, ring_back}
-use Rattle.state_exchange.specs.Stated.{Stated, Service}
+use Rattle.state_model.specs.Stated.{Stated, Service}
 use Rattle.state_model.specs.States as States
 use Rattle.state_model.specs.States.{Table, Phase}
-use Rattle.task_model.proofs.Carries.{carry_place}
-use Rattle.task_model.proofs.Rings.{SamePlace, same_place, place_on}
-use Rattle.task_model.proofs.Served.{Served}
-use Rattle.task_model.proofs.Walks.{EachOne, IsPlaced, AllApart, SeatMet, seats_apart, all_apart, all_reach, each_map, each_next, each_back, each_lost, each_steps}
-use Rattle.task_model.specs.Accounts.{Account, Duty, Stage, Pick, mails_choice, account_begins, account_next, account_back, is_free, is_acknowledged, state_begins}
-use Rattle.task_model.specs.Tasks.{Answers, IsBrought, CarriesWords, AllBrought, TaskTurn, TaskSession, AreServed, MayRun, IsTasked, IsTaskPlan, mails_choices, accounts_next, accounts_after, happens, run, new_accounts, new_tasks}
+use Rattle.state_model.proofs.Carries.{carry_place}
+use Rattle.state_model.proofs.Rings.{SamePlace, same_place, place_on}
+use Rattle.state_model.proofs.Served.{Served}
+use Rattle.state_model.proofs.Walks.{EachOne, IsPlaced, AllApart, SeatMet, seats_apart, all_apart, all_reach, each_map, each_next, each_back, each_lost, each_steps}
+use Rattle.state_model.specs.Accounts.{Account, Duty, Stage, Pick, mails_choice, account_begins, account_next, account_back, is_free, is_acknowledged, state_begins}
+use Rattle.state_model.specs.Tasks.{Answers, IsBrought, CarriesWords, AllBrought, TaskTurn, TaskSession, AreServed, MayRun, IsTasked, IsTaskPlan, mails_choices, accounts_next, accounts_after, happens, run, new_accounts, new_tasks}
 use Rattle.idle_slaves.proofs.Events.{ComesTo, FitsStage, Fits, new_come, same_come, step_come, begun_come, wrote_come, lost_come, looked_come}
 
 -- a service in hand before a frame: it was, or came into hand and drains

@@ -1,8 +1,8 @@
 -- By a master's rule at a visit: where a state service might begin behind a write in vain, none is left.
 use Rattle.std.proofs.Common.{◌≡◌, ℕ, ◌&&◌, Bool, true, false, Option, Some, None, List, [], ◌∷◌, length, length-append, refl, sym, ap, ◌∙◌, subst, arith, if◌then◌else◌}
-use Rattle.never_waits.specs.Moments.{IsFree, HeldStill, NowAnswered}
-use Rattle.never_waits.proofs.Laws.{answered, begun}
-use Rattle.never_waits.proofs.Ready.{ready}
+use Rattle.slave_model.specs.Moments.{IsFree, HeldStill, NowAnswered}
+use Rattle.slave_model.proofs.Laws.{answered, begun}
+use Rattle.slave_model.proofs.Ready.{ready}
 use Rattle.exchange_model.specs.Exchange.{Exchange, Speech, IsLawful}
 use Rattle.exchange_model.specs.Rows.{Row, ends_unheard, left}
 use Rattle.idle_slaves.specs.Held.{Took}
@@ -15,9 +15,9 @@ use Rattle.segment_model.specs.Ends.{Passing}
 use Rattle.segment_model.specs.Record.{Frame}
 use Rattle.segment_model.specs.Seats.{Side, side_back, side_next}
 use Rattle.segment_model.specs.Slaves.{Datagram, Processor, Registers, Slave}
-use Rattle.state_exchange.specs.Stated.{Stated, IsStated, Service}
+use Rattle.state_model.specs.Stated.{Stated, IsStated, Service}
 use Rattle.state_model.specs.States.{Table}
-use Rattle.task_model.specs.Accounts.{Account, Duty, Pick, account_begins, is_free, is_acknowledged, mails_begin, starts, state_begins}
+use Rattle.state_model.specs.Accounts.{Account, Duty, Pick, account_begins, is_free, is_acknowledged, mails_begin, starts, state_begins}
 
 granted_none : {Q : Type 0} (passing : Option Passing) (pick : Pick Q) → pick.begin ≡ None → (granted passing pick).begin ≡ None
 granted_none None pick none = none

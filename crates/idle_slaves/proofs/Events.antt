@@ -5,8 +5,8 @@ use Rattle.link_model.specs.Link.{Fate, is_met}
 use Rattle.segment_model.specs.Record.{News}
 use Rattle.segment_model.specs.Slaves.{Registers}
 use Rattle.state_model.specs.States.{Table, Phase, Hand, States, Event, Turn, happens, run, begins, writes, looks, returned, turned, shown, reads, word_of, word_met, phase_behind, phase_written, carry}
-use Rattle.task_model.specs.Accounts.{Account, Duty, Stage, account_by, turn_progress}
-use Rattle.task_model.proofs.Served.{duty_of}
+use Rattle.state_model.specs.Accounts.{Account, Duty, Stage, account_by, turn_progress}
+use Rattle.state_model.proofs.Served.{duty_of}
 
 run_more : {M R : Type 0} (table : Table) (w : States M R) (es : List Event) (e : Event) → run table w (es ++ e ∷ []) ≡ happens table (run table w es) e
 run_more table w [] e = refl

@@ -2,7 +2,7 @@
 use Rattle.std.proofs.Common.{◌≡◌, ℕ, Bool, true, false, is_some, Option, Some, None, List, [], ◌∷◌, refl, sym, ap, ◌∙◌, subst, arith, if◌then◌else◌, inl, inr}
 use Rattle.idle_slaves.specs.Visited.{IsFor, Waiting, visit_for}
 use Rattle.idle_slaves.specs.Waiting.{Wanted, Memory, IsWaiting}
-use Rattle.life_measure.specs.Visits.{Visit}
+use Rattle.life_model.specs.Visits.{Visit}
 use Rattle.life_model.specs.Lives.{Life}
 use Rattle.link_mails.specs.Body.{Body}
 use Rattle.link_model.specs.Frames.{Ask, node_meets}
@@ -16,7 +16,7 @@ use Rattle.segment_model.specs.Ends.{Passing}
 use Rattle.segment_model.specs.Slaves.{Datagram, Serving, Slave, Registers, slave_after, slave_meets, registers_met}
 use Rattle.state_model.specs.States.{Table, carry, word_carried, decided}
 use Rattle.idle_slaves.specs.Steps.{NotGone}
-use Rattle.task_model.specs.Accounts.{Duty, Stage}
+use Rattle.state_model.specs.Accounts.{Duty, Stage}
 use Rattle.idle_slaves.specs.Eager.{AsksVisit, AsksStage, AsksFor, IsDraining}
 use Rattle.idle_slaves.specs.Standing.{Steps, Unvisited}
 

@@ -6,11 +6,11 @@ use Rattle.idle_slaves.specs.Standing.{IsDone}
 use Rattle.exchange_model.specs.Exchange.{Exchange, Speech}
 use Rattle.exchange_model.specs.Rows.{Row, left}
 use Rattle.frame_view.specs.View.{Lens}
-use Rattle.never_waits.specs.Moments.{NowAnswered}
+use Rattle.slave_model.specs.Moments.{NowAnswered}
 use Rattle.idle_slaves.specs.Going.{IsCome}
 use Rattle.idle_slaves.specs.Links.{HasLink}
 use Rattle.idle_slaves.specs.Visited.{LifeSpent}
-use Rattle.life_measure.specs.Gains.{gains}
+use Rattle.life_model.specs.Gains.{gains}
 use Rattle.life_model.specs.Lives.{Era, Life, Spot, Stand, life_next}
 use Rattle.life_model.specs.Own.{own}
 use Rattle.plan_ring.specs.of_life_runs.Led.{Leads, Took, speech_at, is_passed}
@@ -27,15 +27,15 @@ use Rattle.segment_plan.specs.declared.service.Service as Plan
 use Rattle.segment_plan.specs.declared.slave.SlaveSpec.{SlaveSpec}
 use Rattle.slave_lives.specs.Lived.{table_of}
 use Rattle.slave_parts.specs.Parts.{Core, Server}
-use Rattle.slave_parts.specs.of_eoe_model.Network.{Station}
+use Rattle.slave_parts.specs.of_protocol_models.Network.{Station}
 use Rattle.plan_ring.specs.of_slave_server.Serving.{Serving}
 use Rattle.plan_ring.specs.of_slave_server.Spec.{profile_of}
-use Rattle.slave_steps.specs.Node.{Node}
-use Rattle.state_exchange.specs.Families.{InState}
-use Rattle.state_exchange.specs.Stated.{Service}
+use Rattle.slave_node.specs.Node.{Node}
+use Rattle.state_model.specs.Families.{InState}
+use Rattle.state_model.specs.Stated.{Service}
 use Rattle.state_model.specs.States.{Table, Phase}
 use Rattle.idle_slaves.specs.Steps.{StepsAlone}
-use Rattle.task_model.specs.Accounts.{Duty, Pick, Stage}
+use Rattle.state_model.specs.Accounts.{Duty, Pick, Stage}
 use Rattle.idle_slaves.specs.WaitEager.{IsResting}
 
 abbrev pub Slave : Type 0

@@ -2,8 +2,8 @@
 use Rattle.std.proofs.Common.{◌≡◌, ◌≤◌, ℕ, suc, ◌%◌, ◌==◌, Bool, true, false, if◌then◌else◌, List, refl, sym, ap, ◌∙◌, subst, arith}
 use Rattle.std.specs.Prelude.{◌&&◌}
 use Rattle.exchange_model.specs.Exchange.{Speech}
-use Rattle.life_measure.specs.Gains.{gains}
-use Rattle.life_measure.proofs.Gaining.{next_same}
+use Rattle.life_model.specs.Gains.{gains}
+use Rattle.life_model.proofs.Gaining.{next_same}
 use Rattle.life_model.specs.Lives.{Life, Spot, Stand, life_back}
 use Rattle.link_model.specs.Slave.{Node, Server, processor_step}
 use Rattle.plan_ring.specs.of_run_frames.Clocks.{Clocked}

@@ -2,8 +2,8 @@
 use Rattle.std.proofs.Common.{◌≡◌, ◌≤◌, ℕ, suc, ◌%◌, ◌==◌, Bool, true, false, Option, Some, None, List, [], ◌∷◌, ◌++◌, refl, sym, ap, ◌∙◌, subst, arith, if◌then◌else◌, ◌⊎◌, inl, inr}
 use Rattle.std.specs.Prelude.{◌&&◌, not}
 use Rattle.exchange_model.specs.Exchange.{Speech}
-use Rattle.life_measure.specs.Gains.{gains, phase_gains, stage_gains, progress_gains}
-use Rattle.life_measure.proofs.Gaining.{next_same, state_gains}
+use Rattle.life_model.specs.Gains.{gains, phase_gains, stage_gains, progress_gains}
+use Rattle.life_model.proofs.Gaining.{next_same, state_gains}
 use Rattle.life_model.specs.Lives.{Era, Life, Spot, Stand, life_next, life_back, era_back, reopens, reopens_at, reopening, opens_state, returns_to_init, granted}
 use Rattle.life_model.specs.Own.{own}
 use Rattle.plan_ring.specs.of_run_frames.Clocks.{Clocked}
@@ -13,9 +13,9 @@ use Rattle.segment_model.specs.Ends.{Outcome}
 use Rattle.segment_model.specs.Record.{News}
 use Rattle.segment_model.specs.Seats.{Side}
 use Rattle.segment_model.specs.Slaves.{Registers, Datagram, Access, Found}
-use Rattle.state_exchange.specs.Stated.{Service}
+use Rattle.state_model.specs.Stated.{Service}
 use Rattle.state_model.specs.States.{Table, Phase, States, Event, Turn, happens, reads, shown, run, carry, phase_written}
-use Rattle.task_model.specs.Accounts.{Account, Duty, Stage, Pick, Progress, account_begins, account_back, account_met, account_by, access_done, phase_access, turn_progress}
+use Rattle.state_model.specs.Accounts.{Account, Duty, Stage, Pick, Progress, account_begins, account_back, account_met, account_by, access_done, phase_access, turn_progress}
 use Rattle.idle_slaves.specs.Going.{IsCome, Going, AccessCame, AccessVain, registers_on}
 use Rattle.idle_slaves.specs.Phases.{IsSeen, HandSeen, TakesOn, idle_states}
 use Rattle.idle_slaves.proofs.Phases.{behind_step, takes_on}

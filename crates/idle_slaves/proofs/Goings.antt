@@ -4,8 +4,8 @@ use Rattle.exchange_model.specs.Exchange.{Exchange, Speech}
 use Rattle.idle_slaves.specs.Going.{Going, AccessVain, registers_on}
 use Rattle.idle_slaves.specs.Visited.{memory_of}
 use Rattle.idle_slaves.proofs.Going.{goes_so}
-use Rattle.life_measure.specs.Gains.{gains, phase_gains, stage_gains, progress_gains}
-use Rattle.life_measure.proofs.Gaining.{next_same, state_gains}
+use Rattle.life_model.specs.Gains.{gains, phase_gains, stage_gains, progress_gains}
+use Rattle.life_model.proofs.Gaining.{next_same, state_gains}
 use Rattle.life_model.specs.Lives.{Life, Spot, Stand, life_back}
 use Rattle.life_model.specs.Own.{own}
 use Rattle.link_mails.specs.Body.{Body}
@@ -21,9 +21,9 @@ use Rattle.plan_ring.specs.of_run_frames.Orders.{is_live}
 use Rattle.plan_ring.specs.of_run_frames.Waits.{Waits, waits_on}
 use Rattle.segment_model.specs.Slaves.{Datagram, Found, Serving, Slave, Processor, grams, serving, slave_after, registers_met}
 use Rattle.segment_plan.specs.declared.service.Service as Plan
-use Rattle.state_exchange.specs.Stated.{Service}
+use Rattle.state_model.specs.Stated.{Service}
 use Rattle.state_model.specs.States.{Table, Phase, reads, phase_written}
-use Rattle.task_model.specs.Accounts.{Stage, Progress, phase_access, access_done}
+use Rattle.state_model.specs.Accounts.{Stage, Progress, phase_access, access_done}
 use Rattle.idle_slaves.specs.Eager.{Remembered, AsksStage, AsksFor, EachAsksFor, IsClear, IsEager}
 use Rattle.idle_slaves.specs.EagerFrames.{One, FrameAs}
 use Rattle.idle_slaves.specs.Standing.{Standing}

@@ -1,7 +1,7 @@
 -- Behind a write in vain.
 use Rattle.std.proofs.Common.{◌≡◌, ◌≤◌, ℕ, ◌==◌, Bool, true, false, is_some, Option, Some, None, List, [], ◌∷◌, ◌++◌, refl, sym, ap, ◌∙◌, subst, arith, if◌then◌else◌, inl, inr, length, length-append}
-use Rattle.never_waits.specs.Moments.{IsFree, HeldStill}
-use Rattle.never_waits.proofs.Laws.{state}
+use Rattle.slave_model.specs.Moments.{IsFree, HeldStill}
+use Rattle.slave_model.proofs.Laws.{state}
 use Rattle.exchange_model.specs.Exchange.{Speech}
 use Rattle.idle_slaves.specs.Held.{HeldUp, EndsHeld}
 use Rattle.idle_slaves.specs.Visited.{IsFor, Meets, CameBack, HasRow, IsStill, IsUnpaused, Chosen, is_boxed, visit_for, life_visit, memory_of}
@@ -9,8 +9,8 @@ use Rattle.idle_slaves.specs.Waiting.{Wanted, Memory, link_by, wanted_by, memory
 use Rattle.idle_slaves.proofs.Returning.{IsVainly, reopens_era, vainly}
 use Rattle.idle_slaves.proofs.Visited.{full_drains}
 use Rattle.idle_slaves.proofs.Waiting.{Holds, Comes, comes, holds}
-use Rattle.life_measure.specs.Gains.{gains}
-use Rattle.life_measure.specs.Visits.{Visit, mails_visit}
+use Rattle.life_model.specs.Gains.{gains}
+use Rattle.life_model.specs.Visits.{Visit, mails_visit}
 use Rattle.life_model.specs.Lives.{Era, Life, Spot, Stand, granted, life_back, era_back, era_next}
 use Rattle.life_model.specs.Own.{own}
 use Rattle.link_model.specs.Frames.{Ask, halves_accept, all_accepted}
@@ -23,8 +23,8 @@ use Rattle.segment_model.specs.Ends.{Passing}
 use Rattle.segment_model.specs.Record.{News}
 use Rattle.segment_model.specs.Seats.{side_back}
 use Rattle.segment_model.specs.Slaves.{Datagram, Found, grams}
-use Rattle.state_exchange.specs.Stated.{Service}
-use Rattle.task_model.specs.Accounts.{Duty, Pick, account_next, starts}
+use Rattle.state_model.specs.Stated.{Service}
+use Rattle.state_model.specs.Accounts.{Duty, Pick, account_next, starts}
 
 -- one that drains before the visit does behind it
 drains_on : {X : Type 0} (q : Wanted) (old new : Option Duty) (p s : Option Passing) (duty : Duty) → IsFor q old p → IsFor q new s → s ≡ None → old ≡ Some duty → new ≡ None → X

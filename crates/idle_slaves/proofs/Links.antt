@@ -6,13 +6,13 @@ use Rattle.life_model.specs.Lives.{Spot, Era}
 use Rattle.segment_model.specs.Record.{Frame}
 use Rattle.segment_model.specs.Seats.{Seat, Side, Planned, link_of, sides_of, ring_of}
 use Rattle.segment_model.specs.Slaves.{Processor, Registers, Ring, Slave}
-use Rattle.state_exchange.specs.Stated.{Stated, IsStated}
+use Rattle.state_model.specs.Stated.{Stated, IsStated}
 use Rattle.state_model.specs.States.{Table}
-use Rattle.task_model.proofs.Sessions.{Whole, holds, session_keeps}
-use Rattle.task_model.proofs.Walks.{EachOne}
-use Rattle.task_model.specs.Accounts.{Account}
-use Rattle.task_model.specs.Promise.{EachTask}
-use Rattle.task_model.specs.Tasks.{IsTasked, IsTaskPlan, run, new_tasks}
+use Rattle.state_model.proofs.Sessions.{Whole, holds, session_keeps}
+use Rattle.state_model.proofs.Walks.{EachOne}
+use Rattle.state_model.specs.Accounts.{Account}
+use Rattle.state_model.specs.Promise.{EachTask}
+use Rattle.state_model.specs.Tasks.{IsTasked, IsTaskPlan, run, new_tasks}
 use Rattle.idle_slaves.specs.Links.{HasLink}
 use Rattle.idle_slaves.proofs.Rowless.{has_row}
 

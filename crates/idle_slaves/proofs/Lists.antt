@@ -7,9 +7,9 @@ use Rattle.idle_slaves.specs.Standing.{Standing}
 use Rattle.exchange_model.specs.Exchange.{Speech}
 use Rattle.frame_view.specs.View.{Lens}
 use Rattle.idle_slaves.proofs.Waiting.{holds}
-use Rattle.life_measure.specs.Gains.{gains}
-use Rattle.life_measure.specs.Repairs.{way_of, stand_way}
-use Rattle.life_measure.proofs.Gaining.{next_same, back_grows}
+use Rattle.life_model.specs.Gains.{gains}
+use Rattle.life_model.specs.Repairs.{way_of, stand_way}
+use Rattle.life_model.proofs.Gaining.{next_same, back_grows}
 use Rattle.life_model.specs.Lives.{Life, Spot, Stand}
 use Rattle.life_model.specs.Own.{own}
 use Rattle.plan_ring.specs.of_life_runs.Led.{Leads, Turn, speech_at, is_passed}
@@ -30,7 +30,7 @@ use Rattle.segment_model.specs.Slaves.{Datagram, grams, serving}
 use Rattle.segment_plan.specs.declared.service.Service as Plan
 use Rattle.segment_plan.specs.declared.slave.SlaveSpec.{SlaveSpec}
 use Rattle.plan_ring.specs.of_slave_server.Serving.{Serving}
-use Rattle.slave_steps.specs.Node.{Node}
+use Rattle.slave_node.specs.Node.{Node}
 use Rattle.idle_slaves.specs.WaitEager.{AllRest}
 use Rattle.idle_slaves.proofs.Begins.{begins}
 use Rattle.idle_slaves.proofs.Fits.{AllReady, AllSeated, IsFit, exchange_at, next_of, nexts_of, table_at}

@@ -32,14 +32,14 @@ use Rattle.segment_model.specs.Slaves.{Datagram, Slave, Processor, frame_after, 
 use Rattle.segment_plan.specs.declared.service.Service as Plan
 use Rattle.segment_plan.specs.declared.slave.SlaveSpec.{SlaveSpec}
 use Rattle.slave_parts.specs.Parts.{Core, Server}
-use Rattle.slave_parts.specs.of_eoe_model.Network.{Station}
+use Rattle.slave_parts.specs.of_protocol_models.Network.{Station}
 use Rattle.plan_ring.specs.of_slave_server.Serving.{Serving}
 use Rattle.plan_ring.specs.of_slave_server.Spec.{profile_of}
-use Rattle.slave_steps.specs.Node.{Node}
-use Rattle.state_exchange.specs.Families.{InState}
-use Rattle.state_exchange.specs.Stated.{Service}
+use Rattle.slave_node.specs.Node.{Node}
+use Rattle.state_model.specs.Families.{InState}
+use Rattle.state_model.specs.Stated.{Service}
 use Rattle.state_model.specs.States.{Table}
-use Rattle.task_model.specs.Accounts.{Pick, account_begins, starts, mails_choice}
+use Rattle.state_model.specs.Accounts.{Pick, account_begins, starts, mails_choice}
 use Rattle.idle_slaves.proofs.Fits.{IsFit, IsReady, Rests, exchange_at, next_of, table_at}
 use Rattle.idle_slaves.proofs.Fits as Fits
 use Rattle.idle_slaves.proofs.WaitHeld.{ends_at}

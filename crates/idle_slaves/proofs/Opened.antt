@@ -1,6 +1,6 @@
 -- An open slave of a plan's run, as its session has it, where no mail is passed on.
 use Rattle.std.proofs.Common.{◌≡◌, ◌≢◌, ℕ, Bool, true, Option, Some, None, List, [], ◌∷◌, length, refl, sym, ap, ◌∙◌, subst}
-use Rattle.never_waits.specs.Moments.{IsFree, NowAnswered}
+use Rattle.slave_model.specs.Moments.{IsFree, NowAnswered}
 use Rattle.idle_slaves.specs.Eager.{NoneLeft, MayBegin}
 use Rattle.exchange_model.specs.Exchange.{Speech, plain}
 use Rattle.exchange_model.specs.Rows.{Row, answer_after}
@@ -19,7 +19,7 @@ use Rattle.master_duty.specs.Reply.{Reply}
 use Rattle.plan_ring.specs.of_master_hand.Spoken.{Asked, acknowledged}
 use Rattle.plan_ring.specs.Alike.{Alike}
 use Rattle.plan_ring.proofs.NamedAlike.{answered_alike}
-use Rattle.never_waits.specs.Waits.{NeverWaits}
+use Rattle.slave_model.specs.Waits.{NeverWaits}
 use Rattle.plan_ring.specs.PlanMet.{slave_at, IsOpenAt, IsAt}
 use Rattle.plan_ring.specs.Asked.{asked, is_service}
 use Rattle.plan_ring.specs.Round.{all_seen}
@@ -30,7 +30,7 @@ use Rattle.slave_lives.specs.Ends.{IsAnswered}
 use Rattle.slave_lives.specs.Lived.{table_of}
 use Rattle.plan_ring.specs.of_slave_server.Serving.{Serving}
 use Rattle.plan_ring.specs.of_slave_server.Spec.{profile_of}
-use Rattle.slave_steps.specs.Node.{Node}
+use Rattle.slave_node.specs.Node.{Node}
 use Rattle.idle_slaves.proofs.Comes.{era_comes}
 use Rattle.idle_slaves.proofs.StatesSteps.{era_alone}
 use Rattle.idle_slaves.proofs.Fits.{IsFit, IsSeated, ToldWhole, exchange_at}

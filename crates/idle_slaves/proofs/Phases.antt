@@ -1,6 +1,6 @@
 -- Behind a step the status stands that a state service awaits.
 use Rattle.std.proofs.Common.{◌≡◌, ◌⊎◌, ◌≤◌, ℕ, suc, ◌==◌, Bool, true, false, Option, Some, None, List, [], ◌∷◌, refl, sym, ap, ◌∙◌, subst, arith, if◌then◌else◌, inl, inr, eq-eqb}
-use Rattle.life_measure.specs.Gains.{phase_gains, progress_gains}
+use Rattle.life_model.specs.Gains.{phase_gains, progress_gains}
 use Rattle.link_model.specs.Link.{Fate}
 use Rattle.segment_model.specs.Ends.{Outcome}
 use Rattle.segment_model.specs.Record.{News}
@@ -9,7 +9,7 @@ use Rattle.state_model.specs.Promises.{IsTable, state_closed}
 use Rattle.state_model.specs.States.{Table, Phase, Hand, States, Event, Turn, happens, run, begins, writes, looks, returned, turned, shown, reads, word_of, word_met, phase_written, carry, word_carried, decided}
 use Rattle.state_model.proofs.Kept.{HoldsAt, happens_holds}
 use Rattle.state_model.proofs.Words.{Flag, Cleared, InHand, Kept}
-use Rattle.task_model.specs.Accounts.{turn_progress}
+use Rattle.state_model.specs.Accounts.{turn_progress}
 use Rattle.idle_slaves.specs.Phases.{IsSeen, IsLed, HandLed, HandSeen, Rests, TakesOn, idle_states}
 
 module _ (table : Table) where

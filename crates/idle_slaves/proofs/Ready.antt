@@ -11,7 +11,7 @@ use Rattle.exchange_model.specs.Exchange.{Speech}
 use Rattle.frame_view.specs.Seen.{datagrams_seen}
 use Rattle.frame_view.specs.View.{Lens}
 use Rattle.idle_slaves.proofs.Returning.{passing_is}
-use Rattle.life_measure.specs.Gains.{gains}
+use Rattle.life_model.specs.Gains.{gains}
 use Rattle.life_model.specs.Lives.{Life, Spot, Stand, life_next, life_back, granted, passes, passing_begins}
 use Rattle.life_model.specs.Own.{own}
 use Rattle.plan_ring.specs.of_life_runs.First.{lens_of}
@@ -20,7 +20,7 @@ use Rattle.link_mails.specs.Body.{Body}
 use Rattle.link_model.specs.Frames.{all_accepted}
 use Rattle.master_duty.specs.Reply.{Reply}
 use Rattle.plan_ring.specs.of_master_hand.Spoken.{Asked, acknowledged, is_followed}
-use Rattle.never_waits.specs.Waits.{NeverWaits}
+use Rattle.slave_model.specs.Waits.{NeverWaits}
 use Rattle.plan_ring.specs.PlanMet.{IsMet, AllOpenAt, AllMet}
 use Rattle.plan_ring.specs.Asked.{asked, is_service}
 use Rattle.plan_ring.specs.of_run_frames.Goes.{Under, back_life}
@@ -35,9 +35,9 @@ use Rattle.segment_plan.specs.declared.slave.SlaveSpec.{SlaveSpec}
 use Rattle.slave_parts.specs.of_slave_model.Profile.{Profile, IsProfile}
 use Rattle.plan_ring.specs.of_slave_server.Serving.{Serving}
 use Rattle.plan_ring.specs.of_slave_server.Spec.{profile_of}
-use Rattle.slave_steps.specs.Node.{Node}
-use Rattle.state_exchange.specs.Stated.{Service}
-use Rattle.task_model.specs.Accounts.{Account}
+use Rattle.slave_node.specs.Node.{Node}
+use Rattle.state_model.specs.Stated.{Service}
+use Rattle.state_model.specs.Accounts.{Account}
 use Rattle.idle_slaves.specs.WaitEager.{AllSilent, AllUnpassed}
 use Rattle.idle_slaves.proofs.Fits.{AllReady, AllSeated, IsReady, IsSeated, Slave, next_of, nexts_of}
 use Rattle.idle_slaves.proofs.Lists.{AllQuiet, AllStanding, SameAll}

@@ -11,7 +11,7 @@ use Rattle.plan_ring.specs.PlanMet.{slave_at}
 use Rattle.segment_model.specs.Slaves.{serving}
 use Rattle.segment_plan.specs.declared.slave.SlaveSpec.{SlaveSpec}
 use Rattle.plan_ring.specs.of_slave_server.Serving.{Serving}
-use Rattle.slave_steps.specs.Node.{Node}
+use Rattle.slave_node.specs.Node.{Node}
 use Rattle.idle_slaves.specs.WaitEager.{IsResting}
 use Rattle.idle_slaves.proofs.Fits.{IsFit, IsSeated, Rests, exchange_at, next_of}
 

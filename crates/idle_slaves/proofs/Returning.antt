@@ -2,9 +2,9 @@
 use Rattle.std.proofs.Common.{◌≡◌, ◌≤◌, ℕ, suc, ◌==◌, Bool, true, false, is_some, Option, Some, None, List, [], ◌∷◌, ◌++◌, length, refl, sym, ap, ◌∙◌, subst, arith, if◌then◌else◌, eq-eqb, inl, inr}
 use Rattle.std.specs.Prelude.{◌&&◌, not}
 use Rattle.exchange_model.specs.Exchange.{Speech}
-use Rattle.life_measure.specs.Gains.{gains, stage_gains, progress_gains}
-use Rattle.life_measure.specs.Visits.{Visit, empty_gain, visit_gain}
-use Rattle.life_measure.proofs.Gaining.{written_gains, heard_gains, state_gains}
+use Rattle.life_model.specs.Gains.{gains, stage_gains, progress_gains}
+use Rattle.life_model.specs.Visits.{Visit, empty_gain, visit_gain}
+use Rattle.life_model.proofs.Gaining.{written_gains, heard_gains, state_gains}
 use Rattle.life_model.specs.Lives.{Era, Life, Spot, Stand, life_back, era_back, passes, reopens, reopens_at, reopening, opens_state, returns_to_init}
 use Rattle.life_model.specs.Own.{own}
 use Rattle.link_model.specs.Agree.{Agrees, InAgree}
@@ -18,7 +18,7 @@ use Rattle.link_model.proofs.Gains.{clear_news}
 use Rattle.segment_model.specs.Ends.{Passing}
 use Rattle.segment_model.specs.Record.{News, is_for}
 use Rattle.segment_model.specs.Slaves.{Datagram, Access, Found, grams}
-use Rattle.task_model.specs.Accounts.{Account, Duty, Stage, Progress, account_back, account_met, account_by, access_done}
+use Rattle.state_model.specs.Accounts.{Account, Duty, Stage, Progress, account_back, account_met, account_by, access_done}
 use Rattle.idle_slaves.specs.Waiting.{Wanted}
 use Rattle.idle_slaves.specs.Visited.{IsFor, Meets, CameBack, HasRow, IsStill, is_boxed, is_served}
 

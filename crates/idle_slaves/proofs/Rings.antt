@@ -1,7 +1,7 @@
 -- Of a ring some slave waits yet, or each was spent before the frame.
 use Rattle.std.proofs.Common.{◌≡◌, ◌⊎◌, ◌≤◌, ℕ, zero, suc, Bool, true, None, List, [], ◌∷◌, refl, sym, ap, ◌∙◌, arith, inl, inr}
 use Rattle.exchange_model.specs.Exchange.{Speech}
-use Rattle.life_measure.specs.Repairs.{way_of, stand_way, half_way}
+use Rattle.life_model.specs.Repairs.{way_of, stand_way, half_way}
 use Rattle.life_model.specs.Lives.{Life, Spot, Stand, life_next, life_back}
 use Rattle.link_model.specs.Agree.{Agrees}
 use Rattle.link_model.specs.Link.{Link, Halves}

@@ -11,12 +11,12 @@ use Rattle.link_model.specs.Mails.{LinkMail, bodies}
 use Rattle.link_model.specs.Master.{InState}
 use Rattle.segment_model.specs.Record.{Frame}
 use Rattle.segment_model.specs.Seats.{Seat, link_of, newest, rows_of}
-use Rattle.state_exchange.specs.Stated.{Stated, IsStated, Act, Counting, Service, acts, with_states}
+use Rattle.state_model.specs.Stated.{Stated, IsStated, Act, Counting, Service, acts, with_states}
 use Rattle.state_model.specs.Promises.{IsTable}
 use Rattle.state_model.specs.States.{Table}
-use Rattle.task_model.proofs.Ghosts.{GhostRow, Rested, Rowed, Staged, StagedBy, StateNow, counting, label_by, labels_of, mail_labels}
-use Rattle.task_model.proofs.Newest.{Holds}
-use Rattle.task_model.specs.Accounts.{Account, Duty, Stage}
+use Rattle.state_model.proofs.Ghosts.{GhostRow, Rested, Rowed, Staged, StagedBy, StateNow, counting, label_by, labels_of, mail_labels}
+use Rattle.state_model.proofs.Newest.{Holds}
+use Rattle.state_model.specs.Accounts.{Account, Duty, Stage}
 
 acts_none : {M : Type 0} (ms : List M) → acts ms ≡ [] → ms ≡ []
 acts_none [] e = refl

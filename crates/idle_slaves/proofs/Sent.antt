@@ -8,9 +8,9 @@ use Rattle.frame_view.specs.Seen.{datagrams_seen}
 use Rattle.frame_view.specs.View.{Lens, datagram_seen, address_of, station_of, register_counter, link_counter, found_of}
 use Rattle.idle_slaves.specs.Going.{AccessCame}
 use Rattle.idle_slaves.specs.Visited.{CameBack, Meets}
-use Rattle.life_frames.specs.Frames.{FrameFor, GramFor, IsOpenGram, Share}
-use Rattle.life_frames.proofs.Frames.{own_none, own_one}
-use Rattle.life_measure.specs.Visits.{Visit}
+use Rattle.frame_view.specs.Frames.{FrameFor, GramFor, IsOpenGram, Share}
+use Rattle.frame_view.proofs.Frames.{own_none, own_one}
+use Rattle.life_model.specs.Visits.{Visit}
 use Rattle.life_model.specs.Lives.{Spot, Stand}
 use Rattle.life_model.specs.Own.{own}
 use Rattle.link_mails.specs.Body.{Body}
@@ -20,7 +20,7 @@ use Rattle.link_model.specs.Mails.{LinkMail}
 use Rattle.segment_model.specs.Record.{is_for}
 use Rattle.segment_model.specs.Slaves.{Datagram, Address, Access, Found, Slave, is_meant, address_behind, datagram_meets, slave_meets, counter_met, found_met, registers_met}
 use Rattle.state_model.specs.States.{Phase, reads}
-use Rattle.task_model.specs.Accounts.{Duty, phase_access}
+use Rattle.state_model.specs.Accounts.{Duty, phase_access}
 use Rattle.idle_slaves.specs.Eager.{AsksVisit}
 use Rattle.idle_slaves.specs.EagerFrames.{IsSent, One}
 

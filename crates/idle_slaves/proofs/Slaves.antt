@@ -3,7 +3,7 @@ use Rattle.std.proofs.Common.{◌≡◌, ◌⊎◌, ◌≤◌, ℕ, zero, suc, �
 use Rattle.std.specs.Prelude.{◌&&◌}
 use Rattle.exchange_model.specs.Exchange.{Exchange, Speech}
 use Rattle.idle_slaves.specs.Held.{HeldUp, EndsHeld}
-use Rattle.never_waits.specs.Moments.{IsFree, NowAnswered}
+use Rattle.slave_model.specs.Moments.{IsFree, NowAnswered}
 use Rattle.idle_slaves.proofs.Held.{held_up, unpaused}
 use Rattle.idle_slaves.specs.Frames.{InVain, node_on, memory_on}
 use Rattle.idle_slaves.specs.Going.{registers_on}
@@ -15,9 +15,9 @@ use Rattle.idle_slaves.proofs.Frames.{waits_so, was_spent}
 use Rattle.idle_slaves.proofs.Returning.{boxed_is, not_boxed}
 use Rattle.idle_slaves.proofs.Visited.{full_drains, second, same_node}
 use Rattle.idle_slaves.proofs.Waiting.{Holds, holds}
-use Rattle.life_measure.specs.Gains.{gains}
-use Rattle.life_measure.specs.Visits.{Visit}
-use Rattle.life_measure.proofs.Gaining.{next_same}
+use Rattle.life_model.specs.Gains.{gains}
+use Rattle.life_model.specs.Visits.{Visit}
+use Rattle.life_model.proofs.Gaining.{next_same}
 use Rattle.life_model.specs.Lives.{Life, Spot, Stand, life_back, era_next}
 use Rattle.life_model.specs.Own.{own}
 use Rattle.link_mails.specs.Body.{Body}
@@ -36,10 +36,10 @@ use Rattle.segment_model.specs.Record.{is_for}
 use Rattle.segment_model.specs.Seats.{Side}
 use Rattle.segment_model.specs.Slaves.{Datagram, Access, Found, Serving, Slave, Processor, grams, serving, slave_after}
 use Rattle.segment_plan.specs.declared.service.Service as Plan
-use Rattle.state_exchange.specs.Stated.{Service}
+use Rattle.state_model.specs.Stated.{Service}
 use Rattle.state_model.specs.States.{Table, Phase}
 use Rattle.idle_slaves.specs.Steps.{NotGone}
-use Rattle.task_model.specs.Accounts.{Duty, Stage, access_done, account_by, starts}
+use Rattle.state_model.specs.Accounts.{Duty, Stage, access_done, account_by, starts}
 use Rattle.idle_slaves.specs.Eager.{Remembered, AsksVisit, EachAsksFor, IsClear, NoneLeft, MayBegin, IsAtEnd, IsEager, IsInVain, RemembersOn, GetsNone}
 use Rattle.idle_slaves.specs.EagerFrames.{One, FrameAs, TellsBy}
 use Rattle.idle_slaves.specs.Standing.{Unvisited, Visited, Standing, IsDone}

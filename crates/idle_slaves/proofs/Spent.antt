@@ -1,7 +1,7 @@
 -- A slave that is spent, as its master speaks with it.
 use Rattle.std.proofs.Common.{ℕ, Bool, List}
-use Rattle.never_waits.specs.Moments.{IsFree, NoneLeft, NowAnswered}
-use Rattle.never_waits.proofs.Laws.{nothing}
+use Rattle.slave_model.specs.Moments.{IsFree, NoneLeft, NowAnswered}
+use Rattle.slave_model.proofs.Laws.{nothing}
 use Rattle.exchange_model.specs.Exchange.{Exchange, Speech, IsLawful}
 use Rattle.idle_slaves.specs.Visited.{LifeSpent}
 use Rattle.idle_slaves.proofs.Settled.{is_left}
@@ -9,10 +9,10 @@ use Rattle.life_model.specs.Eras.{EraIs}
 use Rattle.life_model.specs.Lives.{Life, Spot}
 use Rattle.plan_ring.specs.Alike.{Alike, RowIs}
 use Rattle.plan_ring.proofs.NamedAlike.{free_back, left_alike, answered_alike}
-use Rattle.plan_ring.specs.of_never_waits.Waits.{NeverWaits}
+use Rattle.plan_ring.specs.of_slave_model.Waits.{NeverWaits}
 use Rattle.segment_model.specs.Record.{Frame}
 use Rattle.segment_model.specs.Slaves.{Processor, Registers, Slave, serving}
-use Rattle.state_exchange.specs.Stated.{Stated, IsStated}
+use Rattle.state_model.specs.Stated.{Stated, IsStated}
 use Rattle.state_model.specs.States.{Table}
 
 module _ {V A M Q R : Type 0} (x : Exchange V A M Q R) (s : Stated V A Q) (processor : Processor V) (table : ℕ → Table) (spot : Spot) (l : Life M Q R) (opened last : ℕ) (fs : List (Frame M)) (v : V) (r : Registers) (slave : Slave V M) where

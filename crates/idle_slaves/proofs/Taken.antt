@@ -5,7 +5,7 @@ use Rattle.exchange_model.specs.Rows.{Row, begun, row_told}
 use Rattle.life_model.specs.Lives.{Life, Stand, granted, life_next}
 use Rattle.link_model.specs.Slave.{Node}
 use Rattle.segment_model.specs.Seats.{Side, Choice, is_over, side_begins, side_holds, side_next, next_mail}
-use Rattle.task_model.specs.Accounts.{Pick, mails_choice}
+use Rattle.state_model.specs.Accounts.{Pick, mails_choice}
 use Rattle.idle_slaves.specs.Visited.{HasRow}
 
 -- some service has come into hand

@@ -6,13 +6,13 @@ use Rattle.exchange_model.specs.Rows.{Row, begun}
 use Rattle.plan_ring.specs.of_life_runs.Led.{Comes}
 use Rattle.plan_ring.specs.of_master_hand.Spoken.{Asked}
 use Rattle.plan_ring.specs.Alike.{WishIs}
-use Rattle.never_waits.specs.Waits.{NeverWaits}
+use Rattle.slave_model.specs.Waits.{NeverWaits}
 use Rattle.plan_ring.specs.Asked.{is_service}
 use Rattle.plan_ring.proofs.Turns.{wish_is}
 use Rattle.segment_model.specs.Seats.{Side, side_begins, side_holds, side_next, next_mail, is_over}
 use Rattle.segment_plan.specs.declared.service.Service as Plan
-use Rattle.state_exchange.specs.Stated.{Service}
-use Rattle.task_model.specs.Accounts.{Account, Duty, Started, Pick, account_begins, mails_begin, mails_choice, starts, state_begins, is_free, is_acknowledged}
+use Rattle.state_model.specs.Stated.{Service}
+use Rattle.state_model.specs.Accounts.{Account, Duty, Started, Pick, account_begins, mails_begin, mails_choice, starts, state_begins, is_free, is_acknowledged}
 
 -- a client's first mail
 pub first_mail : {V A M Q R : Type 0} (x : Exchange V A M Q R) → IsLawful x → NeverWaits x → (v : V) (q : Q) → x.ready v ≡ true → x.speech.valid q ≡ true → {X : Type 0} → x.speech.planned q [] ≡ [] → X

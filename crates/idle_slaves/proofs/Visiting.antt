@@ -1,6 +1,6 @@
 -- A visit in vain leaves halves and slave.
 use Rattle.std.proofs.Common.{◌≡◌, ◌≢◌, Bool, Option, Some, None, refl, sym, ap, ◌∙◌, arith, inl, inr}
-use Rattle.life_measure.specs.Visits.{Visit, empty_gain, visit_gain, visited}
+use Rattle.life_model.specs.Visits.{Visit, empty_gain, visit_gain, visited}
 use Rattle.link_model.specs.Agree.{Agrees}
 use Rattle.link_model.specs.Gains.{HasStepped, write_gain, read_gain}
 use Rattle.link_model.specs.Link.{Link, Fate, Event, out_half_after, out_side_after, in_half_after, in_side_after}

@@ -2,7 +2,7 @@
 use Rattle.std.proofs.Common.{◌≡◌, ℕ, Bool, Option, Some, None, List, [], sym, subst}
 use Rattle.exchange_model.specs.Exchange.{Speech}
 use Rattle.idle_slaves.specs.Held.{EndsHeld}
-use Rattle.never_waits.specs.Moments.{IsFree, HeldStill, NowAnswered}
+use Rattle.slave_model.specs.Moments.{IsFree, HeldStill, NowAnswered}
 use Rattle.idle_slaves.proofs.Ends.{ends_known}
 use Rattle.idle_slaves.proofs.Held.{side_is}
 use Rattle.life_model.specs.Lives.{Era, Life, Spot, Stand, life_back, era_next}
@@ -14,8 +14,8 @@ use Rattle.plan_ring.specs.of_master_hand.Spoken.{Asked, acknowledged, is_follow
 use Rattle.segment_model.specs.Record.{News}
 use Rattle.segment_model.specs.Seats.{Side, side_back}
 use Rattle.segment_model.specs.Slaves.{Datagram, Found}
-use Rattle.state_exchange.specs.Stated.{Service}
-use Rattle.task_model.specs.Accounts.{Pick, starts}
+use Rattle.state_model.specs.Stated.{Service}
+use Rattle.state_model.specs.Accounts.{Pick, starts}
 use Rattle.idle_slaves.proofs.Fits.{ToldWhole}
 
 module _ (x : Speech Body Asked Reply) (number : ℕ) (spot : Spot) (e : Era Body Asked Reply) (said : NowAnswered x e.side) (told : ToldWhole x acknowledged e) (silent : (q : Asked) → x.ends q [] ≡ None) (pick : Pick Asked)

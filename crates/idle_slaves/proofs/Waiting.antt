@@ -1,6 +1,6 @@
 -- What is known of a slave since something was gained last.
 use Rattle.std.proofs.Common.{◌≡◌, ◌≢◌, ◌⊎◌, ◌≤◌, ℕ, suc, Bool, true, false, is_some, Option, Some, None, refl, sym, ap, ◌∙◌, subst, arith, if◌then◌else◌, inl, inr}
-use Rattle.life_measure.specs.Visits.{Visit, empty_gain, mails_visit, drain_visit, visit_gain, visited}
+use Rattle.life_model.specs.Visits.{Visit, empty_gain, mails_visit, drain_visit, visit_gain, visited}
 use Rattle.link_model.specs.Agree.{Agrees}
 use Rattle.link_model.specs.Gains.{HasStepped, write_gain}
 use Rattle.link_model.specs.Link.{Link, Event, happens, held_after}

@@ -4,7 +4,7 @@ use Rattle.std.specs.Prelude.{⊤}
 use Rattle.link_model.specs.Link.{Link, Event, happens, new_link}
 use Rattle.link_model.specs.Slave.{Server}
 use Rattle.link_model.proofs.Law.{new_agrees}
-use Rattle.life_measure.specs.Visits.{Visit, visit_gain, visited}
+use Rattle.life_model.specs.Visits.{Visit, visit_gain, visited}
 use Rattle.plan_ring.specs.of_run_frames.Waits.{new_waits}
 use Rattle.segment_model.specs.Ends.{Passing}
 use Rattle.idle_slaves.specs.Visited.{visit_for}

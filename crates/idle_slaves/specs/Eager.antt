@@ -5,7 +5,7 @@ use Rattle.exchange_model.specs.Rows.{Row, left}
 use Rattle.frame_view.specs.View.{Lens}
 use Rattle.idle_slaves.specs.Visited.{life_visit, memory_of, visit_for}
 use Rattle.idle_slaves.specs.Waiting.{Memory, memory_behind}
-use Rattle.life_measure.specs.Visits.{Visit, drain_visit}
+use Rattle.life_model.specs.Visits.{Visit, drain_visit}
 use Rattle.life_model.specs.Lives.{Life, Stand}
 use Rattle.life_model.specs.Own.{own}
 use Rattle.plan_ring.specs.of_life_runs.Led.{Leads, Turn, speech_at}
@@ -19,8 +19,8 @@ use Rattle.plan_ring.specs.of_master_hand.Spoken.{Asked, acknowledged}
 use Rattle.segment_model.specs.Ends.{Passing}
 use Rattle.segment_model.specs.Slaves.{Datagram, Access, Found}
 use Rattle.segment_plan.specs.declared.service.Service as Plan
-use Rattle.state_exchange.specs.Stated.{Service}
-use Rattle.task_model.specs.Accounts.{Duty, Stage, is_free, is_acknowledged, phase_access}
+use Rattle.state_model.specs.Stated.{Service}
+use Rattle.state_model.specs.Accounts.{Duty, Stage, is_free, is_acknowledged, phase_access}
 
 -- what a master remembers of a slave between two frames: of its visits, whether a packet waits at its port, and whether a mail waits to be passed on
 pub record Remembered : Type 0 where

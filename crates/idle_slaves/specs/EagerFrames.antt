@@ -2,10 +2,10 @@
 use Rattle.std.specs.Prelude.{◌≡◌, ◌⊎◌, ◌≤◌, ℕ, suc, ◌%◌, ◌==◌, true, false, is_some, Bool, if◌then◌else◌, Option, Some, None, List, [], ◌∷◌}
 use Rattle.exchange_model.specs.Exchange.{Exchange, Speech}
 use Rattle.idle_slaves.specs.Held.{EndsHeld}
-use Rattle.never_waits.specs.Moments.{NowAnswered}
+use Rattle.slave_model.specs.Moments.{NowAnswered}
 use Rattle.idle_slaves.specs.Links.{HasLink}
 use Rattle.idle_slaves.specs.Visited.{LifeSpent}
-use Rattle.life_measure.specs.Gains.{gains}
+use Rattle.life_model.specs.Gains.{gains}
 use Rattle.life_model.specs.Lives.{Spot, Stand, life_next, era_next}
 use Rattle.life_model.specs.Own.{own}
 use Rattle.link_mails.specs.Body.{Body}
@@ -19,10 +19,10 @@ use Rattle.plan_ring.specs.of_run_frames.Waits.{Waits, waits_on}
 use Rattle.segment_model.specs.Record.{News}
 use Rattle.segment_model.specs.Slaves.{Access, Found, Datagram, Address, Processor, Slave, serving, slave_after, slave_steps, frame_after}
 use Rattle.segment_plan.specs.declared.service.Service as Plan
-use Rattle.state_exchange.specs.Stated.{Service}
+use Rattle.state_model.specs.Stated.{Service}
 use Rattle.state_model.specs.States.{Table}
 use Rattle.idle_slaves.specs.Steps.{StepsAlone}
-use Rattle.task_model.specs.Accounts.{Pick, starts}
+use Rattle.state_model.specs.Accounts.{Pick, starts}
 use Rattle.idle_slaves.specs.Eager.{Remembered, IsClear, NoneLeft, MayBegin, IsEager, RemembersOn, GetsNone}
 use Rattle.idle_slaves.specs.Standing.{Standing, IsDone}
 

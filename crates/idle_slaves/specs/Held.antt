@@ -1,6 +1,6 @@
 -- A WRITE IN VAIN, and what may come into hand behind it.
 use Rattle.std.specs.Prelude.{◌≡◌, ◌≤◌, ℕ, true, Bool, Some, None, List}
-use Rattle.never_waits.specs.Moments.{IsFree, HeldStill}
+use Rattle.slave_model.specs.Moments.{IsFree, HeldStill}
 use Rattle.exchange_model.specs.Exchange.{Speech}
 use Rattle.idle_slaves.specs.Waiting.{Memory}
 use Rattle.life_model.specs.Lives.{Era, Life, era_next}
@@ -8,8 +8,8 @@ use Rattle.plan_ring.specs.Alike.{WishIs}
 use Rattle.life_model.specs.Own.{own}
 use Rattle.plan_ring.specs.of_run_frames.Waits.{Waits}
 use Rattle.segment_model.specs.Slaves.{Datagram}
-use Rattle.state_exchange.specs.Stated.{Service}
-use Rattle.task_model.specs.Accounts.{Pick, starts}
+use Rattle.state_model.specs.Stated.{Service}
+use Rattle.state_model.specs.Accounts.{Pick, starts}
 
 -- BEHIND A WRITE IN VAIN behind a step, with nothing gained since: where a state service might begin, none is left
 abbrev pub HeldUp : {M Q R : Type 0} → Speech M Q R → (Q → Bool) → Type 0 → Life M Q R → Memory → Waits → Type 0

@@ -1,6 +1,6 @@
 pub use Rattle.plan_ring.specs.of_slave_server as of_slave_server
 pub use Rattle.plan_ring.specs as of_plan_ring
-pub use Rattle.never_waits.specs as of_never_waits
+pub use Rattle.slave_model.specs as of_slave_model
 pub mod Eager
 pub mod EagerFrames
 pub mod Entered

@@ -8,7 +8,7 @@ use Rattle.plan_ring.specs.of_run_frames.Goes.{Under, back_life}
 use Rattle.plan_ring.specs.of_run_frames.Waits.{Waits, waits_on}
 use Rattle.segment_model.specs.Slaves.{Datagram, Registers}
 use Rattle.state_model.specs.States.{Table}
-use Rattle.task_model.specs.Accounts.{Pick}
+use Rattle.state_model.specs.Accounts.{Pick}
 use Rattle.idle_slaves.specs.Frames.{InVain, node_on, memory_on}
 use Rattle.idle_slaves.specs.Going.{Going, AccessVain, registers_on}
 use Rattle.idle_slaves.specs.Visited.{Waiting, LifeSpent}

@@ -4,7 +4,7 @@ use Rattle.exchange_model.specs.Exchange.{Exchange}
 use Rattle.link_model.specs.Slave.{processor_step}
 use Rattle.segment_model.specs.Slaves.{Processor, Slave, serving, slave_steps}
 use Rattle.state_model.specs.States.{Table, carry}
-use Rattle.task_model.specs.Accounts.{Duty, Stage}
+use Rattle.state_model.specs.Accounts.{Duty, Stage}
 
 -- a stage of a state service that isn't past its drain
 abbrev pub Drains : Stage → Type 0

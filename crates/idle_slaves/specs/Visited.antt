@@ -1,7 +1,7 @@
 -- ONE VISIT OF AN OPEN SLAVE, by its master's life of it: what came into hand with it, and what its datagram brought.
 use Rattle.std.specs.Prelude.{◌≡◌, ◌⊎◌, ◌==◌, ◌≤◌, ℕ, is_some, Bool, true, false, if◌then◌else◌, Option, Some, None, List, [], ◌∷◌, ⊤}
 use Rattle.exchange_model.specs.Rows.{Row}
-use Rattle.life_measure.specs.Visits.{Visit, mails_visit, drain_visit}
+use Rattle.life_model.specs.Visits.{Visit, mails_visit, drain_visit}
 use Rattle.life_model.specs.Lives.{Life, Stand}
 use Rattle.life_model.specs.Own.{own}
 use Rattle.link_model.specs.Frames.{Ask, mail_back}
@@ -14,8 +14,8 @@ use Rattle.segment_model.specs.Ends.{Passing}
 use Rattle.segment_model.specs.Record.{News, is_for}
 use Rattle.segment_model.specs.Laws.{IsSettled}
 use Rattle.segment_model.specs.Slaves.{Datagram, Access, Found, Slave}
-use Rattle.state_exchange.specs.Stated.{Service}
-use Rattle.task_model.specs.Accounts.{Duty, Pick, Stage}
+use Rattle.state_model.specs.Stated.{Service}
+use Rattle.state_model.specs.Accounts.{Duty, Pick, Stage}
 use Rattle.idle_slaves.specs.Waiting.{Wanted, Memory, Coming, MayCome, IsWaiting, IsSpent, link_by, wanted_by, memory_by}
 
 -- mailbox 0 has taken the mail that is passed on

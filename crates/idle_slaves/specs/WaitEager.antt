@@ -22,7 +22,7 @@ use Rattle.segment_model.specs.Slaves.{Datagram, grams}
 use Rattle.segment_plan.specs.declared.plan.Scenario.{Scenario}
 use Rattle.segment_plan.specs.declared.slave.SlaveSpec.{SlaveSpec}
 use Rattle.plan_ring.specs.of_slave_server.Serving.{Serving}
-use Rattle.slave_steps.specs.Node.{Node}
+use Rattle.slave_node.specs.Node.{Node}
 
 -- ALL IS DONE OF A SLAVE: it is open with nothing in doubt, no mail is held, a service might begin but its script is at its end, no packet waits at its port,
 -- and the slave is settled, without a control word that waits

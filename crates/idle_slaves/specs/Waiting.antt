@@ -1,6 +1,6 @@
 -- AN OPEN SLAVE WITH NOTHING IN DOUBT, since something was gained last: what its visits asked in vain, and the steps that its processor made.
 use Rattle.std.specs.Prelude.{◌≡◌, ◌≤◌, suc, is_some, Bool, true, false, if◌then◌else◌, Option, None, ⊤}
-use Rattle.life_measure.specs.Visits.{Visit, mails_visit, drain_visit, visit_gain, visited}
+use Rattle.life_model.specs.Visits.{Visit, mails_visit, drain_visit, visit_gain, visited}
 use Rattle.link_model.specs.Agree.{Agrees}
 use Rattle.link_model.specs.Gains.{NothingLeft}
 use Rattle.link_model.specs.Link.{Link, Event, happens}

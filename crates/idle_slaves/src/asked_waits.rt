@@ -3,7 +3,7 @@
 
 ghost use Rattle.std.specs.Prelude.{ℕ, Bool};
 ghost use Rattle.plan_ring.specs.of_life_runs.of_frame_view.View.{Lens};
-ghost use Rattle.never_waits.specs.Waits.{NeverWaits};
+ghost use Rattle.slave_model.specs.Waits.{NeverWaits};
 ghost use Rattle.plan_ring.specs.Asked.{asked};
 ghost use Rattle.slave_parts.specs.of_slave_model.Profile.{Profile, IsProfile};
 

@@ -15,7 +15,7 @@ ghost use Rattle.plan_ring.specs.of_run_frames.Goes.{Under};
 ghost use Rattle.plan_ring.specs.of_run_frames.Waits.{Waits};
 ghost use Rattle.segment_model.specs.Slaves.{Datagram, Processor, Slave, serving};
 ghost use Rattle.segment_plan.specs.declared.service.Service as Plan;
-ghost use Rattle.state_exchange.specs.Stated.{Service};
+ghost use Rattle.state_model.specs.Stated.{Service};
 ghost use Rattle.state_model.specs.States.{Table};
 
 /// AN OPEN SLAVE STANDS SO by each frame that came back and gained nothing of it, where its master makes no visit in vain if more could go on: visited less than

@@ -15,8 +15,8 @@ ghost use Rattle.idle_slaves.specs.Rows.{NeverWaits};
 ghost use Rattle.idle_slaves.specs.Runs.{VainIn};
 ghost use Rattle.idle_slaves.specs.Visited.{Waiting, Shows, Chosen, CameBack, HasRow, IsStill, IsUnpaused, LifeSpent, IsLeft, life_visit, memory_of};
 ghost use Rattle.idle_slaves.specs.Waiting.{Wanted, Memory, Coming, MayCome, IsVain, IsWaiting, IsSpent, IsIdle, memory_behind, tried};
-ghost use Rattle.life_measure.specs.Gains.{gains};
-ghost use Rattle.life_measure.specs.Repairs.{way_of};
+ghost use Rattle.life_model.specs.Gains.{gains};
+ghost use Rattle.life_model.specs.Repairs.{way_of};
 ghost use Rattle.life_model.specs.Eras.{EraIs};
 ghost use Rattle.life_model.specs.Lives.{Life, Spot, Era, life_next, life_back};
 ghost use Rattle.life_model.specs.Own.{own};
@@ -36,11 +36,11 @@ ghost use Rattle.plan_ring.specs.of_run_frames.Waits.{Waits, new_waits, waits_on
 ghost use Rattle.segment_model.specs.Record.{Frame, News};
 ghost use Rattle.segment_model.specs.Seats.{is_over};
 ghost use Rattle.segment_model.specs.Slaves.{Processor, Slave, serving, Datagram, Found, Registers};
-ghost use Rattle.state_exchange.specs.Stated.{Stated, IsStated};
+ghost use Rattle.state_model.specs.Stated.{Stated, IsStated};
 ghost use Rattle.state_model.specs.Promises.{IsTable};
 ghost use Rattle.state_model.specs.States.{Table, Phase, Event, run, carry};
 ghost use Rattle.std.specs.Prelude.{◌≡◌, ◌≤◌, ◌⊎◌, ℕ, true, false, Bool, Option, None, List, []};
-ghost use Rattle.task_model.specs.Accounts.{Pick};
+ghost use Rattle.state_model.specs.Accounts.{Pick};
 
 pub mod asked_waits;
 pub mod eager_slaves;

@@ -8,9 +8,9 @@ ghost use Rattle.life_model.specs.Eras.{EraIs};
 ghost use Rattle.life_model.specs.Lives.{Spot, Era};
 ghost use Rattle.segment_model.specs.Record.{Frame};
 ghost use Rattle.segment_model.specs.Slaves.{Processor, Registers, Slave};
-ghost use Rattle.state_exchange.specs.Stated.{Stated, IsStated};
+ghost use Rattle.state_model.specs.Stated.{Stated, IsStated};
 ghost use Rattle.state_model.specs.States.{Table, Phase};
-ghost use Rattle.task_model.specs.Accounts.{Duty, Stage};
+ghost use Rattle.state_model.specs.Accounts.{Duty, Stage};
 ghost use Rattle.idle_slaves.specs.Steps.{NotGone, StepsAlone};
 
 /// OF AN OPEN EPOCH a state service past its drain and its slave's registers are come to by events of state services; and while none is past its drain, a

@@ -6,7 +6,7 @@ use Rattle.std.proofs.lemmas.Map.{keys-set_value}
 use Rattle.std.proofs.lemmas.Map.Entries.{lookup_head, lookup_tail}
 use Rattle.byteorder.specs.Endian.{little_bytes}
 use Rattle.byteorder.specs.Numbers.{length-bytes_low_first}
-use Rattle.soe_model.specs.Elements.{Target, AreLawful}
+use Rattle.protocol_models.specs.Elements.{Target, AreLawful}
 use Rattle.idn_table.specs.declared.element.Element.{Element}
 use Rattle.idn_table.specs.declared.element.Element.TheVariants.{State, Name, Attribute, Unit as UnitOf, Minimum, Maximum, Value}
 use Rattle.idn_table.specs.Idns.{Kept, Key, Table, is_text, is_sized, is_bound, is_idn, is_rising, is_row, are_idns, is_key, idn_at, element_of, there, bound_octets, element_read, read_by, value_code, is_under, is_over, write_code_by, write_code_at, stored, written_by, idn_elements}

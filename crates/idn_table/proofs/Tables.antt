@@ -1,6 +1,6 @@
 -- Tables of IDNs: what a look-up finds, and what a write leaves.
 use Rattle.std.proofs.Common.{◌≡◌, ℕ, List, Option, None, Some, Ok, Err, sym, ap, ◌∙◌}
-use Rattle.soe_model.specs.Elements.{Target}
+use Rattle.protocol_models.specs.Elements.{Target}
 use Rattle.idn_table.specs.declared.element.Element.{Element}
 use Rattle.idn_table.specs.declared.element.Element.TheVariants.{State, Name, Attribute, Unit as UnitOf, Minimum, Maximum, Value}
 use Rattle.idn_table.specs.Idns.{Kept, Table, idn_at, element_of, value_code, write_code, write_code_by, write_code_at, stored, written_by, write_at}

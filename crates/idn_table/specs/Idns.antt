@@ -3,8 +3,8 @@ use Rattle.std.specs.Prelude.{◌≡◌, ℕ, ◌^◌, ◌==◌, ◌&&◌, ◌||
 use Rattle.std.specs.List.{list_all}
 use Rattle.std.specs.Map.{lookup, set_value, keys_of}
 use Rattle.byteorder.specs.Endian.{little_bytes, little_number}
-use Rattle.soe_model.specs.Elements.{Target, Elements}
-pub use Rattle.soe_model.specs.Elements.{target}
+use Rattle.protocol_models.specs.Elements.{Target, Elements}
+pub use Rattle.protocol_models.specs.Elements.{target}
 use Rattle.idn_table.specs.declared.element.Element.{Element}
 use Rattle.idn_table.specs.declared.element.Element.TheVariants.{State, Name, Attribute, Unit as UnitOf, Minimum, Maximum, Value}
 use Rattle.idn_table.specs.declared.spec.IdnSpec.{IdnSpec}

@@ -1,3 +1,3 @@
-pub use Rattle.soe_model.specs.of_exchange_model as of_exchange_model
-pub use Rattle.soe_model.specs as of_soe_model
+pub use Rattle.protocol_models.specs.of_exchange_model as of_exchange_model
+pub use Rattle.protocol_models.specs as of_protocol_models
 pub mod Idns

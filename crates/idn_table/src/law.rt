@@ -1,7 +1,7 @@
-ghost use Rattle.soe_model.specs.of_exchange_model.Areas.{Areas, AreMailboxes};
-ghost use Rattle.soe_model.specs.of_exchange_model.Exchange.{IsLawful};
-ghost use Rattle.soe_model.specs.Elements.{AreLawful};
-ghost use Rattle.soe_model.specs.Octets.{soe_mail_exchange};
+ghost use Rattle.protocol_models.specs.of_exchange_model.Areas.{Areas, AreMailboxes};
+ghost use Rattle.protocol_models.specs.of_exchange_model.Exchange.{IsLawful};
+ghost use Rattle.protocol_models.specs.Elements.{AreLawful};
+ghost use Rattle.protocol_models.specs.SoeOctets.{soe_mail_exchange};
 ghost use Rattle.idn_table.specs.Idns.{idn_elements};
 
 /// The table of IDNs is one over which SoE keeps the laws of an exchange: for each element, value and pair of mailbox lengths, from a server

@@ -1,7 +1,7 @@
 ghost use Rattle.std.specs.Prelude.{◌≡◌, ◌≤◌, [], true, false, length, IsTrue, ◌↔◌, IfOk, OnOk, OnErr, None};
 ghost use Rattle.std.specs.List.{position_or_len};
 ghost use Rattle.std.specs.Map.{keys_of};
-ghost use Rattle.soe_model.specs.Elements.{target};
+ghost use Rattle.protocol_models.specs.Elements.{target};
 ghost use Rattle.idn_table.specs.Idns.{key_of, idn_of, is_idn, is_below, are_idns, placed, idn_at, write_code_at, read_at, write_at, Reads, Stores};
 
 use crate::codes::{NO_ELEMENT, NO_IDN};

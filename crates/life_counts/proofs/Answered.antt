@@ -6,13 +6,13 @@ use Rattle.exchange_model.specs.Exchange.{Exchange, Speech}
 use Rattle.exchange_model.specs.Rows.{Row, row_told, left}
 use Rattle.life_model.specs.Lives.{Era, era_next, granted, passing_begins}
 use Rattle.few_replies.specs.Calm.{calm_tagged}
-use Rattle.passed_whole.specs.Erased.{OfRow}
-use Rattle.passed_whole.specs.Silent.{is_passed}
+use Rattle.few_replies.specs.Erased.{OfRow}
+use Rattle.few_replies.specs.Silent.{is_passed}
 use Rattle.segment_model.specs.Ends.{Passing}
 use Rattle.segment_model.specs.Seats.{Side, is_none_left, side_begins, side_holds, next_mail}
 use Rattle.serving_model.specs.Tagged.{Tagged, Asked}
-use Rattle.state_exchange.specs.Stated.{Service}
-use Rattle.task_model.specs.Accounts.{Account, Duty, Pick, Started, is_free, is_acknowledged, account_begins, state_begins, starts, mails_begin}
+use Rattle.state_model.specs.Stated.{Service}
+use Rattle.state_model.specs.Accounts.{Account, Duty, Pick, Started, is_free, is_acknowledged, account_begins, state_begins, starts, mails_begin}
 use Rattle.life_counts.proofs.Begins.{both_of, may_begin, may_not, nothing_begins, free_over}
 use Rattle.life_counts.specs.Epochs.{newest_of}
 use Rattle.life_counts.proofs.Marks.{newest_last}

@@ -7,10 +7,10 @@ use Rattle.life_model.specs.Own.{own}
 use Rattle.link_model.specs.Frames.{all_accepted}
 use Rattle.link_model.specs.Segment.{RingFate}
 use Rattle.few_replies.specs.Calm.{calm_tagged}
-use Rattle.passed_whole.specs.Client.{ByContents}
-use Rattle.passed_whole.specs.Erased.{side_seen, all_news_as, OfRow, EndOne}
-use Rattle.passed_whole.proofs.Naturals.{back_side, lost_side}
-use Rattle.passed_whole.specs.Silent.{is_passed}
+use Rattle.few_replies.specs.Client.{ByContents}
+use Rattle.few_replies.specs.Erased.{side_seen, all_news_as, OfRow, EndOne}
+use Rattle.few_replies.proofs.Naturals.{back_side, lost_side}
+use Rattle.few_replies.specs.Silent.{is_passed}
 use Rattle.segment_model.specs.Ends.{Outcome, Passing}
 use Rattle.segment_model.specs.Record.{News, is_for, mails_heard}
 use Rattle.segment_model.specs.Seats.{side_back, side_lost}
@@ -18,8 +18,8 @@ use Rattle.segment_model.specs.Slaves.{Datagram, grams}
 use Rattle.serving_model.specs.Erasing.{datagram_as, all_as}
 use Rattle.serving_model.specs.Tagged.{Tagged, Asked}
 use Rattle.serving_model.specs.TaggedStates.{asked_acknowledged}
-use Rattle.state_exchange.specs.Stated.{Stated}
-use Rattle.task_model.specs.Accounts.{Account, Duty, Change, Progress, account_by, account_met, account_back, access_done}
+use Rattle.state_model.specs.Stated.{Stated}
+use Rattle.state_model.specs.Accounts.{Account, Duty, Change, Progress, account_by, account_met, account_back, access_done}
 use Rattle.life_counts.specs.Seen.{outcome_seen, account_seen, era_seen, change_seen}
 use Rattle.life_counts.specs.Spoken.{Naming, Speaks}
 use Rattle.life_counts.proofs.News.{passes_same}

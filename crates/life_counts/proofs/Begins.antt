@@ -7,19 +7,19 @@ use Rattle.exchange_model.specs.Exchange.{Exchange, Speech, plain}
 use Rattle.exchange_model.specs.Rows.{Row, begun, ends_unheard, row_told}
 use Rattle.life_model.specs.Lives.{Era, era_next, passing_begins}
 use Rattle.few_replies.specs.Calm.{calm_tagged}
-use Rattle.passed_whole.specs.Client.{ByContents}
-use Rattle.passed_whole.specs.Erased.{row_seen, side_seen, OfRow, PlanOne}
-use Rattle.passed_whole.proofs.Naturals.{takes_up}
+use Rattle.few_replies.specs.Client.{ByContents}
+use Rattle.few_replies.specs.Erased.{row_seen, side_seen, OfRow, PlanOne}
+use Rattle.few_replies.proofs.Naturals.{takes_up}
 use Rattle.segment_model.specs.Ends.{Passing}
 use Rattle.segment_model.specs.Seats.{Side, newest, is_over, side_begins, side_next, side_holds, next_mail}
 use Rattle.serving_model.specs.Tagged.{Tagged, Asked, asked_exec, no_reply}
 use Rattle.serving_model.specs.TaggedStates.{asked_acknowledged}
-use Rattle.passed_whole.specs.Silent.{is_passed}
-use Rattle.state_exchange.specs.Stated.{Stated, Service}
+use Rattle.few_replies.specs.Silent.{is_passed}
+use Rattle.state_model.specs.Stated.{Stated, Service}
 use Rattle.state_model.specs.Promises.{state_behind}
 use Rattle.state_model.specs.States.{Table}
-use Rattle.task_model.specs.Promise.{services_in}
-use Rattle.task_model.specs.Accounts.{Account, Duty, Pick, Started, is_free, is_acknowledged, account_begins, state_begins, starts, mails_begin}
+use Rattle.state_model.specs.Promise.{services_in}
+use Rattle.state_model.specs.Accounts.{Account, Duty, Pick, Started, is_free, is_acknowledged, account_begins, state_begins, starts, mails_begin}
 use Rattle.life_counts.specs.Seen.{service_seen, account_seen, era_seen, started_seen}
 use Rattle.life_counts.specs.Foreseen.{AllRight, server_behind}
 use Rattle.life_counts.specs.Spoken.{Naming, IsScript, IsPassed, IsNamed, Speaks}

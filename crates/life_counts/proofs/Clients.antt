@@ -5,10 +5,10 @@ use Rattle.exchange_model.specs.Exchange.{Exchange, Speech, plain}
 use Rattle.exchange_model.specs.Rows.{Row, left}
 use Rattle.link_model.specs.Mails.{LinkMail}
 use Rattle.few_replies.specs.Calm.{calm_tagged}
-use Rattle.passed_whole.specs.Client.{ByContents}
-use Rattle.passed_whole.specs.Erased.{row_seen, PlanOne, EndOne}
-use Rattle.passed_whole.proofs.Clients.{plain_untag, untag_told}
-use Rattle.passed_whole.proofs.Naturals.{none_of}
+use Rattle.few_replies.specs.Client.{ByContents}
+use Rattle.few_replies.specs.Erased.{row_seen, PlanOne, EndOne}
+use Rattle.few_replies.proofs.Clients.{plain_untag, untag_told}
+use Rattle.few_replies.proofs.Naturals.{none_of}
 use Rattle.segment_model.specs.Seats.{is_none_left, is_over}
 use Rattle.serving_model.specs.Erasing.{box_as}
 use Rattle.serving_model.specs.Passing.{ends_told}

@@ -6,13 +6,13 @@ use Rattle.exchange_model.specs.Rows.{Row, told_all, heard_all, exec_all}
 use Rattle.exchange_model.proofs.Settles.{told_all_last, heard_all_last}
 use Rattle.segment_model.specs.Seats.{newest, rows_of}
 use Rattle.state_model.specs.States.{Phase}
-use Rattle.state_exchange.specs.Stated.{Service, states_in, with_states}
-use Rattle.task_model.specs.Accounts.{Stage, Duty, Change, Account, Started}
-use Rattle.task_model.specs.Promise.{TasksPromised, TasksAnswered, services_in, state_of, states_started, changes_in, duty_in}
-use Rattle.task_model.proofs.Sessions.{tasks_promised, tasks_answered}
+use Rattle.state_model.specs.Stated.{Service, states_in, with_states}
+use Rattle.state_model.specs.Accounts.{Stage, Duty, Change, Account, Started}
+use Rattle.state_model.specs.Promise.{TasksPromised, TasksAnswered, services_in, state_of, states_started, changes_in, duty_in}
+use Rattle.state_model.proofs.Sessions.{tasks_promised, tasks_answered}
 use Rattle.few_replies.specs.RowCounts.{AreCounted, rows_mails}
 use Rattle.few_replies.specs.Services.{service_count, services_count}
-use Rattle.life_measure.specs.Gains.{rows_gains, newest_gains, phase_gains, stage_gains, duty_gains, changes_gains, account_gains, era_gains}
+use Rattle.life_model.specs.Gains.{rows_gains, newest_gains, phase_gains, stage_gains, duty_gains, changes_gains, account_gains, era_gains}
 use Rattle.life_model.specs.Eras.{OpenEra, frames_of}
 use Rattle.life_model.specs.Lives.{Era}
 use Rattle.life_model.proofs.Eras.{session_of, of_one}

@@ -5,9 +5,9 @@ use Rattle.life_model.specs.Eras.{EraIs, OpenEra, era_frames}
 use Rattle.life_model.specs.Lives.{Spot, Era}
 use Rattle.life_model.proofs.Eras.{session_of, of_one}
 use Rattle.few_replies.specs.Calm.{calm_tagged}
-use Rattle.passed_whole.specs.Client.{ByContents}
+use Rattle.few_replies.specs.Client.{ByContents}
 use Rattle.link_model.specs.Mails.{LinkMail}
-use Rattle.passed_whole.specs.Erased.{OfRow}
+use Rattle.few_replies.specs.Erased.{OfRow}
 use Rattle.segment_model.specs.Record.{Frame, heard, kept_all, nothing_kept}
 use Rattle.segment_model.proofs.Posts.{IsFresh, KeptOut}
 use Rattle.serving_model.specs.Passing.{LastTells}
@@ -16,11 +16,11 @@ use Rattle.segment_model.specs.Slaves.{Registers, Processor, Slave, slave_steps}
 use Rattle.serving_model.specs.Erasing.{slave_as}
 use Rattle.serving_model.specs.Tagged.{IsServed, Tagged, Asked, Rowed, real, ideal}
 use Rattle.serving_model.specs.TaggedStates.{IsStatedServed, tagged_states}
-use Rattle.state_exchange.specs.Stated.{Stated, IsStated}
+use Rattle.state_model.specs.Stated.{Stated, IsStated}
 use Rattle.state_model.specs.States.{Table, carry}
-use Rattle.task_model.specs.Accounts.{Account}
-use Rattle.task_model.specs.Promise.{services_in}
-use Rattle.task_model.proofs.Sessions.{of_slaves}
+use Rattle.state_model.specs.Accounts.{Account}
+use Rattle.state_model.specs.Promise.{services_in}
+use Rattle.state_model.proofs.Sessions.{of_slaves}
 use Rattle.life_counts.specs.Foreseen.{AllRight}
 use Rattle.life_counts.proofs.Marks.{IsPassedNow, passed_now}
 use Rattle.life_counts.proofs.Rights.{Between}

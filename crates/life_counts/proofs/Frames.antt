@@ -7,13 +7,12 @@ use Rattle.link_model.specs.Frames as Link
 use Rattle.link_model.specs.Frames.{Ask, IsSent, in_ask}
 use Rattle.link_model.specs.Mails.{LinkMail}
 use Rattle.link_model.specs.Master.{InHalf, InState}
-use Rattle.passed_whole.specs.Led.{IsSingle, AreSingle}
+use Rattle.few_replies.specs.Led.{IsSingle, AreSingle}
 use Rattle.segment_model.specs.Record.{is_for}
-use Rattle.segment_model.specs.Slaves.{Datagram, Address, Slave, grams, address_behind, slave_meets, frame_after}
+use Rattle.segment_model.specs.Slaves.{Datagram, Address, Slave, grams, address_behind, slave_meets, frame_after, Access}
 use Rattle.serving_model.specs.Erasing.{box_as, ask_as, datagram_as, all_as}
 use Rattle.serving_model.specs.Tagged.{Meant, Tagged}
-use Rattle.task_model.specs.Accounts.{IsServed, IsServed.nothing, IsServed.other, IsServed.quiet, IsServed.own}
-use Rattle.segment_model.specs.Slaves.{Access}
+use Rattle.state_model.specs.Accounts.{IsServed, IsServed.nothing, IsServed.other, IsServed.quiet, IsServed.own}
 
 -- ---- a mail of which nothing is known gets no meaning
 module _ {M : Type 0} (Q : Type 0) where

@@ -1,6 +1,6 @@
 -- WHAT THE LAST EPOCH of a list adds, and what it is.
 use Rattle.std.proofs.Common.{◌≡◌, ℕ, ◌+◌, ◌≤◌, Option, Some, None, List, [], ◌∷◌, ◌++◌, arith}
-use Rattle.life_measure.specs.Gains.{idle_gains, era_gains, eras_gains}
+use Rattle.life_model.specs.Gains.{idle_gains, era_gains, eras_gains}
 use Rattle.life_model.specs.Lives.{Era}
 use Rattle.link_model.specs.Mails.{LinkMail}
 use Rattle.life_counts.specs.Begun.{era_most, eras_most, IsUnopened, AllUnopened}

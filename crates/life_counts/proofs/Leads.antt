@@ -5,13 +5,13 @@ use Rattle.exchange_model.specs.Rows.{answer_after}
 use Rattle.life_model.specs.Lives.{Era, Life, era_after, returns_to_init, opens_state, reopening, reopens_at, reopens, passes}
 use Rattle.life_model.specs.Own as Own
 use Rattle.link_model.specs.Segment.{RingFate}
-use Rattle.passed_whole.specs.Led.{counted_news}
+use Rattle.few_replies.specs.Led.{counted_news}
 use Rattle.segment_model.specs.Record as Record
 use Rattle.segment_model.specs.Record.{News, mails_heard}
 use Rattle.segment_model.specs.Seats.{side_back, side_lost}
 use Rattle.segment_model.specs.Slaves.{Slave, Datagram, Ring}
 use Rattle.serving_model.specs.Tagged.{Tagged, untag}
-use Rattle.task_model.specs.Accounts.{Duty, Stage, account_back}
+use Rattle.state_model.specs.Accounts.{Duty, Stage, account_back}
 use Rattle.life_counts.proofs.Overs.{ends_last}
 
 -- the mails heard are the same without empty reads

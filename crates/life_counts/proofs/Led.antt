@@ -9,23 +9,23 @@ use Rattle.life_model.specs.Own as Own
 use Rattle.life_model.specs.Own.{own_fate, own_frame}
 use Rattle.link_model.specs.Frames.{all_accepted}
 use Rattle.link_model.specs.Segment.{RingFate}
-use Rattle.passed_whole.specs.Client.{ByContents}
-use Rattle.passed_whole.specs.Erased.{frame_as, all_news_as, OfRow, EndOne}
-use Rattle.passed_whole.proofs.Naturals.{frame_of}
-use Rattle.passed_whole.specs.Led.{IsLed, EraTurn, MayTurn, NoneUnheard, NowHeard, HasHeard, IsAnswered, frame_in, news_in, turn_next, turn_after, counted_news, counts_behind, has_step}
-use Rattle.passed_whole.specs.Silent.{is_passed}
-use Rattle.passed_whole.proofs.Rows as PassingRows
-use Rattle.passed_whole.specs.Heard.{EraPasses, HeardBy}
+use Rattle.few_replies.specs.Client.{ByContents}
+use Rattle.few_replies.specs.Erased.{frame_as, all_news_as, OfRow, EndOne}
+use Rattle.few_replies.proofs.Naturals.{frame_of}
+use Rattle.few_replies.specs.Led.{IsLed, EraTurn, MayTurn, NoneUnheard, NowHeard, HasHeard, IsAnswered, frame_in, news_in, turn_next, turn_after, counted_news, counts_behind, has_step}
+use Rattle.few_replies.specs.Silent.{is_passed}
+use Rattle.few_replies.proofs.Rows as PassingRows
+use Rattle.few_replies.specs.Heard.{EraPasses, HeardBy}
 use Rattle.segment_model.specs.Ends.{Passing}
 use Rattle.segment_model.specs.Record.{Frame, News, Kept, frame_news, kept_all, nothing_kept, mails_heard, did_read}
 use Rattle.segment_model.specs.Slaves.{Registers, Processor, Slave, Datagram, Ring, grams, ring_after, ring_back, ring_steps}
 use Rattle.serving_model.specs.Erasing.{slave_as, all_as}
 use Rattle.serving_model.specs.Passing.{ends_told}
 use Rattle.serving_model.specs.Tagged.{Tagged, Asked, Rowed, real, untag, no_reply, ends_marked}
-use Rattle.state_exchange.specs.Stated.{IsStated, Service}
+use Rattle.state_model.specs.Stated.{IsStated, Service}
 use Rattle.state_model.specs.States.{Table}
-use Rattle.task_model.specs.Accounts.{Duty, Pick, Started, is_free, starts, account_begins}
-use Rattle.task_model.specs.Promise.{services_in}
+use Rattle.state_model.specs.Accounts.{Duty, Pick, Started, is_free, starts, account_begins}
+use Rattle.state_model.specs.Promise.{services_in}
 use Rattle.life_counts.specs.Epochs.{Speaker, IsSpeaker, IsRun, AllFair, between, seeing, seeing_states, era_named}
 use Rattle.life_counts.specs.Foreseen.{AllRight}
 use Rattle.life_counts.specs.Spoken.{IsPassed}

@@ -1,5 +1,5 @@
 pub use Rattle.whole_ring.proofs.of_slave_lives as of_slave_lives
-pub use Rattle.passed_whole.proofs as of_passed_whole
+pub use Rattle.few_replies.proofs as of_few_replies
 pub mod Answered
 pub mod Backs
 pub mod Begins
@@ -26,3 +26,6 @@ pub mod Unopened
 pub mod Ways
 pub mod Whole
 pub mod Worked
+mod Entries
+mod Filed
+mod OfPlan

@@ -8,9 +8,9 @@ use Rattle.exchange_model.proofs.Lists.{append_none}
 use Rattle.exchange_model.proofs.Nows.{heard_begins}
 use Rattle.exchange_model.proofs.Settles.{settled_app, settled_ready}
 use Rattle.few_replies.specs.Calm.{calm_tagged}
-use Rattle.passed_whole.specs.Erased.{OfRow}
-use Rattle.passed_whole.proofs.Clients.{plain_untag}
-use Rattle.passed_whole.specs.Silent.{IsForeseenRight}
+use Rattle.few_replies.specs.Erased.{OfRow}
+use Rattle.few_replies.proofs.Clients.{plain_untag}
+use Rattle.few_replies.specs.Silent.{IsForeseenRight}
 use Rattle.segment_model.specs.Ends.{Outcome}
 use Rattle.segment_model.specs.Record.{Frame}
 use Rattle.segment_model.specs.Seats.{Seat}
@@ -18,17 +18,17 @@ use Rattle.serving_model.specs.Passing.{ends_told, LastTells}
 use Rattle.serving_model.specs.Tagged.{Meant, Tagged, Asked, untag, own_gift, is_own, no_reply, last_gifts, answer_gifts, ends_marked, Rowed, ideal}
 use Rattle.serving_model.specs.TaggedStates.{tagged_states}
 use Rattle.serving_model.proofs.Passings.{by_contents}
-use Rattle.state_exchange.specs.Stated.{Stated, IsStated, Act, acts, Service, Counting, with_states}
-use Rattle.state_exchange.proofs.Acts.{plain_acts, begin_acts, given_acts}
-use Rattle.state_exchange.proofs.StatedLaw.{stated_law}
+use Rattle.state_model.specs.Stated.{Stated, IsStated, Act, acts, Service, Counting, with_states}
+use Rattle.state_model.proofs.Acts.{plain_acts, begin_acts, given_acts}
+use Rattle.state_model.proofs.StatedLaw.{stated_law}
 use Rattle.state_model.specs.Promises.{IsTable}
 use Rattle.state_model.specs.States.{Table}
-use Rattle.task_model.specs.Accounts.{Account, Started}
-use Rattle.task_model.specs.Promise.{services_in}
-use Rattle.task_model.proofs.Ghosts as Ghosts
-use Rattle.task_model.proofs.Ghosts.{counting, start_of, starts_of, starts_append, Shows, Rested, RestedRow}
-use Rattle.task_model.proofs.Newest.{Holds}
-use Rattle.task_model.proofs.Stately.{state_over}
+use Rattle.state_model.specs.Accounts.{Account, Started}
+use Rattle.state_model.specs.Promise.{services_in}
+use Rattle.state_model.proofs.Ghosts as Ghosts
+use Rattle.state_model.proofs.Ghosts.{counting, start_of, starts_of, starts_append, Shows, Rested, RestedRow}
+use Rattle.state_model.proofs.Newest.{Holds}
+use Rattle.state_model.proofs.Stately.{state_over}
 use Rattle.life_counts.specs.Epochs.{newest_of}
 use Rattle.life_counts.specs.Foreseen.{AllRight}
 use Rattle.life_counts.proofs.Rights.{lasts_tell, untag-last}

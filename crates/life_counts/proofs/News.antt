@@ -3,10 +3,10 @@ use Rattle.std.proofs.Common.{◌≡◌, ℕ, ◌==◌, ◌&&◌, Bool, true, fa
 use Rattle.exchange_model.specs.Exchange.{Speech}
 use Rattle.life_model.specs.Lives.{passes}
 use Rattle.link_model.specs.Frames.{Ask}
-use Rattle.passed_whole.specs.Client.{ByContents}
-use Rattle.passed_whole.specs.Erased.{frame_as, news_as, all_news_as}
-use Rattle.passed_whole.proofs.Naturals.{kept_of}
-use Rattle.passed_whole.specs.Led.{counted_news}
+use Rattle.few_replies.specs.Client.{ByContents}
+use Rattle.few_replies.specs.Erased.{frame_as, news_as, all_news_as}
+use Rattle.few_replies.proofs.Naturals.{kept_of}
+use Rattle.few_replies.specs.Led.{counted_news}
 use Rattle.segment_model.specs.Ends.{Passing, passing_after}
 use Rattle.segment_model.specs.Record.{Frame, News, Kept, kept_after, kept_all, did_read, is_read, without_empty, mails_heard}
 use Rattle.segment_model.specs.Slaves.{Datagram, grams}

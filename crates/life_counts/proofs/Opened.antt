@@ -7,10 +7,10 @@ use Rattle.life_model.specs.Lives.{Spot, Era, era_after}
 use Rattle.life_model.specs.Own as Own
 use Rattle.life_model.specs.Own.{own_frame, blank}
 use Rattle.link_model.specs.Segment.{RingFate}
-use Rattle.passed_whole.specs.Erased.{frame_as}
+use Rattle.few_replies.specs.Erased.{frame_as}
 use Rattle.segment_model.specs.Record.{Frame, News, is_for}
 use Rattle.segment_model.specs.Slaves.{Datagram}
-use Rattle.task_model.specs.Accounts.{Account, Duty, Progress, account_met, account_by, account_back, access_done}
+use Rattle.state_model.specs.Accounts.{Account, Duty, Progress, account_met, account_by, account_back, access_done}
 
 -- frames leave what came into hand
 pub met_started : {N P S : Type 0} (station frame : ℕ) (a : Account P S) (hand : Option Duty) (d : Datagram N) → (account_met station frame a hand d).started ≡ a.started

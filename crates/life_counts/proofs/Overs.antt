@@ -8,8 +8,8 @@ use Rattle.link_model.specs.Frames.{Ask, Gram, IsSent, in_ask, gram_meets, write
 use Rattle.link_model.specs.Mails.{LinkMail, is_repeat, news}
 use Rattle.link_model.specs.Master.{InHalf, InState}
 use Rattle.link_model.specs.Slave.{Node}
-use Rattle.passed_whole.specs.Led.{counted_news}
-use Rattle.passed_whole.specs.Heard.{HeardBy}
+use Rattle.few_replies.specs.Led.{counted_news}
+use Rattle.few_replies.specs.Heard.{HeardBy}
 use Rattle.segment_model.specs.Ends.{Passing, passing_after}
 use Rattle.segment_model.specs.Record.{Frame, News, Kept, is_for, is_read, mails_heard, without_empty, gram_news, found_news, datagram_news, back_news, last_heard, frame_news, all_told}
 use Rattle.segment_model.specs.Slaves.{Datagram, Found, Slave, grams, slave_meets, frame_after}

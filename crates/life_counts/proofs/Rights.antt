@@ -8,16 +8,16 @@ use Rattle.exchange_model.proofs.Lists.{cut}
 use Rattle.exchange_model.proofs.Settles.{whole_behind, whole_ready}
 use Rattle.exchange_model.proofs.Words.{after-append}
 use Rattle.few_replies.specs.Calm.{calm_tagged}
-use Rattle.passed_whole.specs.Client.{ByContents}
-use Rattle.passed_whole.specs.Silent.{IsForeseenRight}
+use Rattle.few_replies.specs.Client.{ByContents}
+use Rattle.few_replies.specs.Silent.{IsForeseenRight}
 use Rattle.segment_model.specs.Ends.{Outcome}
 use Rattle.serving_model.specs.Tagged.{IsServed, Meant, Tagged, Asked, untag, more_of, told, gift, own_gift, is_own, no_reply, last_gifts, answer_gifts, Rowed, real, ideal, tagged, serve_tagged}
 use Rattle.serving_model.specs.TaggedStates.{told_state, tagged_states}
 use Rattle.serving_model.proofs.Erased.{rows_is}
 use Rattle.serving_model.proofs.TaggedLaw.{untag-told, untag-gift, own-gift}
-use Rattle.state_exchange.specs.Stated.{Stated, IsStated, Act, acts, Service, Counting, with_states}
-use Rattle.state_exchange.proofs.Acts.{after_acts}
-use Rattle.state_exchange.proofs.StatedLaw.{stated_law}
+use Rattle.state_model.specs.Stated.{Stated, IsStated, Act, acts, Service, Counting, with_states}
+use Rattle.state_model.proofs.Acts.{after_acts}
+use Rattle.state_model.proofs.StatedLaw.{stated_law}
 use Rattle.state_model.specs.Promises.{state_behind}
 use Rattle.state_model.specs.States.{Table}
 use Rattle.life_counts.specs.Foreseen.{IsRightAt, AllRight}

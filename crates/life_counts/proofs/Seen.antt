@@ -6,13 +6,13 @@ use Rattle.std.proofs.lemmas.List.Sums.{sum_by-cons}
 use Rattle.exchange_model.specs.Rows.{Row}
 use Rattle.link_model.specs.Mails.{LinkMail}
 use Rattle.life_counts.specs.Begun.{service_most, begun_most, eras_most, life_most, AllUnopened, AreUnopened}
-use Rattle.life_measure.specs.Gains.{row_gains, rows_gains, newest_gains, changes_gains, idle_gains, era_gains, eras_gains, gains}
+use Rattle.life_model.specs.Gains.{row_gains, rows_gains, newest_gains, changes_gains, idle_gains, era_gains, eras_gains, gains}
 use Rattle.life_model.specs.Lives.{Era, Life}
 use Rattle.serving_model.specs.Erasing.{box_as}
-use Rattle.state_exchange.specs.Stated.{Service}
-use Rattle.task_model.specs.Accounts.{Started, Change}
-use Rattle.task_model.specs.Promise.{services_in}
-use Rattle.passed_whole.specs.Erased.{row_seen}
+use Rattle.state_model.specs.Stated.{Service}
+use Rattle.state_model.specs.Accounts.{Started, Change}
+use Rattle.state_model.specs.Promise.{services_in}
+use Rattle.few_replies.specs.Erased.{row_seen}
 use Rattle.life_counts.specs.Seen.{service_seen, started_seen, change_seen, era_seen, life_seen}
 
 module _ {N M P Q S R : Type 0} (f : N → M) (g : P → Q) (h : S → R) where

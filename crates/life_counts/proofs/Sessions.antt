@@ -7,17 +7,17 @@ use Rattle.life_model.specs.Eras.{planned, opened_slave}
 use Rattle.life_model.specs.Lives.{Spot, Era, new_era, granted}
 use Rattle.life_model.specs.Own.{blank}
 use Rattle.life_model.proofs.Eras as LifeEras
-use Rattle.passed_whole.specs.Erased.{frame_as, OfRow, EndOne}
-use Rattle.passed_whole.specs.Led.{IsLed, EraTurn, NoneUnheard, IsAnswered, news_in, turn_next, turn_after}
-use Rattle.passed_whole.specs.Silent.{is_passed}
-use Rattle.passed_whole.proofs.Rows as PassingRows
+use Rattle.few_replies.specs.Erased.{frame_as, OfRow, EndOne}
+use Rattle.few_replies.specs.Led.{IsLed, EraTurn, NoneUnheard, IsAnswered, news_in, turn_next, turn_after}
+use Rattle.few_replies.specs.Silent.{is_passed}
+use Rattle.few_replies.proofs.Rows as PassingRows
 use Rattle.segment_model.specs.Record.{Frame}
 use Rattle.segment_model.specs.Slaves.{Registers, Processor, Slave}
 use Rattle.serving_model.specs.Tagged.{Tagged, Asked, Rowed}
-use Rattle.state_exchange.specs.Stated.{IsStated, Service}
+use Rattle.state_model.specs.Stated.{IsStated, Service}
 use Rattle.state_model.specs.States.{Table}
-use Rattle.task_model.specs.Accounts.{Account, Duty, Started, is_free, is_acknowledged, starts, state_begins, account_begins}
-use Rattle.task_model.specs.Tasks.{IsTaskPlan}
+use Rattle.state_model.specs.Accounts.{Account, Duty, Started, is_free, is_acknowledged, starts, state_begins, account_begins}
+use Rattle.state_model.specs.Tasks.{IsTaskPlan}
 use Rattle.life_counts.specs.Epochs.{Speaker, IsSpeaker, IsRun, IsSeen, AllFair, between, newest_of, seeing, seeing_states}
 use Rattle.life_counts.proofs.Begins.{NowKnown, contents_of, hands_of, lasts_of, plans_of}
 use Rattle.life_counts.proofs.Clients.{MarksSame, ends}

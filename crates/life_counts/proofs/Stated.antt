@@ -4,7 +4,7 @@ use Rattle.exchange_model.specs.Exchange.{Exchange, AnswersLast}
 use Rattle.few_replies.specs.Calm.{asked_fair, calm_tagged}
 use Rattle.serving_model.specs.Tagged.{Asked, ideal, tagged}
 use Rattle.serving_model.specs.TaggedStates.{tagged_states}
-use Rattle.state_exchange.specs.Stated.{Stated, IsStated}
+use Rattle.state_model.specs.Stated.{Stated, IsStated}
 
 left_of : (a b : Bool) → (a && b) ≡ true → a ≡ true
 left_of true b e = refl

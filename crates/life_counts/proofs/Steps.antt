@@ -6,7 +6,7 @@ use Rattle.exchange_model.proofs.Lists.{append_cancel, append_none}
 use Rattle.link_model.specs.Slave.{node_look, node_takes, node_serve}
 use Rattle.link_model.proofs.Law.{taken_of_held, accepted_of_offered}
 use Rattle.few_replies.specs.Calm.{calm_tagged}
-use Rattle.passed_whole.specs.Client.{ByContents}
+use Rattle.few_replies.specs.Client.{ByContents}
 use Rattle.segment_model.specs.Ends.{Outcome}
 use Rattle.segment_model.specs.Record.{Frame, heard}
 use Rattle.segment_model.specs.Seats.{Seat, link_of, seat_steps}
@@ -17,20 +17,20 @@ use Rattle.serving_model.specs.Tagged.{IsServed, Tagged, Asked, Rowed, real, ide
 use Rattle.serving_model.specs.TaggedStates.{IsStatedServed, told_state, tagged_states}
 use Rattle.serving_model.proofs.Erasing.{looked-as, serve-as}
 use Rattle.serving_model.proofs.TaggedLaw.{same-is}
-use Rattle.state_exchange.specs.Stated.{Stated, IsStated, Act, acts, Service, Counting, with_states}
-use Rattle.state_exchange.proofs.Acts.{acts_append}
+use Rattle.state_model.specs.Stated.{Stated, IsStated, Act, acts, Service, Counting, with_states}
+use Rattle.state_model.proofs.Acts.{acts_append}
 use Rattle.state_model.specs.Promises.{IsTable, state_behind}
 use Rattle.state_model.specs.States.{Table, Phase, carry}
-use Rattle.task_model.specs.Accounts.{Account, Duty, Stage}
-use Rattle.task_model.specs.Promise.{services_in}
-use Rattle.task_model.proofs.Carries.{StaysOr}
-use Rattle.task_model.proofs.Ghosts as Ghosts
-use Rattle.task_model.proofs.Ghosts.{counting, starts_of, Staged, Carried}
-use Rattle.task_model.proofs.Moves.{in_hand}
-use Rattle.task_model.proofs.Newest.{Holds}
-use Rattle.task_model.proofs.Served.{duty_of}
-use Rattle.task_model.proofs.Stately.{StageStep, StateStep, state_over, step_state}
-use Rattle.task_model.proofs.Stepped.{Shifts, carried_tells}
+use Rattle.state_model.specs.Accounts.{Account, Duty, Stage}
+use Rattle.state_model.specs.Promise.{services_in}
+use Rattle.state_model.proofs.Carries.{StaysOr}
+use Rattle.state_model.proofs.Ghosts as Ghosts
+use Rattle.state_model.proofs.Ghosts.{counting, starts_of, Staged, Carried}
+use Rattle.state_model.proofs.Moves.{in_hand}
+use Rattle.state_model.proofs.Newest.{Holds}
+use Rattle.state_model.proofs.Served.{duty_of}
+use Rattle.state_model.proofs.Stately.{StageStep, StateStep, state_over, step_state}
+use Rattle.state_model.proofs.Stepped.{Shifts, carried_tells}
 use Rattle.life_counts.specs.Foreseen.{AllRight}
 use Rattle.life_counts.proofs.Rights.{Between, IsRight, alike, rows_between, next_right, accepted_tells}
 

@@ -3,18 +3,18 @@ use Rattle.std.proofs.Common.{◌≡◌, ℕ, Bool, Option, List, [], ◌∷◌}
 use Rattle.exchange_model.specs.Exchange.{Exchange, IsLawful}
 use Rattle.life_model.specs.Eras.{planned}
 use Rattle.life_model.specs.Lives.{Spot, Era}
-use Rattle.passed_whole.proofs.Silences.{answered}
-use Rattle.passed_whole.proofs.Turns.{heard_law}
-use Rattle.passed_whole.specs.Led.{IsLed}
-use Rattle.passed_whole.specs.Silent.{is_passed}
+use Rattle.few_replies.proofs.Silences.{answered}
+use Rattle.few_replies.proofs.Turns.{heard_law}
+use Rattle.few_replies.specs.Led.{IsLed}
+use Rattle.few_replies.specs.Silent.{is_passed}
 use Rattle.segment_model.specs.Record.{Frame}
 use Rattle.segment_model.specs.Slaves.{Registers, Processor, Slave}
 use Rattle.serving_model.specs.Tagged.{Rowed}
 use Rattle.serving_model.proofs.StatesLaw.{tagged_stated}
-use Rattle.state_exchange.specs.Stated.{IsStated}
+use Rattle.state_model.specs.Stated.{IsStated}
 use Rattle.state_model.specs.States.{Table}
 use Rattle.life_counts.proofs.Stated.{calm_stated}
-use Rattle.task_model.specs.Tasks.{IsTaskPlan}
+use Rattle.state_model.specs.Tasks.{IsTaskPlan}
 use Rattle.life_counts.specs.Epochs.{Speaker, IsSpeaker, IsRun, IsSeen, AllFair, between, seeing, seeing_states}
 use Rattle.life_counts.proofs.Sessions.{seen_so}
 

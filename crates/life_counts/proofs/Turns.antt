@@ -10,10 +10,10 @@ use Rattle.life_model.proofs.Eras.{frames_push}
 use Rattle.link_model.specs.Frames.{IsFrameFor, all_accepted}
 use Rattle.link_model.specs.Segment.{RingFate}
 use Rattle.few_replies.specs.Calm.{calm_tagged}
-use Rattle.passed_whole.specs.Client.{ByContents}
-use Rattle.passed_whole.specs.Erased.{halves_as}
-use Rattle.passed_whole.specs.Led.{counted_news, AreSingle}
-use Rattle.passed_whole.specs.Silent.{is_passed}
+use Rattle.few_replies.specs.Client.{ByContents}
+use Rattle.few_replies.specs.Erased.{halves_as}
+use Rattle.few_replies.specs.Led.{counted_news, AreSingle}
+use Rattle.few_replies.specs.Silent.{is_passed}
 use Rattle.segment_model.specs.Record.{Frame, News, Kept, frame_news, kept_all, nothing_kept, news_each, joined, mails_heard, heard, is_for}
 use Rattle.segment_model.specs.Seats.{Side, side_begins, side_holds, next_mail}
 use Rattle.segment_model.specs.Slaves.{Registers, Processor, Slave, Datagram, Ring, grams, ring_after, ring_back, ring_steps, slave_steps}
@@ -24,11 +24,11 @@ use Rattle.serving_model.specs.Erasing.{slave_as, all_as}
 use Rattle.serving_model.specs.Passing.{LastTells}
 use Rattle.serving_model.specs.Tagged.{IsServed, Tagged, Asked, Rowed, real}
 use Rattle.serving_model.specs.TaggedStates.{IsStatedServed, tagged_states, asked_acknowledged}
-use Rattle.state_exchange.specs.Stated.{Stated, IsStated}
+use Rattle.state_model.specs.Stated.{Stated, IsStated}
 use Rattle.state_model.specs.States.{Table, carry}
-use Rattle.task_model.specs.Accounts as Accounts
-use Rattle.task_model.specs.Accounts.{Pick, duty_access}
-use Rattle.task_model.specs.Promise.{services_in}
+use Rattle.state_model.specs.Accounts as Accounts
+use Rattle.state_model.specs.Accounts.{Pick, duty_access}
+use Rattle.state_model.specs.Promise.{services_in}
 use Rattle.life_counts.specs.Epochs.{between}
 use Rattle.life_counts.specs.Foreseen.{AllRight}
 use Rattle.life_counts.proofs.Eras.{era_steps, era_knows}

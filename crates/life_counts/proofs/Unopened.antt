@@ -4,7 +4,7 @@ use Rattle.std.specs.Prelude.{◌&&◌, nat_lt, length}
 use Rattle.exchange_model.specs.Exchange.{Speech}
 use Rattle.segment_model.specs.Slaves.{Datagram, Found}
 use Rattle.segment_model.specs.Record.{News}
-use Rattle.task_model.specs.Accounts.{Stage, Duty, Pick}
+use Rattle.state_model.specs.Accounts.{Stage, Duty, Pick}
 use Rattle.life_model.specs.Lives.{Era, Life, Stand, Spot, Opening, life_next, life_back, life_lost, gives_up, era_back, opening_back, clears, opens, steps_on, shows_clear, last_step, is_shown, reopens, reopens_at, reopening, opens_state, returns_to_init, new_life}
 use Rattle.life_counts.specs.Begun.{IsUnopened, AllUnopened, AreUnopened}
 

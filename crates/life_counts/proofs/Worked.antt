@@ -5,14 +5,14 @@ use Rattle.exchange_model.specs.Rows.{exec_all}
 use Rattle.life_counts.specs.Begun.{era_most, eras_most, life_most, IsUnopened, AllUnopened, AreUnopened}
 use Rattle.life_counts.proofs.Epoch.{epoch_within, epoch_app}
 use Rattle.life_counts.proofs.Lasts.{idle_one, gains_last, most_last, all_before, the_last}
-use Rattle.life_measure.specs.Gains.{era_gains, eras_gains, gains}
+use Rattle.life_model.specs.Gains.{era_gains, eras_gains, gains}
 use Rattle.life_model.specs.Eras.{Clearing, WasOpen, OpenEra}
 use Rattle.life_model.specs.Lives.{Spot, Era, Life}
 use Rattle.segment_model.specs.Record.{Frame}
 use Rattle.segment_model.specs.Slaves.{Processor}
-use Rattle.state_exchange.specs.Stated.{Stated, IsStated, Service, with_states}
+use Rattle.state_model.specs.Stated.{Stated, IsStated, Service, with_states}
 use Rattle.state_model.specs.States.{Table}
-use Rattle.task_model.specs.Promise.{services_in}
+use Rattle.state_model.specs.Promise.{services_in}
 use Rattle.life_counts.specs.Worked.{KeepsAll, AllWorked, IsNewest, IsWorked}
 
 module _ {V A M Q R K : Type 0} (x : Exchange V A M Q R) (lawful : IsLawful x) (s : Stated V A Q) (stated : IsStated x s) (processor : Processor V) (table : ℕ → Table) (spot : Spot) (c : Clearing V A)

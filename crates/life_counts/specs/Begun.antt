@@ -1,9 +1,9 @@
 -- WHAT THE SERVICES COUNT THAT CAME INTO HAND, of which each by mails takes so many at most.
 use Rattle.std.specs.Prelude.{◌≡◌, ◌≢◌, ℕ, ◌+◌, None, List, [], ◌∷◌, sum_by, ⊤}
 use Rattle.few_replies.specs.RowCounts.{AreCounted}
-use Rattle.state_exchange.specs.Stated.{Service}
-use Rattle.task_model.specs.Promise.{services_in}
-use Rattle.life_measure.specs.Gains.{era_gains}
+use Rattle.state_model.specs.Stated.{Service}
+use Rattle.state_model.specs.Promise.{services_in}
+use Rattle.life_model.specs.Gains.{era_gains}
 use Rattle.life_model.specs.Eras.{Clearing}
 use Rattle.life_model.specs.Lives.{Era, Life, Stand}
 use Rattle.whole_ring.specs.of_slave_lives.Lived.{Behind}

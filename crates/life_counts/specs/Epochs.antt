@@ -5,22 +5,22 @@ use Rattle.exchange_model.specs.Rows.{ends_unheard}
 use Rattle.life_model.specs.Eras.{EraIs, era_frames}
 use Rattle.life_model.specs.Lives.{Spot, Era}
 use Rattle.few_replies.specs.Calm.{calm_tagged}
-use Rattle.passed_whole.specs.Client.{ByContents}
-use Rattle.passed_whole.specs.Erased.{frame_as, row_seen, OfRow, PlanOne, EndOne}
-use Rattle.passed_whole.specs.Led.{IsLed, RepliesFirst}
-use Rattle.passed_whole.specs.Silent.{is_passed}
-use Rattle.passed_whole.specs.Heard.{EraPasses}
+use Rattle.few_replies.specs.Client.{ByContents}
+use Rattle.few_replies.specs.Erased.{frame_as, row_seen, OfRow, PlanOne, EndOne}
+use Rattle.few_replies.specs.Led.{IsLed, RepliesFirst}
+use Rattle.few_replies.specs.Silent.{is_passed}
+use Rattle.few_replies.specs.Heard.{EraPasses}
 use Rattle.segment_model.specs.Record.{Frame}
 use Rattle.segment_model.specs.Slaves.{Registers, Processor, Slave}
 use Rattle.serving_model.specs.Erasing.{slave_as}
 use Rattle.serving_model.specs.Passing.{LastTells}
 use Rattle.serving_model.specs.Tagged.{IsServed, Tagged, Asked, Rowed, real}
 use Rattle.serving_model.specs.TaggedStates.{IsStatedServed, tagged_states}
-use Rattle.state_exchange.specs.Stated.{Stated, Service}
+use Rattle.state_model.specs.Stated.{Stated, Service}
 use Rattle.state_model.specs.States.{Table, carry}
 use Rattle.life_counts.specs.Seen.{era_seen}
-use Rattle.task_model.specs.Accounts.{Started}
-use Rattle.task_model.specs.Promise.{services_in}
+use Rattle.state_model.specs.Accounts.{Started}
+use Rattle.state_model.specs.Promise.{services_in}
 use Rattle.life_counts.specs.Foreseen.{AllRight}
 use Rattle.life_counts.specs.Spoken.{Naming, IsPassed, Speaks}
 

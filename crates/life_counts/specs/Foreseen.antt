@@ -1,9 +1,9 @@
 -- WHICH MAILS THAT ARE PASSED ON ARE FORESEEN AS ANSWERED: just those that the server replies to that they come to.
 use Rattle.std.specs.Prelude.{List, [], ◌∷◌, ⊤}
 use Rattle.exchange_model.specs.Exchange.{Exchange}
-use Rattle.passed_whole.specs.Silent.{IsForeseenRight}
+use Rattle.few_replies.specs.Silent.{IsForeseenRight}
 use Rattle.serving_model.specs.Tagged.{Asked, asked_exec}
-use Rattle.state_exchange.specs.Stated.{Stated, Service}
+use Rattle.state_model.specs.Stated.{Stated, Service}
 use Rattle.state_model.specs.Promises.{state_behind}
 use Rattle.state_model.specs.States.{Table}
 

@@ -1,4 +1,5 @@
-pub use Rattle.passed_whole.specs as of_passed_whole
+pub use Rattle.few_replies.specs as of_few_replies
+pub use Rattle.master_hand.specs.of_master_side as of_master_side
 pub mod Begun
 pub mod Epochs
 pub mod Foreseen
@@ -6,3 +7,5 @@ pub mod Seen
 pub mod Served
 pub mod Spoken
 pub mod Worked
+pub mod Asked
+pub mod Split

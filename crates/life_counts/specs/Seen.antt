@@ -2,10 +2,10 @@
 -- which mails have tags.
 use Rattle.std.specs.Prelude.{map}
 use Rattle.life_model.specs.Lives.{Era, Life}
-use Rattle.passed_whole.specs.Erased.{side_seen}
+use Rattle.few_replies.specs.Erased.{side_seen}
 use Rattle.segment_model.specs.Ends.{Outcome}
-use Rattle.state_exchange.specs.Stated.{Service}
-use Rattle.task_model.specs.Accounts.{Account, Change, Started}
+use Rattle.state_model.specs.Stated.{Service}
+use Rattle.state_model.specs.Accounts.{Account, Change, Started}
 
 -- a service, by mails or of the AL state
 abbrev pub service_seen : {P Q : Type 0} → (P → Q) → Service P → Service Q

@@ -1,9 +1,9 @@
 -- WHAT A LIFE OF A SERVING HAS GAINED: its mails and the steps of its state services, and how far the mails that are passed on have come.
 use Rattle.std.specs.Prelude.{ℕ, ◌+◌, ◌*◌, Bool}
 use Rattle.life_counts.specs.Begun.{life_most}
-use Rattle.life_measure.specs.Gains.{gains}
+use Rattle.life_model.specs.Gains.{gains}
 use Rattle.life_model.specs.Lives.{Life}
-use Rattle.passed_whole.specs.Steps.{life_steps, life_passed}
+use Rattle.few_replies.specs.Steps.{life_steps, life_passed}
 
 -- both
 abbrev pub served_gains : {M Q R : Type 0} → (Q → Bool) → Life M Q R → ℕ

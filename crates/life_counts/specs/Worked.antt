@@ -6,7 +6,7 @@ use Rattle.life_model.specs.Lives.{Spot, Era, Life}
 use Rattle.few_replies.specs.RowCounts.{AreCounted}
 use Rattle.segment_model.specs.Record.{Frame}
 use Rattle.segment_model.specs.Slaves.{Processor}
-use Rattle.state_exchange.specs.Stated.{Stated}
+use Rattle.state_model.specs.Stated.{Stated}
 use Rattle.state_model.specs.States.{Table}
 
 -- WHAT NO SERVICE CHANGES of an application, nor a change of the AL state, nor a return to Init; and what each service takes at most by it

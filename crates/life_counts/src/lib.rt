@@ -1,11 +1,17 @@
-//! What a life has gained is no more than the services count that came into hand of its slave. Definitions and laws, no running code: the functions here
-//! do nothing, and their contracts state the laws.
+//! What a life has gained is no more than the services count that came into hand of its slave, and what the frame bound counts for the services of a
+//! plan is enough for the mails that they take. Definitions and laws, no running code: the functions here do nothing, and their contracts state the
+//! laws.
 #![tactic(auto)]
+
+pub mod plan_counts;
+pub mod served_gains;
+pub mod tagged_epochs;
+pub mod tagged_lives;
 
 ghost use Rattle.exchange_model.specs.Exchange.{Speech};
 ghost use Rattle.few_replies.specs.RowCounts.{AreCounted};
 ghost use Rattle.life_counts.specs.Begun.{begun_most, life_most, KeepsShape, AreUnopened};
-ghost use Rattle.life_measure.specs.Gains.{era_gains, gains};
+ghost use Rattle.life_model.specs.Gains.{era_gains, gains};
 ghost use Rattle.life_model.specs.Eras.{Clearing, OpenEra};
 ghost use Rattle.life_model.specs.Lives.{Spot, Life, new_life, life_next, life_back, life_lost, gives_up};
 ghost use Rattle.link_mails.specs.Body.{Body};
@@ -13,15 +19,12 @@ ghost use Rattle.segment_model.specs.Record.{Frame, News};
 ghost use Rattle.segment_model.specs.Slaves.{Datagram, Found};
 ghost use Rattle.whole_ring.specs.of_slave_lives.Lived.{Behind};
 ghost use Rattle.whole_ring.specs.of_slave_lives.Opening.{Plan};
-ghost use Rattle.slave_steps.specs.Node.{Node};
+ghost use Rattle.slave_node.specs.Node.{Node};
 ghost use Rattle.std.specs.Prelude.{◌≡◌, ◌≤◌, ◌+◌, ℕ, Bool, Option, List};
-ghost use Rattle.task_model.specs.Accounts.{Pick};
-ghost use Rattle.task_model.specs.Promise.{services_in};
+ghost use Rattle.state_model.specs.Accounts.{Pick};
+ghost use Rattle.state_model.specs.Promise.{services_in};
 ghost use Rattle.whole_ring.specs.Whole.{OwesLaws, IsLived};
 
-pub mod served_gains;
-pub mod tagged_epochs;
-pub mod tagged_lives;
 
 /// WHAT AN EPOCH HAS GAINED, in mails and in steps of state services, is no more than what its services count: each by mails what it takes at most, a
 /// state service six.

@@ -5,12 +5,12 @@ ghost use Rattle.std.specs.Prelude.{◌≡◌, ℕ, Bool, true, Option, List, []
 ghost use Rattle.exchange_model.specs.Exchange.{Exchange};
 ghost use Rattle.life_model.specs.Eras.{planned};
 ghost use Rattle.life_model.specs.Lives.{Spot, Era};
-ghost use Rattle.passed_whole.specs.Led.{IsLed};
+ghost use Rattle.few_replies.specs.Led.{IsLed};
 ghost use Rattle.segment_model.specs.Record.{Frame};
 ghost use Rattle.segment_model.specs.Slaves.{Registers, Processor, Slave};
 ghost use Rattle.serving_model.specs.Tagged.{Rowed};
 ghost use Rattle.state_model.specs.States.{Table};
-ghost use Rattle.task_model.specs.Tasks.{IsTaskPlan};
+ghost use Rattle.state_model.specs.Tasks.{IsTaskPlan};
 ghost use Rattle.life_counts.specs.Epochs.{Speaker, IsSpeaker, IsRun, IsSeen, AllFair, between, seeing, seeing_states};
 
 /// AN EPOCH IS A SESSION OF SERVICES AND FAIR MAILS, where each mail that was passed on in it is fair: there is what is meant by each of its mails, so that the

@@ -4,14 +4,14 @@
 ghost use Rattle.std.specs.Prelude.{◌≡◌, ◌≤◌, ◌+◌, ℕ, Bool};
 ghost use Rattle.exchange_model.specs.Exchange.{Exchange, IsLawful};
 ghost use Rattle.life_counts.specs.Begun.{life_most, AreUnopened};
-ghost use Rattle.life_measure.specs.Gains.{gains};
+ghost use Rattle.life_model.specs.Gains.{gains};
 ghost use Rattle.life_model.specs.Eras.{Clearing};
 ghost use Rattle.life_model.specs.Lives.{Spot, Life};
 ghost use Rattle.few_replies.specs.Calm.{calm_tagged};
 ghost use Rattle.segment_model.specs.Slaves.{Processor};
 ghost use Rattle.serving_model.specs.Tagged.{tagged};
 ghost use Rattle.serving_model.specs.TaggedStates.{tagged_states};
-ghost use Rattle.state_exchange.specs.Stated.{Stated, IsStated};
+ghost use Rattle.state_model.specs.Stated.{Stated, IsStated};
 ghost use Rattle.state_model.specs.States.{Table};
 ghost use Rattle.life_counts.specs.Worked.{KeepsAll, IsWorked};
 ghost use Rattle.life_counts.specs.Seen.{life_seen};

@@ -3,17 +3,17 @@ use Rattle.std.proofs.Common.{◌≡◌, ◌⊎◌, inl, inr, ℕ, zero, suc, �
 use Rattle.std.specs.Prelude.{nat_le}
 use Rattle.std.proofs.lemmas.List.{length-map, take-append-drop, take-append-le}
 use Rattle.std.proofs.lemmas.Bool.Decides.{leb_tells}
-use Rattle.task_model.specs.of_exchange_model.Prefix.{IsPrefixOf}
-use Rattle.task_model.specs.of_exchange_model.Exchange.{Exchange, emitted}
-use Rattle.task_model.specs.of_exchange_model.Rows.{exec_all, emits_all}
-use Rattle.task_model.specs.of_segment_model.Record.{Frame, heard}
-use Rattle.task_model.specs.of_segment_model.Ends.{Outcome}
-use Rattle.task_model.specs.of_segment_model.Books.{Answer, answer_from}
-use Rattle.task_model.specs.of_state_model.States.{Table}
-use Rattle.task_model.specs.of_state_model.Promises.{state_behind, answer_of}
-use Rattle.task_model.specs.of_state_exchange.Stated.{Stated, Service, Act, acts, mails, with_states, service_exec, service_emits}
-use Rattle.task_model.specs.Accounts.{Started}
-use Rattle.task_model.specs.Promise.{TasksPromised, AllReplied, AllDone, AllEnded, but_last, services_in, mails_in, outcome_of}
+use Rattle.state_model.specs.of_exchange_model.Prefix.{IsPrefixOf}
+use Rattle.state_model.specs.of_exchange_model.Exchange.{Exchange, emitted}
+use Rattle.state_model.specs.of_exchange_model.Rows.{exec_all, emits_all}
+use Rattle.state_model.specs.of_segment_model.Record.{Frame, heard}
+use Rattle.state_model.specs.of_segment_model.Ends.{Outcome}
+use Rattle.state_model.specs.of_segment_model.Books.{Answer, answer_from}
+use Rattle.state_model.specs.States.{Table}
+use Rattle.state_model.specs.Promises.{state_behind, answer_of}
+use Rattle.state_model.specs.Stated.{Stated, Service, Act, acts, mails, with_states, service_exec, service_emits}
+use Rattle.state_model.specs.Accounts.{Started}
+use Rattle.state_model.specs.Promise.{TasksPromised, AllReplied, AllDone, AllEnded, but_last, services_in, mails_in, outcome_of}
 use Rattle.life_model.specs.Lives.{returns_to_init, opens_state}
 use Rattle.life_model.specs.Eras.{OpenEra, frames_of}
 use Rattle.life_model.specs.Book.{Line, line_of, epoch_book, done_rows, IsTail, NoInits, IsForgetful, EpochDone, RepliesFit, is_in_doubt, opened_behind, acted, all_acted, state_next, weight, done, is_left, trimmed, emits_by, all_emits, reply_by}

@@ -3,18 +3,18 @@ use Rattle.std.proofs.Common.{◌≡◌, ℕ, zero, suc, ◌+◌, ◌-◌, ◌<�
 use Rattle.std.specs.Prelude.{replicate}
 use Rattle.std.proofs.lemmas.List.{drop-append-le, length-map}
 use Rattle.std.proofs.Math.Seq.{take-length}
-use Rattle.task_model.specs.of_exchange_model.Exchange.{Exchange}
-use Rattle.task_model.specs.of_link_model.Segment.{RingFate}
-use Rattle.task_model.specs.of_segment_model.Slaves.{Registers, Processor, Slave, Datagram, Ring, Move, ring_after, ring_back, ring_steps}
-use Rattle.task_model.specs.of_segment_model.Record.{Frame, News, frame_of}
-use Rattle.task_model.specs.of_segment_model.Seats.{Side, Planned, IsOpening}
-use Rattle.task_model.specs.of_segment_model.Split.{IsFrameOf, sides_next, sides_after}
-use Rattle.task_model.specs.of_state_model.States.{Table}
-use Rattle.task_model.specs.of_state_exchange.Stated.{Stated}
-use Rattle.task_model.specs.Accounts.{Account, Pick, new_account}
-use Rattle.task_model.specs.Tasks.{IsTaskPlan, IsTasked, AreServed, mails_choices, accounts_next, accounts_after}
-use Rattle.task_model.specs.Promise.{PlanSession, OfEach}
-use Rattle.task_model.proofs.Splits.{tasked_step, new_tasked}
+use Rattle.state_model.specs.of_exchange_model.Exchange.{Exchange}
+use Rattle.state_model.specs.of_link_model.Segment.{RingFate}
+use Rattle.state_model.specs.of_segment_model.Slaves.{Registers, Processor, Slave, Datagram, Ring, Move, ring_after, ring_back, ring_steps}
+use Rattle.state_model.specs.of_segment_model.Record.{Frame, News, frame_of}
+use Rattle.state_model.specs.of_segment_model.Seats.{Side, Planned, IsOpening}
+use Rattle.state_model.specs.of_segment_model.Split.{IsFrameOf, sides_next, sides_after}
+use Rattle.state_model.specs.States.{Table}
+use Rattle.state_model.specs.Stated.{Stated}
+use Rattle.state_model.specs.Accounts.{Account, Pick, new_account}
+use Rattle.state_model.specs.Tasks.{IsTaskPlan, IsTasked, AreServed, mails_choices, accounts_next, accounts_after}
+use Rattle.state_model.specs.Promise.{PlanSession, OfEach}
+use Rattle.state_model.proofs.Splits.{tasked_step, new_tasked}
 use Rattle.life_model.specs.Own.{blank, own, own_fate, own_frame, own_move}
 use Rattle.life_model.specs.Alone.{IsAlone, Reaches}
 use Rattle.life_model.specs.Lives.{Spot, Era, AsksOpen, granted, era_next, era_after, new_era, new_side}

@@ -1,11 +1,11 @@
 -- Behind the give-up that is for good no frame carries the slave.
 use Rattle.std.proofs.Common.{◌≡◌, ℕ, zero, suc, ◌-◌, ◌≤◌, ◌==◌, Bool, true, false, cond, Option, Some, None, List, [], ◌∷◌, drop, filter, refl, ap, sym, ◌∙◌, subst, arith, if◌then◌else◌, eqb-true}
 use Rattle.std.specs.Prelude.{⊤, nat_lt}
-use Rattle.task_model.specs.of_link_model.Segment.{RingFate}
-use Rattle.task_model.specs.of_segment_model.Slaves.{Datagram}
-use Rattle.task_model.specs.of_segment_model.Record.{Frame}
-use Rattle.task_model.specs.of_segment_model.Visits.{Stop, carried, is_among, split_behind, visited, last_of, Absent, NeverCarried}
-use Rattle.task_model.proofs.of_segment_model.Tours.{stations, AgainAbsent, visit_absent, opened_absent}
+use Rattle.state_model.specs.of_link_model.Segment.{RingFate}
+use Rattle.state_model.specs.of_segment_model.Slaves.{Datagram}
+use Rattle.state_model.specs.of_segment_model.Record.{Frame}
+use Rattle.state_model.specs.of_segment_model.Visits.{Stop, carried, is_among, split_behind, visited, last_of, Absent, NeverCarried}
+use Rattle.state_model.proofs.of_segment_model.Tours.{stations, AgainAbsent, visit_absent, opened_absent}
 use Rattle.life_model.specs.Tours.{Member, Tour, Visits, HasSpare, item_at, tour_after, round, stops_of, is_live_in, lose_one, all_given_up, still_open}
 use Rattle.life_model.specs.Gave.{gave_by, gave_of, now_gave}
 use Rattle.life_model.proofs.Gives.{gave_law}

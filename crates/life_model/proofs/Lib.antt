@@ -1,4 +1,4 @@
-pub use Rattle.task_model.proofs as of_task_model
+pub use Rattle.state_model.proofs as of_state_model
 pub mod Owns
 pub mod Rings
 pub mod Eras
@@ -7,3 +7,24 @@ pub mod Lasts
 pub mod Books
 mod Worked
 pub mod Rests
+mod Around
+pub mod Gaining
+pub mod Halving
+pub mod Mending
+pub mod Openings
+pub mod Paying
+mod Turns
+mod Twice
+mod LifeWorked
+pub mod Lists
+pub mod Told
+pub mod Shown
+pub mod Answered
+pub mod Doubts
+pub mod Stood
+pub mod Walks
+pub mod Opens
+pub mod Endings
+pub mod Grows
+pub mod Moving
+pub mod Scripts

@@ -1,13 +1,13 @@
 -- Nothing is left of an epoch whose slave is settled and of which the master wants nothing.
 use Rattle.std.proofs.Common.{◌≡◌, ℕ, ◌-◌, ◌&&◌, ◌||◌, ◌==◌, Bool, false, not, Option, Some, List, [], ◌∷◌, map, refl, ap, ap₂, sym, ◌∙◌, append-nil, if◌then◌else◌}
-use Rattle.task_model.specs.of_exchange_model.Exchange.{Exchange}
-use Rattle.task_model.specs.of_segment_model.Record.{Frame}
-use Rattle.task_model.specs.of_segment_model.Ends.{Outcome}
-use Rattle.task_model.specs.of_segment_model.Books.{answer_from}
-use Rattle.task_model.specs.of_state_model.States.{Table}
-use Rattle.task_model.specs.of_state_exchange.Stated.{Stated, Service}
-use Rattle.task_model.specs.Accounts.{Started}
-use Rattle.task_model.specs.Promise.{TasksRest, AllEnded, services_in, mails_in, outcome_of}
+use Rattle.state_model.specs.of_exchange_model.Exchange.{Exchange}
+use Rattle.state_model.specs.of_segment_model.Record.{Frame}
+use Rattle.state_model.specs.of_segment_model.Ends.{Outcome}
+use Rattle.state_model.specs.of_segment_model.Books.{answer_from}
+use Rattle.state_model.specs.States.{Table}
+use Rattle.state_model.specs.Stated.{Stated, Service}
+use Rattle.state_model.specs.Accounts.{Started}
+use Rattle.state_model.specs.Promise.{TasksRest, AllEnded, services_in, mails_in, outcome_of}
 use Rattle.life_model.specs.Lives.{returns_to_init}
 use Rattle.life_model.specs.Eras.{OpenEra, frames_of}
 use Rattle.life_model.specs.Book.{Line, line_of, epoch_book, done_rows, NoInits, NoneInDoubt, EpochRests, is_in_doubt, opened_behind, acted, state_next, done, is_left, trimmed}

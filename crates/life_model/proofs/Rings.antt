@@ -1,9 +1,9 @@
 -- One slave of a ring, by its own datagrams alone.
 use Rattle.std.proofs.Common.{◌≡◌, ℕ, zero, suc, ◌-◌, ◌==◌, Bool, true, false, List, [], ◌∷◌, ◌++◌, length, refl, ap, sym, ◌∙◌, subst, arith, if◌then◌else◌, eqb-true}
 use Rattle.std.proofs.lemmas.Bool.Decides.{nat_tests}
-use Rattle.task_model.specs.of_exchange_model.Exchange.{Exchange}
-use Rattle.task_model.specs.of_link_model.Segment.{RingFate}
-use Rattle.task_model.specs.of_segment_model.Slaves.{Processor, Slave, Datagram, Ring, slave_after, frame_after, all_meet, first_meet, all_back, ring_after, slave_steps, step_at, ring_steps}
+use Rattle.state_model.specs.of_exchange_model.Exchange.{Exchange}
+use Rattle.state_model.specs.of_link_model.Segment.{RingFate}
+use Rattle.state_model.specs.of_segment_model.Slaves.{Processor, Slave, Datagram, Ring, slave_after, frame_after, all_meet, first_meet, all_back, ring_after, slave_steps, step_at, ring_steps}
 use Rattle.life_model.specs.Own.{own, own_fate, own_steps, AllApart}
 use Rattle.life_model.specs.Alone.{AllSeen, IsAlone, Reaches, Stands}
 use Rattle.life_model.proofs.Owns.{own-slave, own-frame, own-passes}

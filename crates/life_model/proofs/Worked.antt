@@ -1,13 +1,13 @@
 -- A life, computed: a bring-up with a lost access, a service that a give-up cuts off, a reopening, and a mail that is passed on.
 use Rattle.std.proofs.Common.{◌≡◌, ℕ, suc, Bool, true, false, Option, None, Some, List, [], ◌∷◌, ◌++◌, map, length, refl, if◌then◌else◌}
-use Rattle.task_model.specs.of_exchange_model.Toy.{Mail, first, second, posted, held, total, Service, sum, post, speech, handed}
-use Rattle.task_model.specs.of_link_model.Frames.{Ask}
-use Rattle.task_model.specs.of_segment_model.Slaves.{Datagram, Address, Access, Found}
-use Rattle.task_model.specs.of_segment_model.Record.{News}
-use Rattle.task_model.specs.of_segment_model.Ends.{Passing}
-use Rattle.task_model.specs.of_segment_model.Seats.{rows_of}
-use Rattle.task_model.specs.of_state_exchange.Stated
-use Rattle.task_model.specs.Accounts.{Pick}
+use Rattle.state_model.specs.of_exchange_model.Toy.{Mail, first, second, posted, held, total, Service, sum, post, speech, handed}
+use Rattle.state_model.specs.of_link_model.Frames.{Ask}
+use Rattle.state_model.specs.of_segment_model.Slaves.{Datagram, Address, Access, Found}
+use Rattle.state_model.specs.of_segment_model.Record.{News}
+use Rattle.state_model.specs.of_segment_model.Ends.{Passing}
+use Rattle.state_model.specs.of_segment_model.Seats.{rows_of}
+use Rattle.state_model.specs.Stated
+use Rattle.state_model.specs.Accounts.{Pick}
 use Rattle.life_model.specs.Lives.{Life, Stand, Spot, new_life, life_next, life_back, life_lost, gives_up, reopening}
 
 abbrev spot : Spot

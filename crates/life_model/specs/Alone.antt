@@ -1,7 +1,7 @@
 -- A ring in which one slave is open while it meets a frame, and what it is for that slave: a ring of its own.
 use Rattle.std.specs.Prelude.{◌≡◌, ℕ, ◌<◌, List, [], ◌∷◌, ◌++◌, length, ⊤}
-use Rattle.task_model.specs.of_link_model.Segment.{RingFate}
-use Rattle.task_model.specs.of_segment_model.Slaves.{Slave, Datagram, Ring, frame_after, all_back}
+use Rattle.state_model.specs.of_link_model.Segment.{RingFate}
+use Rattle.state_model.specs.of_segment_model.Slaves.{Slave, Datagram, Ring, frame_after, all_back}
 use Rattle.life_model.specs.Own.{AreSeen, IsOpen, AllApart}
 
 -- the datagrams are as octets give them, at each slave

@@ -1,15 +1,15 @@
 -- THE BOOK of one slave over lists, numbers and records: what its rows have done, answer by answer and epoch by epoch; nothing left; all done.
 use Rattle.std.specs.Prelude.{◌≡◌, ◌≢◌, ℕ, suc, ◌+◌, ◌-◌, ◌<◌, ◌≤◌, ◌==◌, ◌&&◌, ◌||◌, Bool, true, false, not, nat_le, nat_lt, is_some, if◌then◌else◌, Option, Some, None, List, [], ◌∷◌, ◌++◌, map, length, ⊤}
-use Rattle.task_model.specs.of_exchange_model.Prefix.{IsPrefixOf}
-use Rattle.task_model.specs.of_exchange_model.Exchange.{Exchange, Speech, emitted}
-use Rattle.task_model.specs.of_segment_model.Record.{Frame, heard}
-use Rattle.task_model.specs.of_segment_model.Ends.{Outcome}
-use Rattle.task_model.specs.of_segment_model.Books.{Answer, answer_from}
-use Rattle.task_model.specs.of_state_model.States.{Table}
-use Rattle.task_model.specs.of_state_model.Promises.{state_behind, answer_of}
-use Rattle.task_model.specs.of_state_exchange.Stated.{Stated, Service}
-use Rattle.task_model.specs.Accounts.{Started}
-use Rattle.task_model.specs.Promise.{IsReply, outcome_of}
+use Rattle.state_model.specs.of_exchange_model.Prefix.{IsPrefixOf}
+use Rattle.state_model.specs.of_exchange_model.Exchange.{Exchange, Speech, emitted}
+use Rattle.state_model.specs.of_segment_model.Record.{Frame, heard}
+use Rattle.state_model.specs.of_segment_model.Ends.{Outcome}
+use Rattle.state_model.specs.of_segment_model.Books.{Answer, answer_from}
+use Rattle.state_model.specs.States.{Table}
+use Rattle.state_model.specs.Promises.{state_behind, answer_of}
+use Rattle.state_model.specs.Stated.{Stated, Service}
+use Rattle.state_model.specs.Accounts.{Started}
+use Rattle.state_model.specs.Promise.{IsReply, outcome_of}
 use Rattle.life_model.specs.Lives.{returns_to_init, opens_state}
 use Rattle.life_model.specs.Eras.{OpenEra, frames_of}
 

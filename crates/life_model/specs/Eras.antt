@@ -1,12 +1,12 @@
 -- The epochs of a slave, each a session of its own over the slave's own datagrams.
 use Rattle.std.specs.Prelude.{◌≡◌, ℕ, suc, ◌-◌, Some, None, List, [], ◌∷◌, ◌++◌, map, replicate, take, drop, length}
-use Rattle.task_model.specs.of_exchange_model.Exchange.{Exchange, IsLawful}
-use Rattle.task_model.specs.of_segment_model.Slaves.{Registers, Processor, Slave, Ring, Move, ring_after, ring_steps}
-use Rattle.task_model.specs.of_segment_model.Record.{Frame, frame_of}
-use Rattle.task_model.specs.of_segment_model.Seats.{Planned, new_seat}
-use Rattle.task_model.specs.of_state_model.States.{Table}
-use Rattle.task_model.specs.of_state_exchange.Stated.{Stated, IsStated}
-use Rattle.task_model.specs.Tasks.{IsTaskPlan, IsTasked}
+use Rattle.state_model.specs.of_exchange_model.Exchange.{Exchange, IsLawful}
+use Rattle.state_model.specs.of_segment_model.Slaves.{Registers, Processor, Slave, Ring, Move, ring_after, ring_steps}
+use Rattle.state_model.specs.of_segment_model.Record.{Frame, frame_of}
+use Rattle.state_model.specs.of_segment_model.Seats.{Planned, new_seat}
+use Rattle.state_model.specs.States.{Table}
+use Rattle.state_model.specs.Stated.{Stated, IsStated}
+use Rattle.state_model.specs.Tasks.{IsTaskPlan, IsTasked}
 use Rattle.life_model.specs.Own.{own_frame, blank}
 use Rattle.life_model.specs.Alone.{Stands}
 use Rattle.life_model.specs.Lives.{Spot, Era}

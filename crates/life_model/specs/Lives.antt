@@ -1,17 +1,17 @@
 -- THE LIFE OF A SLAVE AS ITS MASTER LEADS IT: it is opened, open for an epoch, returned to Init and opened anew, given up with or without being
 -- taken up again. Frames and fates alone move it, and the master's choices.
 use Rattle.std.specs.Prelude.{◌≡◌, ◌⊎◌, ℕ, suc, ◌==◌, ◌&&◌, Bool, true, false, nat_lt, if◌then◌else◌, Option, Some, None, List, [], ◌∷◌, ◌++◌, length, ⊤}
-use Rattle.task_model.specs.of_exchange_model.Exchange.{Speech}
-use Rattle.task_model.specs.of_link_model.Master.{InState}
-use Rattle.task_model.specs.of_link_model.Link.{new_link}
-use Rattle.task_model.specs.of_link_model.Frames.{IsFrameFor}
-use Rattle.task_model.specs.of_link_model.Segment.{RingFate}
-use Rattle.task_model.specs.of_segment_model.Slaves.{Datagram, Address, Access, Found, grams}
-use Rattle.task_model.specs.of_segment_model.Record.{News}
-use Rattle.task_model.specs.of_segment_model.Ends.{Passing, passing_after}
-use Rattle.task_model.specs.of_segment_model.Seats.{Side, side_next, side_back, side_lost}
-use Rattle.task_model.specs.of_state_exchange.Stated.{Service}
-use Rattle.task_model.specs.Accounts.{Account, Duty, Stage, Pick, IsServed, new_account, mails_choice, account_next, account_back, duty_access}
+use Rattle.state_model.specs.of_exchange_model.Exchange.{Speech}
+use Rattle.state_model.specs.of_link_model.Master.{InState}
+use Rattle.state_model.specs.of_link_model.Link.{new_link}
+use Rattle.state_model.specs.of_link_model.Frames.{IsFrameFor}
+use Rattle.state_model.specs.of_link_model.Segment.{RingFate}
+use Rattle.state_model.specs.of_segment_model.Slaves.{Datagram, Address, Access, Found, grams}
+use Rattle.state_model.specs.of_segment_model.Record.{News}
+use Rattle.state_model.specs.of_segment_model.Ends.{Passing, passing_after}
+use Rattle.state_model.specs.of_segment_model.Seats.{Side, side_next, side_back, side_lost}
+use Rattle.state_model.specs.Stated.{Service}
+use Rattle.state_model.specs.Accounts.{Account, Duty, Stage, Pick, IsServed, new_account, mails_choice, account_next, account_back, duty_access}
 use Rattle.life_model.specs.Own.{own}
 
 -- an opening under way: bring-up, which has accesses 1 to 5, or a reopening, which first returns the slave to Init and has 1 to 9; the state

@@ -1,9 +1,9 @@
 //! What a book says of a slave, and the epochs that give it.
 
 ghost use Rattle.std.specs.Prelude.{◌≡◌, ℕ, Bool, None, List, ◌++◌};
-ghost use Rattle.task_model.specs.of_segment_model.Laws.{IsSettled, WantsNothing};
-ghost use Rattle.task_model.specs.Accounts.{Started};
-ghost use Rattle.task_model.specs.Promise.{services_in};
+ghost use Rattle.state_model.specs.of_segment_model.Laws.{IsSettled, WantsNothing};
+ghost use Rattle.state_model.specs.Accounts.{Started};
+ghost use Rattle.state_model.specs.Promise.{services_in};
 ghost use Rattle.life_model.specs.Eras.{OpenEra};
 ghost use Rattle.life_model.specs.Book.{NoInits, IsTail, IsForgetful, EpochDone, EpochRests, epoch_book, done_rows};
 

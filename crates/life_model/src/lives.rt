@@ -1,17 +1,17 @@
 //! What one slave of a ring meets of its frames, and what the epochs of its life are.
 
 ghost use Rattle.std.specs.Prelude.{◌≡◌, ℕ, suc, ◌<◌, Bool, false, Option, Some, List, [], ◌∷◌, ◌++◌, ◌==◌, length};
-ghost use Rattle.task_model.specs.of_exchange_model.Exchange.{Exchange};
-ghost use Rattle.task_model.specs.of_segment_model.Slaves.{Registers, Processor, Slave, Datagram, Ring, Move, slave_after, frame_after, ring_back};
-ghost use Rattle.task_model.specs.of_segment_model.Record.{Frame, News};
-ghost use Rattle.task_model.specs.of_segment_model.Laws.{HandedBy, KnowsCounters};
-ghost use Rattle.task_model.specs.of_state_model.States.{Table};
-ghost use Rattle.task_model.specs.of_state_exchange.Stated.{Stated, Service};
-ghost use Rattle.task_model.specs.Accounts.{Pick};
-ghost use Rattle.task_model.specs.Tasks.{IsTaskPlan};
-ghost use Rattle.task_model.specs.Promise.{TasksPromised, TasksAnswered, TasksRestIf};
-ghost use Rattle.task_model.specs.Books.{TasksPast, TasksEndedIf, TasksDoneIf};
-ghost use Rattle.task_model.specs.Steady.{AsksNoInit, IsSteady};
+ghost use Rattle.state_model.specs.of_exchange_model.Exchange.{Exchange};
+ghost use Rattle.state_model.specs.of_segment_model.Slaves.{Registers, Processor, Slave, Datagram, Ring, Move, slave_after, frame_after, ring_back};
+ghost use Rattle.state_model.specs.of_segment_model.Record.{Frame, News};
+ghost use Rattle.state_model.specs.of_segment_model.Laws.{HandedBy, KnowsCounters};
+ghost use Rattle.state_model.specs.States.{Table};
+ghost use Rattle.state_model.specs.Stated.{Stated, Service};
+ghost use Rattle.state_model.specs.Accounts.{Pick};
+ghost use Rattle.state_model.specs.Tasks.{IsTaskPlan};
+ghost use Rattle.state_model.specs.Promise.{TasksPromised, TasksAnswered, TasksRestIf};
+ghost use Rattle.state_model.specs.Books.{TasksPast, TasksEndedIf, TasksDoneIf};
+ghost use Rattle.state_model.specs.Steady.{AsksNoInit, IsSteady};
 ghost use Rattle.life_model.specs.Own.{own, AreSeen, IsOpen, IsApart};
 ghost use Rattle.life_model.specs.Alone.{IsAlone, Reaches};
 ghost use Rattle.life_model.specs.Lives.{Spot, Era, AsksOpen, era_next, era_after, new_era};

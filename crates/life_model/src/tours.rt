@@ -1,9 +1,9 @@
 //! Which slaves a frame carries, and when a slave is given up.
 
 ghost use Rattle.std.specs.Prelude.{◌≡◌, ℕ, zero, suc, None, Some, List, drop};
-ghost use Rattle.task_model.specs.of_segment_model.Slaves.{Datagram};
-ghost use Rattle.task_model.specs.of_segment_model.Record.{Frame};
-ghost use Rattle.task_model.specs.of_segment_model.Visits.{Stop, NeverCarried};
+ghost use Rattle.state_model.specs.of_segment_model.Slaves.{Datagram};
+ghost use Rattle.state_model.specs.of_segment_model.Record.{Frame};
+ghost use Rattle.state_model.specs.of_segment_model.Visits.{Stop, NeverCarried};
 ghost use Rattle.life_model.specs.Tours.{Tour, Visits, HasSpare, item_at};
 ghost use Rattle.life_model.specs.Gave.{gave_by, gave_of};
 

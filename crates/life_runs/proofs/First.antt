@@ -1,15 +1,14 @@
 -- The slaves of a plan have stations of their own, and the lengths at each are those of its mailboxes.
 use Rattle.std.proofs.Common.{◌≡◌, ℕ, suc, ◌+◌, ◌==◌, ◌||◌, Bool, true, false, List, [], ◌∷◌, ◌++◌, refl, ap, sym, ◌∙◌, subst, arith}
-use Rattle.std.specs.Prelude.{Some, None, if◌then◌else◌}
+use Rattle.std.specs.Prelude.{Some, None, if◌then◌else◌, map, ◌<◌}
 use Rattle.std.proofs.lemmas.Bool.{eq-eqb, ne_eqb}
 use Rattle.std.specs.List.{list_any}
-use Rattle.life_frames.specs.of_frame_view.View.{Lens}
-use Rattle.life_frames.specs.Shares as Shares
-use Rattle.life_frames.specs.of_life_model.Lives.{Spot}
+use Rattle.frame_view.specs.View.{Lens}
+use Rattle.frame_view.specs.Shares as Shares
+use Rattle.frame_view.specs.of_life_model.Lives.{Spot}
 use Rattle.master_hand.specs.of_segment_plan.Sound.{repeated_from, is_same_station}
 use Rattle.master_hand.specs.of_segment_plan.declared.service.Service as Service
 use Rattle.master_hand.specs.of_segment_plan.declared.slave.SlaveSpec.{SlaveSpec}
-use Rattle.std.specs.Prelude.{map, ◌<◌}
 use Rattle.life_runs.specs.Led.{Leads}
 use Rattle.life_runs.specs.First.{lens_of, spot_of, leads_from, IsElsewhere, AreApart, HaveLens}
 

@@ -1,6 +1,14 @@
-pub use Rattle.life_frames.proofs as of_life_frames
-pub use Rattle.life_frames.proofs.of_frame_view as of_frame_view
+pub use Rattle.frame_view.proofs as of_frame_view
+pub use Rattle.master_tour.proofs as of_master_tour
+pub use Rattle.master_tour.proofs.of_master_side as of_master_side
 pub mod First
 pub mod Spans
 pub mod Causes
 pub mod Opened
+pub mod Quiet
+pub mod Rows
+pub mod Tells
+pub mod Telling
+pub mod Came
+pub mod ServedOpened
+pub mod Lives

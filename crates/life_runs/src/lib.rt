@@ -1,9 +1,13 @@
-//! A master that leads the lives of its slaves, frame by frame, and the epochs of each life: when each was returned to Init and opened, and why. No
-//! running code: each function here does nothing, and its contract states a law.
+//! A master that leads the lives of its slaves, frame by frame, in a run and in a serving, with mails that are passed on: the epochs of each life,
+//! when each was returned to Init and opened, and why; and the counters by which a record of it tells which mails are new. No running code: each
+//! function here does nothing, and its contract states a law.
 #![tactic(auto)]
 
+pub mod counters_kept;
+pub mod served_runs;
+
 ghost use Rattle.std.specs.Prelude.{◌≡◌, ℕ, Bool, List, length};
-ghost use Rattle.life_frames.specs.of_frame_view.View.{Lens};
+ghost use Rattle.frame_view.specs.View.{Lens};
 ghost use Rattle.segment_ring.specs.declared.wire.Fate.TheVariants.{Pass, Lost};
 ghost use Rattle.life_runs.specs.Led.{missed_behind, Exchanged, Leads, Turn, IsTurn, IsLed, life_behind};
 ghost use Rattle.segment_ring.specs.of_datagrams.Datagram as Raw;

@@ -1,7 +1,6 @@
-pub use Rattle.task_model.specs.of_segment_model.of_exchange_model as of_exchange_model
-pub use Rattle.task_model.specs.of_segment_model as of_segment_model
-pub use Rattle.task_model.specs.of_state_exchange as of_state_exchange
-pub use Rattle.task_model.specs as of_task_model
+pub use Rattle.state_model.specs.of_segment_model.of_exchange_model as of_exchange_model
+pub use Rattle.state_model.specs.of_segment_model as of_segment_model
+pub use Rattle.state_model.specs as of_state_model
 pub mod Reply
 pub mod Stages
 pub mod Mets

@@ -2,10 +2,10 @@
 use Rattle.std.specs.Prelude.{◌≡◌, ℕ, ⊤}
 use Rattle.al_state.specs.declared.climbing.Climb.{Climb}
 use Rattle.al_state.specs.declared.climbing.Climb.TheVariants.{Ask, Await, Acknowledge, Recover, Arrived, Refused}
-use Rattle.task_model.specs.of_segment_model.Ends.{Outcome}
-use Rattle.task_model.specs.of_state_model.States.{Phase}
-use Rattle.task_model.specs.Accounts
-use Rattle.task_model.specs.Accounts.{Progress}
+use Rattle.state_model.specs.of_segment_model.Ends.{Outcome}
+use Rattle.state_model.specs.States.{Phase}
+use Rattle.state_model.specs.Accounts
+use Rattle.state_model.specs.Accounts.{Progress}
 use Rattle.master_duty.specs.declared.stage.Met.{Met}
 use Rattle.master_duty.specs.Stages.{stage_of}
 

@@ -6,9 +6,9 @@ use Rattle.al_state.specs.declared.climbing.Climb.TheVariants.{Ask, Await, Ackno
 use Rattle.al_state.specs.declared.climbing.ClimbNext.{ClimbNext}
 use Rattle.al_state.specs.declared.climbing.ClimbNext.TheVariants.{Write, ReadStatus, Arrived as Reached, Refused as Denied}
 use Rattle.al_state.specs.Climb.{next_of}
-use Rattle.task_model.specs.of_segment_model.Slaves.{Access, Found}
-use Rattle.task_model.specs.of_state_model.States.{Phase}
-use Rattle.task_model.specs.Accounts
+use Rattle.state_model.specs.of_segment_model.Slaves.{Access, Found}
+use Rattle.state_model.specs.States.{Phase}
+use Rattle.state_model.specs.Accounts
 use Rattle.master_duty.specs.declared.stage.Stage.{Stage}
 use Rattle.master_duty.specs.declared.stage.Errand.{Errand}
 

@@ -17,8 +17,8 @@ pub struct Duty {
 
 impl Duty {
     ghost use Rattle.std.specs.Prelude.{◌≡◌, ◌<◌, ◌==◌, ℕ, Bool, Some, None, Option, true};
-    ghost use Rattle.task_model.specs.of_segment_model.Slaves.{Access, Found};
-    ghost use Rattle.task_model.specs.Accounts.{access_done, stage_access};
+    ghost use Rattle.state_model.specs.of_segment_model.Slaves.{Access, Found};
+    ghost use Rattle.state_model.specs.Accounts.{access_done, stage_access};
     ghost use Rattle.master_duty.specs.Stages.{stage_of, errand_of, errand_access, found_state, is_met, reopening};
     ghost use Rattle.master_duty.specs.Reply.{Reply};
     ghost use Rattle.master_duty.specs.Mets.{progress_of, met_of, KeepsTarget};

@@ -1,26 +1,24 @@
 -- The hand's steps, over its clients.
-use Rattle.std.proofs.Common.{◌≡◌, ℕ, List, [], ◌∷◌, Bool, true, false, Option, Some, None, refl, sym, ap, ◌∙◌, subst}
+use Rattle.std.proofs.Common.{◌≡◌, ℕ, List, [], ◌∷◌, Bool, true, false, Option, Some, None, refl, sym, ap, ◌∙◌, subst, inl, inr}
 use Rattle.std.specs.Prelude.{is_some, is_none, option_map, Ok, not, ◌&&◌, if◌then◌else◌, ◌⊎◌}
-use Rattle.std.proofs.Common.{inl, inr}
 use Rattle.mailbox_mail.specs.declared.outcome.Took.{Took}
 use Rattle.foe_client.specs.of_exchange_model.Areas.{Areas}
 use Rattle.foe_client.specs.of_exchange_model.Exchange.{Speech, plain}
 use Rattle.foe_client.specs.of_exchange_model.Rows.{Row, begun, row_heard, row_told}
 use Rattle.master_side.specs.of_link_mails.Body.{Body}
 use Rattle.serving_model.specs.of_segment_model.Seats.{Side, is_none_left, next_mail}
-use Rattle.master_side.specs.of_task_model.Accounts as Accounts
-use Rattle.master_side.specs.of_task_model.Accounts.{is_free}
+use Rattle.master_side.specs.of_state_model.Accounts as Accounts
+use Rattle.master_side.specs.of_state_model.Accounts.{is_free}
 use Rattle.master_side.specs.of_master_duty.Reply.{Reply}
 use Rattle.master_side.specs.Fits.{Tells}
-use Rattle.foe_client.specs.of_foe_model.Meaning as FoeMeaning
-use Rattle.eoe_client.specs.of_eoe_model.Client as EoeClient
-use Rattle.coe_client.proofs.of_coe_model.Closing.{ends_none}
-use Rattle.soe_client.specs.of_soe_model.Client as SoeClient
+use Rattle.foe_client.specs.of_protocol_models.FoeMeaning as FoeMeaning
+use Rattle.eoe_client.specs.of_protocol_models.EoeClient as EoeClient
+use Rattle.coe_client.proofs.of_protocol_models.CoeClosing.{ends_none}
+use Rattle.soe_client.specs.of_protocol_models.SoeClient as SoeClient
 use Rattle.master_hand.specs.Spoken.{Asked, sdo, file, drive, net, passed, emission, ends, handed, replied, acknowledged, hand_speech}
 use Rattle.master_hand.specs.Passed.{mail_of}
-use Rattle.master_hand.specs.Grips.{Going}
+use Rattle.master_hand.specs.Grips.{Going, Hearing}
 use Rattle.master_hand.specs.Talk.{Talking, which_of, IsOf, is_handed, is_read, client_later, client_awaits, Starts, Begins, SendsNext, IsSent, Follows, ClientTook, is_askable}
-use Rattle.master_hand.specs.Grips.{Hearing}
 use Rattle.master_hand.specs.Quiet.{has_stays}
 use Rattle.master_hand.specs.Shown.{HandShows, Shows, is_awaiting, is_answered, course_behind}
 use Rattle.master_hand.specs.declared.course.Course.{Course}

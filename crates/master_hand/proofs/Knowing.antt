@@ -7,8 +7,8 @@ use Rattle.mailbox_mail.specs.declared.outcome.Took.{Took}
 use Rattle.master_side.specs.Due.{IsDue, IsReply}
 use Rattle.master_side.specs.of_link_mails.Body.{Body}
 use Rattle.master_side.specs.of_master_duty.Reply.{Reply}
-use Rattle.master_side.specs.of_task_model.Accounts as Accounts
-use Rattle.master_side.specs.of_task_model.Accounts.{is_free}
+use Rattle.master_side.specs.of_state_model.Accounts as Accounts
+use Rattle.master_side.specs.of_state_model.Accounts.{is_free}
 use Rattle.serving_model.specs.of_segment_model.Seats.{Side, next_mail, first_left, is_none_left}
 use Rattle.master_hand.specs.Grips.{Going}
 use Rattle.master_hand.specs.Shown.{HandShows, Shows, course_behind, is_awaiting, knows}

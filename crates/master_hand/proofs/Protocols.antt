@@ -1,47 +1,46 @@
 -- Protocol by protocol: what a client does is what the hand wants of it.
-use Rattle.std.proofs.Common.{◌≡◌, ℕ, ◌+◌, ◌<◌, List, [], ◌∷◌, Bool, true, false, Option, Some, None, refl, sym, ap, ◌∙◌, subst, map, length, arith}
+use Rattle.std.proofs.Common.{◌≡◌, ℕ, ◌+◌, ◌<◌, List, [], ◌∷◌, Bool, true, false, Option, Some, None, refl, sym, ap, ◌∙◌, subst, map, length, arith, inl, inr}
 use Rattle.std.specs.Prelude.{is_some, Ok, ◌≤◌, ◌↔◌, if◌then◌else◌, zero, suc, ◌&&◌, ◌⊎◌, nat_le, nat_lt}
-use Rattle.std.proofs.Common.{inl, inr}
 use Rattle.std.specs.Bool.{OnTrue, OnFalse}
 use Rattle.mailbox_mail.specs.declared.mail.Mail.{Mail}
 use Rattle.mailbox_mail.specs.declared.mail.Kind.{Kind}
 use Rattle.mailbox_mail.specs.declared.outcome.Took.{Took}
 use Rattle.foe_client.specs.of_exchange_model.Areas.{Areas}
 use Rattle.master_side.specs.of_link_mails.Body.{Body}
-use Rattle.coe_client.specs.of_coe_model.Mails as CoeMails
-use Rattle.coe_client.specs.of_coe_model.Octets as CoeOctets
+use Rattle.coe_client.specs.of_protocol_models.CoeMails as CoeMails
+use Rattle.coe_client.specs.of_protocol_models.CoeOctets as CoeOctets
 use Rattle.coe_client.specs.Talk as CoeTalk
 use Rattle.coe_client.specs.Hear as CoeHear
 use Rattle.coe_client.specs.Send as CoeSend
 use Rattle.coe_client.specs.declared.state.Awaits as CoeAwaits
-use Rattle.foe_client.specs.of_foe_model.Mails as FoeMails
-use Rattle.foe_client.specs.of_foe_model.Octets as FoeOctets
+use Rattle.foe_client.specs.of_protocol_models.FoeMails as FoeMails
+use Rattle.foe_client.specs.of_protocol_models.FoeOctets as FoeOctets
 use Rattle.foe_client.specs.Talk as FoeTalk
 use Rattle.foe_client.specs.Hear as FoeHear
 use Rattle.foe_client.specs.Send as FoeSend
 use Rattle.foe_client.specs.declared.state.Awaits as FoeAwaits
 use Rattle.foe_client.specs.declared.state.Unsent as FoeUnsent
-use Rattle.soe_client.specs.of_soe_model.Mails as SoeMails
-use Rattle.soe_client.specs.of_soe_model.Octets as SoeOctets
+use Rattle.soe_client.specs.of_protocol_models.SoeMails as SoeMails
+use Rattle.soe_client.specs.of_protocol_models.SoeOctets as SoeOctets
 use Rattle.soe_client.specs.Talk as SoeTalk
 use Rattle.soe_client.specs.Hear as SoeHear
 use Rattle.soe_client.specs.declared.state.Awaits as SoeAwaits
-use Rattle.eoe_client.specs.of_eoe_model.Mails as EoeMails
-use Rattle.eoe_client.specs.of_eoe_model.Octets as EoeOctets
+use Rattle.eoe_client.specs.of_protocol_models.EoeMails as EoeMails
+use Rattle.eoe_client.specs.of_protocol_models.EoeOctets as EoeOctets
 use Rattle.eoe_client.specs.Talk as EoeTalk
 use Rattle.eoe_client.specs.Hear as EoeHear
 use Rattle.eoe_client.specs.declared.address.Awaits as EoeAwaits
 use Rattle.object_dictionary.specs.declared.service.SdoService.{SdoService}
-use Rattle.coe_client.specs.of_coe_model.Client as CoeClient
-use Rattle.coe_client.specs.of_coe_model.Model as CoeModel
-use Rattle.foe_client.specs.of_foe_model.Meaning as FoeMeaning
-use Rattle.foe_client.specs.of_foe_model.Client as FoeClient
-use Rattle.foe_client.specs.of_foe_model.Model as FoeModel
-use Rattle.soe_client.specs.of_soe_model.Client as SoeClient
-use Rattle.eoe_client.specs.of_eoe_model.Client as EoeClient
-use Rattle.eoe_client.specs.of_eoe_model.Mails.{packet_mails}
+use Rattle.coe_client.specs.of_protocol_models.CoeClient as CoeClient
+use Rattle.coe_client.specs.of_protocol_models.CoeModel as CoeModel
+use Rattle.foe_client.specs.of_protocol_models.FoeMeaning as FoeMeaning
+use Rattle.foe_client.specs.of_protocol_models.FoeClient as FoeClient
+use Rattle.foe_client.specs.of_protocol_models.FoeModel as FoeModel
+use Rattle.soe_client.specs.of_protocol_models.SoeClient as SoeClient
+use Rattle.eoe_client.specs.of_protocol_models.EoeClient as EoeClient
+use Rattle.eoe_client.specs.of_protocol_models.EoeMails.{packet_mails}
 use Rattle.ec_fields.proofs.Cells.{AreOctets}
-use Rattle.soe_client.specs.of_soe_model.Elements.{target}
+use Rattle.soe_client.specs.of_protocol_models.Elements.{target}
 use Rattle.segment_plan.specs.Sound.{IsSdo}
 use Rattle.master_hand.specs.Spoken.{sdo, file, drive, net, told_sdo, heard_sdo, told_file, heard_file, told_drive, heard_drive, told_net, heard_net, replied}
 use Rattle.master_hand.specs.Passed.{body_of, mail_of}

@@ -5,7 +5,7 @@ use Rattle.eoe.specs.declared.joining.Joined.{Joined}
 use Rattle.eoe.specs.declared.joining.Joined.TheVariants.{More, Whole, Dropped}
 use Rattle.eoe.specs.declared.joining.Unfinished.{Unfinished}
 use Rattle.eoe.specs.declared.message.Fragment.{Fragment}
-use Rattle.eoe_client.specs.of_eoe_model.Mails as EoeMails
+use Rattle.eoe_client.specs.of_protocol_models.EoeMails as EoeMails
 use Rattle.master_side.specs.of_link_mails.Body.{Body}
 use Rattle.master_hand.specs.Brings.{as_list}
 use Rattle.master_hand.specs.Spoken.{heard_net}

@@ -1,7 +1,7 @@
 -- What waits to come into hand: the script of a slave, and what is laid ready.
 use Rattle.std.specs.Prelude.{ℕ, suc, List, Option, Some, None, slice_get}
 use Rattle.foe_client.specs.of_exchange_model.Areas.{Areas}
-use Rattle.eoe_client.specs.of_eoe_model.Client as EoeClient
+use Rattle.eoe_client.specs.of_protocol_models.EoeClient as EoeClient
 use Rattle.segment_plan.specs.declared.service.Service.{Service}
 use Rattle.master_hand.specs.Spoken.{Asked, net, passed}
 use Rattle.master_hand.specs.Passed.{mail_of}

@@ -8,23 +8,23 @@ use Rattle.foe_client.specs.of_exchange_model.Areas.{Areas}
 use Rattle.foe_client.specs.of_exchange_model.Exchange.{Speech}
 use Rattle.foe_client.specs.of_exchange_model.Lifted.{lifted_speech}
 use Rattle.serving_model.specs.Passing.{ends_told}
-use Rattle.coe_client.specs.of_coe_model.Mails as CoeMails
-use Rattle.coe_client.specs.of_coe_model.Meaning as CoeMeaning
-use Rattle.coe_client.specs.of_coe_model.Client as CoeClient
-use Rattle.coe_client.specs.of_coe_model.Model as CoeModel
-use Rattle.coe_client.specs.of_coe_model.Octets as CoeOctets
-use Rattle.foe_client.specs.of_foe_model.Mails as FoeMails
-use Rattle.foe_client.specs.of_foe_model.Meaning as FoeMeaning
-use Rattle.foe_client.specs.of_foe_model.Model as FoeModel
-use Rattle.foe_client.specs.of_foe_model.Octets as FoeOctets
-use Rattle.soe_client.specs.of_soe_model.Mails as SoeMails
-use Rattle.soe_client.specs.of_soe_model.Client as SoeClient
-use Rattle.soe_client.specs.of_soe_model.Model as SoeModel
-use Rattle.soe_client.specs.of_soe_model.Octets as SoeOctets
-use Rattle.eoe_client.specs.of_eoe_model.Mails as EoeMails
-use Rattle.eoe_client.specs.of_eoe_model.Client as EoeClient
-use Rattle.eoe_client.specs.of_eoe_model.Model as EoeModel
-use Rattle.eoe_client.specs.of_eoe_model.Octets as EoeOctets
+use Rattle.coe_client.specs.of_protocol_models.CoeMails as CoeMails
+use Rattle.coe_client.specs.of_protocol_models.CoeMeaning as CoeMeaning
+use Rattle.coe_client.specs.of_protocol_models.CoeClient as CoeClient
+use Rattle.coe_client.specs.of_protocol_models.CoeModel as CoeModel
+use Rattle.coe_client.specs.of_protocol_models.CoeOctets as CoeOctets
+use Rattle.foe_client.specs.of_protocol_models.FoeMails as FoeMails
+use Rattle.foe_client.specs.of_protocol_models.FoeMeaning as FoeMeaning
+use Rattle.foe_client.specs.of_protocol_models.FoeModel as FoeModel
+use Rattle.foe_client.specs.of_protocol_models.FoeOctets as FoeOctets
+use Rattle.soe_client.specs.of_protocol_models.SoeMails as SoeMails
+use Rattle.soe_client.specs.of_protocol_models.SoeClient as SoeClient
+use Rattle.soe_client.specs.of_protocol_models.SoeModel as SoeModel
+use Rattle.soe_client.specs.of_protocol_models.SoeOctets as SoeOctets
+use Rattle.eoe_client.specs.of_protocol_models.EoeMails as EoeMails
+use Rattle.eoe_client.specs.of_protocol_models.EoeClient as EoeClient
+use Rattle.eoe_client.specs.of_protocol_models.EoeModel as EoeModel
+use Rattle.eoe_client.specs.of_protocol_models.EoeOctets as EoeOctets
 use Rattle.master_side.specs.of_master_duty.Reply.{Reply}
 
 -- what is asked of a slave by mails: a service of a protocol, or that a mail is passed on as it is

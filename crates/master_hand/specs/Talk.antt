@@ -4,10 +4,10 @@ use Rattle.mailbox_mail.specs.declared.outcome.Took.{Took}
 use Rattle.master_hand.specs.declared.passed.Content.{Content}
 use Rattle.foe_client.specs.of_exchange_model.Areas.{Areas}
 use Rattle.master_side.specs.of_link_mails.Body.{Body}
-use Rattle.foe_client.specs.of_foe_model.Meaning as FoeMeaning
-use Rattle.soe_client.specs.of_soe_model.Client as SoeClient
-use Rattle.soe_client.specs.of_soe_model.Elements.{target}
-use Rattle.eoe_client.specs.of_eoe_model.Client as EoeClient
+use Rattle.foe_client.specs.of_protocol_models.FoeMeaning as FoeMeaning
+use Rattle.soe_client.specs.of_protocol_models.SoeClient as SoeClient
+use Rattle.soe_client.specs.of_protocol_models.Elements.{target}
+use Rattle.eoe_client.specs.of_protocol_models.EoeClient as EoeClient
 use Rattle.coe_client.specs.Talk as CoeTalk
 use Rattle.foe_client.specs.Talk as FoeTalk
 use Rattle.soe_client.specs.Talk as SoeTalk

@@ -1,11 +1,11 @@
 ghost use Rattle.std.specs.Prelude.{◌≡◌, ◌≤◌, ◌++◌, ◌+◌, ◌<◌, ◌^◌, ◌↔◌, List, [], true, false, is_some, length, IfOk, IfSome, OnOk, OnErr, Some, None, Ok};
 ghost use Rattle.std.specs.Bool.{OnTrue, OnFalse};
-ghost use Rattle.coe_client.specs.of_coe_model.Model.{are_octets};
+ghost use Rattle.coe_client.specs.of_protocol_models.CoeModel.{are_octets};
 ghost use Rattle.coe_client.specs.Talk.{service_view};
-ghost use Rattle.foe_client.specs.of_foe_model.Meaning as FoeMeaning;
-ghost use Rattle.soe_client.specs.of_soe_model.Client as SoeMeaning;
-ghost use Rattle.soe_client.specs.of_soe_model.Elements.{target};
-ghost use Rattle.eoe_client.specs.of_eoe_model.Client as EoeClient;
+ghost use Rattle.foe_client.specs.of_protocol_models.FoeMeaning as FoeMeaning;
+ghost use Rattle.soe_client.specs.of_protocol_models.SoeClient as SoeMeaning;
+ghost use Rattle.soe_client.specs.of_protocol_models.Elements.{target};
+ghost use Rattle.eoe_client.specs.of_protocol_models.EoeClient as EoeClient;
 ghost use Rattle.segment_plan.specs.Sound.{IsService, IsSdo, IsName};
 ghost use Rattle.master_hand.specs.Spoken.{sdo, file, drive, net, passed, valid};
 ghost use Rattle.master_hand.specs.Passed.{body_of, mail_of};

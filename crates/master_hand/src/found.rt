@@ -1,12 +1,12 @@
 ghost use Rattle.std.specs.Prelude.{◌≡◌, ◌≤◌, false, length, None};
 ghost use Rattle.mailbox_mail.specs.View.{mail_seen};
 ghost use Rattle.coe_codec.specs.View.{coe_seen, IsCapped};
-ghost use Rattle.coe_client.specs.of_coe_model.Mails.{is_emission, mail as sdo_mail};
-ghost use Rattle.coe_client.specs.of_coe_model.Octets.{body_heard, is_fragment};
+ghost use Rattle.coe_client.specs.of_protocol_models.CoeMails.{is_emission, mail as sdo_mail};
+ghost use Rattle.coe_client.specs.of_protocol_models.CoeOctets.{body_heard, is_fragment};
 ghost use Rattle.master_hand.specs.Spoken.{emission};
 ghost use Rattle.master_hand.specs.Passed.{body_of};
 ghost use Rattle.eoe.specs.Message.{eoe_read};
-ghost use Rattle.eoe_client.specs.of_eoe_model.Octets.{heard};
+ghost use Rattle.eoe_client.specs.of_protocol_models.EoeOctets.{heard};
 ghost use Rattle.master_hand.specs.Brings.{emergency_of, emergency_kept, Brings};
 ghost use Rattle.master_hand.specs.Replied.{reply_kept, is_reply, KeepsReply};
 ghost use Rattle.master_hand.specs.Joins.{fragment_of, unfinished_by, completed_by, unfinished_behind, packet_kept, Completes};

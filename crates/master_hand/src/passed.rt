@@ -1,11 +1,11 @@
 ghost use Rattle.std.specs.Prelude.{◌≡◌, ◌≤◌, [], ◌∷◌, true, false, length, Ok, None, Some, is_some, ⊤, List};
 ghost use Rattle.std.specs.Bool.{OnTrue, OnFalse};
 ghost use Rattle.coe_codec.specs.View.{coe_seen};
-ghost use Rattle.coe_client.specs.of_coe_model.Mails.{mail as sdo_mail};
-ghost use Rattle.coe_client.specs.of_coe_model.Octets.{body_heard as sdo_heard};
-ghost use Rattle.coe_client.specs.of_coe_model.Client.{is_incomplete as is_sdo_incomplete};
-ghost use Rattle.soe_client.specs.of_soe_model.Octets.{body_heard as drive_heard};
-ghost use Rattle.soe_client.specs.of_soe_model.Client.{is_incomplete as is_drive_incomplete};
+ghost use Rattle.coe_client.specs.of_protocol_models.CoeMails.{mail as sdo_mail};
+ghost use Rattle.coe_client.specs.of_protocol_models.CoeOctets.{body_heard as sdo_heard};
+ghost use Rattle.coe_client.specs.of_protocol_models.CoeClient.{is_incomplete as is_sdo_incomplete};
+ghost use Rattle.soe_client.specs.of_protocol_models.SoeOctets.{body_heard as drive_heard};
+ghost use Rattle.soe_client.specs.of_protocol_models.SoeClient.{is_incomplete as is_drive_incomplete};
 ghost use Rattle.master_side.specs.of_link_mails.Body.{Body};
 ghost use Rattle.master_hand.specs.Spoken.{followed_by};
 ghost use Rattle.master_hand.specs.Passed.{body_of, mail_of, passed_left, passed_awaits, PassedTook};

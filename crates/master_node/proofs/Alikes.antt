@@ -1,7 +1,7 @@
 -- A SLAVE THAT STAYS is served as before.
 use Rattle.std.proofs.Common.{◌≡◌, ℕ, true, Option, List, refl, sym, ap, ◌∙◌, subst}
-use Rattle.served_runs.specs.of_life_runs.of_frame_view.View.{Lens}
-use Rattle.master_duty.specs.of_state_exchange.Stated.{Service}
+use Rattle.life_runs.specs.of_frame_view.View.{Lens}
+use Rattle.master_duty.specs.of_state_model.Stated.{Service}
 use Rattle.master_hand.specs.Laying.{scripted}
 use Rattle.master_hand.specs.Shown.{awaits_reply, knows}
 use Rattle.master_hand.specs.Spoken.{Asked}
@@ -10,7 +10,7 @@ use Rattle.master_side.specs.declared.hand.Hand.{Ghosts}
 use Rattle.master_tour.specs.Counting.{ReadStays, StandCounts}
 use Rattle.master_tour.specs.Passing.{StandPassing}
 use Rattle.master_tour.specs.declared.stop.Stop.{Stop}
-use Rattle.served_runs.specs.Served.{Keyed, Serves, ServedComes}
+use Rattle.life_runs.specs.Served.{Keyed, Serves, ServedComes}
 use Rattle.master_node.specs.Passes.{IsServing}
 use Rattle.master_node.proofs.Mailed.{stand_awaits}
 

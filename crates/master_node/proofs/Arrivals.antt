@@ -3,8 +3,8 @@ use Rattle.std.proofs.Common.{◌≡◌, ℕ, zero, suc, ◌+◌, ◌<◌, ◌�
 use Rattle.std.specs.Prelude.{nat_lt, slice_get}
 use Rattle.std.proofs.Math.Seq.{take-suc}
 use Rattle.eoe.specs.declared.joining.Unfinished.{Unfinished}
-use Rattle.served_runs.specs.of_life_runs.Led.{Turn}
-use Rattle.served_runs.specs.of_life_runs.of_life_frames.Shares.{AllThree}
+use Rattle.life_runs.specs.Led.{Turn}
+use Rattle.life_runs.specs.of_frame_view.Shares.{AllThree}
 use Rattle.master_duty.specs.of_segment_model.Slaves.{Datagram}
 use Rattle.master_hand.specs.Brings.{as_list}
 use Rattle.master_hand.specs.Joins.{Completes, packet_kept, packets_in}

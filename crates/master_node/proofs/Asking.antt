@@ -7,10 +7,10 @@ use Rattle.datagrams.specs.declared.frame.Frame.{Frame}
 use Rattle.datagrams.specs.declared.frame.FrameFault.{FrameFault}
 use Rattle.datagrams.specs.declared.frame.Part.{Part}
 use Rattle.datagrams.specs.Frame.{frame_read}
-use Rattle.served_runs.specs.of_life_runs.of_frame_view.View.{Lens, address_of, place_of, station_of}
-use Rattle.served_runs.specs.of_life_runs.of_frame_view.Seen.{seen, part_seen, parts_seen}
-use Rattle.served_runs.specs.of_life_runs.of_life_frames.Shares.{AllBoth}
-use Rattle.served_runs.specs.of_life_runs.Led.{Turn}
+use Rattle.life_runs.specs.of_frame_view.View.{Lens, address_of, place_of, station_of}
+use Rattle.life_runs.specs.of_frame_view.Seen.{seen, part_seen, parts_seen}
+use Rattle.life_runs.specs.of_frame_view.Shares.{AllBoth}
+use Rattle.life_runs.specs.Led.{Turn}
 use Rattle.mailbox_master.specs.declared.halves.InwardHalf.{InwardHalf}
 use Rattle.mailbox_master.specs.Any.{in_half_of}
 use Rattle.mailbox_master.specs.of_link_model.Link.{Halves}
@@ -18,7 +18,7 @@ use Rattle.mailbox_master.specs.of_link_model.Master.{InHalf}
 use Rattle.master_duty.specs.of_segment_model.Slaves as Slaves
 use Rattle.master_duty.specs.of_segment_model.Slaves.{Access, Datagram}
 use Rattle.master_duty.specs.of_segment_model.Record.{is_for}
-use Rattle.master_duty.specs.of_task_model.Accounts.{duty_access}
+use Rattle.master_duty.specs.of_state_model.Accounts.{duty_access}
 use Rattle.master_hand.specs.declared.hand.InHand.{InHand}
 use Rattle.master_side.specs.Carried.{Meant, is_clear, is_by_half}
 use Rattle.master_side.specs.declared.carried.Carried.{Carried}

@@ -1,13 +1,13 @@
 -- BEHIND A FRAME THAT CAME BACK a post has in hand what the life behind it has, and just what the lives tell was told.
 use Rattle.std.proofs.Common.{◌≡◌, ◌==◌, ℕ, suc, Bool, true, false, Option, Some, None, List, [], ◌∷◌, ◌++◌, length, refl, sym, ap, ◌∙◌, subst, append_assoc, append-nil}
 use Rattle.std.specs.Prelude.{◌&&◌, is_some, option_map, if◌then◌else◌}
-use Rattle.served_runs.specs.of_life_runs.of_life_frames.of_exchange_model.Areas.{Areas}
+use Rattle.life_runs.specs.of_frame_view.of_exchange_model.Areas.{Areas}
 use Rattle.master_duty.specs.Reply.{Reply}
 use Rattle.master_duty.specs.of_exchange_model.Exchange.{Speech}
 use Rattle.master_duty.specs.of_exchange_model.Rows.{row_heard}
 use Rattle.master_duty.specs.of_segment_model.Record.{News}
 use Rattle.master_duty.specs.of_segment_model.Slaves.{Datagram, Found, grams}
-use Rattle.master_duty.specs.of_task_model.Accounts.{Account, Change, Duty, is_free}
+use Rattle.master_duty.specs.of_state_model.Accounts.{Account, Change, Duty, is_free}
 use Rattle.master_duty.specs.declared.stage.Met.{Met}
 use Rattle.master_hand.specs.Brings.{Brings, emergencies_in}
 use Rattle.master_hand.specs.Replied.{Replies}
@@ -28,7 +28,7 @@ use Rattle.master_tour.specs.declared.stop.Turned.{Turned}
 use Rattle.master_tour.specs.of_life_model.Lives
 use Rattle.master_tour.specs.of_life_model.Lives.{Era, Life, Spot, life_back, passes}
 use Rattle.master_tour.specs.of_life_model.Own
-use Rattle.served_runs.specs.Told.{Passed}
+use Rattle.life_runs.specs.Told.{Passed}
 use Rattle.master_node.specs.Backtold.{HasInHand, IsFresh, NewestHas, OpenHas, OpeningHas, answer_told, changes_told, emergencies_told, has_packet, kind_of, open_told, packet_told, passed_told, returned_told, turned_told}
 use Rattle.master_node.specs.Besides.{Does, back_does, behind, heard_does, is_state, met_at, met_where, opened_where, over_does, stays, then_does, turned_does, turned_where}
 use Rattle.master_node.specs.Named.{IsHanded, is_left}

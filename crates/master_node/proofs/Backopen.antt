@@ -1,14 +1,14 @@
 -- WHAT AN OPEN SLAVE TELLS behind a frame that came back, by its side and account, and what its post has in hand then.
 use Rattle.std.proofs.Common.{◌≡◌, ℕ, Bool, true, false, Option, Some, None, List, [], ◌++◌, length, refl, sym, ap, ◌∙◌, subst, append_assoc, append-nil}
 use Rattle.std.specs.Prelude.{◌&&◌, not, is_some, option_map}
-use Rattle.served_runs.specs.of_life_runs.of_life_frames.of_exchange_model.Areas.{Areas}
+use Rattle.life_runs.specs.of_frame_view.of_exchange_model.Areas.{Areas}
 use Rattle.mailbox_mail.specs.declared.mail.Mail.{Mail}
 use Rattle.master_duty.specs.Reply.{Reply}
 use Rattle.master_duty.specs.of_exchange_model.Exchange.{Speech, plain}
 use Rattle.master_duty.specs.of_exchange_model.Rows.{Row}
 use Rattle.master_duty.specs.of_segment_model.Ends as Ends
 use Rattle.master_duty.specs.of_segment_model.Seats.{Side}
-use Rattle.master_duty.specs.of_task_model.Accounts.{Account, Duty, is_free}
+use Rattle.master_duty.specs.of_state_model.Accounts.{Account, Duty, is_free}
 use Rattle.master_hand.proofs.Replies.{replies_are}
 use Rattle.master_hand.specs.Brings.{Brings, as_list, emergencies_in, emergency_in}
 use Rattle.master_hand.specs.Passed.{body_of}
@@ -24,7 +24,7 @@ use Rattle.master_side.specs.declared.passing.Passing.{Passing}
 use Rattle.master_side.specs.of_link_mails.Body.{Body}
 use Rattle.master_tour.specs.declared.stop.Stand.{Stand}
 use Rattle.master_tour.specs.declared.stop.Stop.{Stop}
-use Rattle.served_runs.specs.Told.{Passed, replies_in}
+use Rattle.life_runs.specs.Told.{Passed, replies_in}
 use Rattle.master_node.specs.Backtold.{HasPassed, NewestHas, OpenHas, ServiceHas, answer_told, changes_told, emergencies_told, ended_told, has_packet, kind_of, packet_told, passed_told}
 use Rattle.master_node.specs.Begins.{is_other}
 use Rattle.master_node.specs.Besides.{Does, behind, emergency_told, heard_does, met_at, met_where, over_does, passed_where, reply_told, stays, then_does}

@@ -1,12 +1,12 @@
 -- WHAT A FRAME THAT CAME BACK TELLS of the slaves that it carried is just what their lives tell.
 use Rattle.std.proofs.Common.{◌≡◌, ℕ, zero, suc, Bool, true, List, [], ◌∷◌, refl, sym, ap, ◌∙◌, subst}
 use Rattle.std.specs.Prelude.{map}
-use Rattle.served_runs.specs.of_life_runs.Led.{Exchanged, speech_at}
-use Rattle.served_runs.specs.of_life_runs.of_frame_view.Seen.{seen}
-use Rattle.served_runs.specs.of_life_runs.of_frame_view.View.{Lens}
-use Rattle.served_runs.specs.of_life_runs.of_life_frames.of_exchange_model.Areas.{Areas}
-use Rattle.served_runs.specs.of_life_runs.of_life_frames.Shares.{AllThree, Lived, came_at}
-use Rattle.served_runs.specs.of_life_runs.of_segment_ring.declared.wire.Fate.TheVariants.{Pass}
+use Rattle.life_runs.specs.Led.{Exchanged, speech_at}
+use Rattle.life_runs.specs.of_frame_view.Seen.{seen}
+use Rattle.life_runs.specs.of_frame_view.View.{Lens}
+use Rattle.life_runs.specs.of_frame_view.of_exchange_model.Areas.{Areas}
+use Rattle.life_runs.specs.of_frame_view.Shares.{AllThree, Lived, came_at}
+use Rattle.life_runs.specs.of_segment_ring.declared.wire.Fate.TheVariants.{Pass}
 use Rattle.master_duty.specs.Reply.{Reply}
 use Rattle.master_duty.specs.of_segment_model.Slaves.{Datagram}
 use Rattle.master_hand.specs.Brings.{Brings}
@@ -27,7 +27,7 @@ use Rattle.master_tour.specs.declared.stop.Stand.{Stand}
 use Rattle.master_tour.specs.declared.stop.Stop.{Stop}
 use Rattle.master_tour.specs.of_life_model.Lives
 use Rattle.master_tour.specs.of_life_model.Lives.{Life, Spot, life_back}
-use Rattle.served_runs.specs.Served.{Serves, ServedTurn, served_behind}
+use Rattle.life_runs.specs.Served.{Serves, ServedTurn, served_behind}
 use Rattle.master_node.specs.Backtold.{known_at, returned_told}
 use Rattle.master_node.specs.Besides.{back_does, by_stop, stays}
 use Rattle.master_node.specs.Eager.{recall_of}

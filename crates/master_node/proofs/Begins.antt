@@ -5,13 +5,13 @@ use Rattle.std.proofs.lemmas.Bool.{eq-eqb, eqb-true}
 use Rattle.arrayvec.specs.ArrayVec.{ArrayVec}
 use Rattle.eoe_switch.specs.Switch.{Switched}
 use Rattle.eoe_switch.specs.declared.switching.SwitchEvent.{SwitchEvent}
-use Rattle.served_runs.specs.of_life_runs.of_frame_view.View.{Lens}
-use Rattle.served_runs.specs.of_life_runs.of_life_frames.Shares.{AllFrom, IsElsewhere, AreDistinct}
-use Rattle.served_runs.specs.of_life_runs.Led.{Leads, Turn}
-use Rattle.master_duty.specs.of_state_exchange.Stated.{Service}
+use Rattle.life_runs.specs.of_frame_view.View.{Lens}
+use Rattle.life_runs.specs.of_frame_view.Shares.{AllFrom, IsElsewhere, AreDistinct}
+use Rattle.life_runs.specs.Led.{Leads, Turn}
+use Rattle.master_duty.specs.of_state_model.Stated.{Service}
 use Rattle.master_hand.specs.Laying.{Waiting, asked_next, ready_by, ready_of}
 use Rattle.master_hand.specs.Spoken.{Asked, net}
-use Rattle.master_hand.specs.of_eoe_model.Client as EoeClient
+use Rattle.master_hand.specs.of_protocol_models.EoeClient as EoeClient
 use Rattle.master_hand.specs.Talk.{asked_of}
 use Rattle.master_hand.specs.declared.hand.InHand.{InHand}
 use Rattle.master_hand.specs.declared.laying.Laid.{Laid}

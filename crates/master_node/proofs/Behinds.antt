@@ -1,12 +1,12 @@
 -- What a master shows of its slaves behind a frame.
 use Rattle.std.proofs.Common.{◌≡◌, ℕ, zero, suc, ◌+◌, ◌≤◌, Bool, true, false, List, [], ◌∷◌, None, refl, sym, ap, ◌∙◌, subst, length}
 use Rattle.std.specs.Prelude.{map, All, not, nat_lt, if◌then◌else◌}
-use Rattle.served_runs.specs.of_life_runs.of_frame_view.View.{Lens}
-use Rattle.served_runs.specs.of_life_runs.of_frame_view.Seen.{seen}
-use Rattle.served_runs.specs.of_life_runs.of_life_frames.Frames.{Share, AreApart}
-use Rattle.served_runs.specs.of_life_runs.of_life_frames.Shares.{Lived, AllBoth, AllThree, IsElsewhere, AreDistinct, lived_back, lived_lost}
+use Rattle.life_runs.specs.of_frame_view.View.{Lens}
+use Rattle.life_runs.specs.of_frame_view.Seen.{seen}
+use Rattle.life_runs.specs.of_frame_view.Frames.{Share, AreApart}
+use Rattle.life_runs.specs.of_frame_view.Shares.{Lived, AllBoth, AllThree, IsElsewhere, AreDistinct, lived_back, lived_lost}
 use Rattle.master_tour.specs.of_life_model.Lives.{Spot}
-use Rattle.served_runs.specs.of_life_runs.Led.{Leads, Turn, Exchanged, speech_at, life_behind, led_behind, missed_behind}
+use Rattle.life_runs.specs.Led.{Leads, Turn, Exchanged, speech_at, life_behind, led_behind, missed_behind}
 use Rattle.master_duty.specs.Reply.{Reply}
 use Rattle.master_hand.specs.Laying.{scripted}
 use Rattle.master_hand.specs.Spoken.{Asked, acknowledged, is_followed, is_passed}
@@ -18,8 +18,8 @@ use Rattle.master_tour.specs.Walks.{EachPair}
 use Rattle.master_tour.specs.declared.stop.Stand.{Stand}
 use Rattle.master_tour.specs.declared.stop.Stop.{Stop}
 use Rattle.master_tour.proofs.Unpassed.{unpassed_back, unpassed_lost}
-use Rattle.served_runs.specs.of_life_runs.of_segment_ring.declared.wire.Fate.{Fate}
-use Rattle.served_runs.specs.of_life_runs.of_segment_ring.declared.wire.Fate.TheVariants.{Pass, Lost}
+use Rattle.life_runs.specs.of_segment_ring.declared.wire.Fate.{Fate}
+use Rattle.life_runs.specs.of_segment_ring.declared.wire.Fate.TheVariants.{Pass, Lost}
 use Rattle.master_node.specs.Rooms.{FitAgain}
 use Rattle.master_node.proofs.Fits.{again_on, stays_sends}
 use Rattle.master_node.specs.declared.node.MasterNode.{MasterNode}

@@ -1,7 +1,7 @@
 -- What a frame that came back brought.
 use Rattle.std.proofs.Common.{◌≡◌, ℕ, Option, Some, None, List, [], ap, sym, ◌∙◌, subst, append-nil}
 use Rattle.master_side.specs.of_link_mails.Body.{Body}
-use Rattle.served_runs.specs.of_life_runs.Led.{Turn}
+use Rattle.life_runs.specs.Led.{Turn}
 use Rattle.eoe.specs.declared.joining.Unfinished.{Unfinished}
 use Rattle.master_hand.specs.Brings.{Brings, as_list, emergency_in, emergencies_in, emergency_kept}
 use Rattle.master_hand.specs.Joins.{Completes, packet_in, packet_kept, packets_in}

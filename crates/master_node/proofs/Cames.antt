@@ -1,7 +1,7 @@
 -- What comes into hand at a visit is next of the slave's script, or a packet.
 use Rattle.std.proofs.Common.{◌≡◌, ◌⊎◌, inl, inr, ◌<◌, ℕ, zero, suc, Bool, true, false, Option, Some, None, List, [], ◌∷◌, refl, sym, ap, ◌∙◌, subst, arith, length, ◌%◌}
 use Rattle.std.specs.Prelude.{is_some, slice_get, if◌then◌else◌}
-use Rattle.served_runs.specs.of_life_runs.Led.{Comes}
+use Rattle.life_runs.specs.Led.{Comes}
 use Rattle.master_hand.specs.Laying.{Waiting, Scripted, scripted, scripted_behind, asked_next, ready_of, ready_by}
 use Rattle.master_hand.specs.Spoken.{Asked, is_passed}
 use Rattle.master_hand.specs.Talk.{asked_of}
@@ -10,8 +10,8 @@ use Rattle.master_side.specs.Shown.{wish_begun, takes_ready, wished}
 use Rattle.master_side.specs.declared.carried.Wish.{Wish}
 use Rattle.segment_plan.specs.declared.service.Service as Plan
 use Rattle.segment_plan.specs.declared.service.Service.{Service}
-use Rattle.master_duty.specs.of_state_exchange.Stated as Stated
-use Rattle.served_runs.proofs.Quiet.{none_in, passed_in}
+use Rattle.master_duty.specs.of_state_model.Stated as Stated
+use Rattle.life_runs.proofs.Quiet.{none_in, passed_in}
 use Rattle.master_node.specs.Coming.{IsComing, IsLaid, wish_of}
 use Rattle.master_node.specs.declared.coming.Coming.{Coming}
 

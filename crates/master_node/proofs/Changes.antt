@@ -6,7 +6,7 @@ use Rattle.master_duty.specs.declared.stage.Met.{Met}
 use Rattle.master_duty.specs.of_segment_model.Ends.{Outcome}
 use Rattle.master_duty.specs.of_segment_model.Record.{is_for}
 use Rattle.master_duty.specs.of_segment_model.Slaves.{Datagram}
-use Rattle.master_duty.specs.of_task_model.Accounts.{Account, Change, Duty, Progress, access_done, account_back, account_by, account_met}
+use Rattle.master_duty.specs.of_state_model.Accounts.{Account, Change, Duty, Progress, access_done, account_back, account_by, account_met}
 use Rattle.master_hand.specs.Spoken.{Asked}
 use Rattle.master_side.specs.Carried.{in_hand}
 use Rattle.master_side.specs.Shown.{DutyShows, OverShows}

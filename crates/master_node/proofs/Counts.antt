@@ -5,13 +5,13 @@ use Rattle.std.proofs.lemmas.Bool.{ltb-true, ltb-false}
 use Rattle.std.proofs.lemmas.Option.{slice_get_within}
 use Rattle.datagrams.specs.Datagram as Raw
 use Rattle.master_duty.specs.of_exchange_model.Exchange.{Speech}
-use Rattle.served_runs.specs.of_life_runs.of_frame_view.View.{Lens}
-use Rattle.served_runs.specs.of_life_runs.of_frame_view.Seen.{seen}
-use Rattle.served_runs.specs.of_life_runs.of_life_frames.Frames.{Share, FrameFor}
-use Rattle.served_runs.specs.of_life_runs.of_life_frames.Shares.{Lived, came_at, given_where}
+use Rattle.life_runs.specs.of_frame_view.View.{Lens}
+use Rattle.life_runs.specs.of_frame_view.Seen.{seen}
+use Rattle.life_runs.specs.of_frame_view.Frames.{Share, FrameFor}
+use Rattle.life_runs.specs.of_frame_view.Shares.{Lived, came_at, given_where}
 use Rattle.master_tour.specs.of_life_model.Lives.{Spot, Life, Stand, Opening, life_next, life_back, life_lost, opening_back, shows_clear, last_step, is_shown, clears, opens, reopens, reopens_at, reopening, returns_to_init, era_back}
-use Rattle.served_runs.specs.of_life_runs.First.{leads_from, first_leads}
-use Rattle.served_runs.specs.of_life_runs.Led.{Exchanged, Leads, Turn, Comes, IsTurn, AllTurn, IsLed, is_passed, speech_at, life_behind, led_behind, gives_up_at}
+use Rattle.life_runs.specs.First.{leads_from, first_leads}
+use Rattle.life_runs.specs.Led.{Exchanged, Leads, Turn, Comes, IsTurn, AllTurn, IsLed, is_passed, speech_at, life_behind, led_behind, gives_up_at}
 use Rattle.master_side.specs.of_link_mails.Body.{Body}
 use Rattle.master_duty.specs.Reply.{Reply}
 use Rattle.master_hand.specs.Spoken.{Asked, acknowledged, is_followed}
@@ -20,9 +20,9 @@ use Rattle.master_duty.specs.of_segment_model.Slaves.{Datagram, Found}
 use Rattle.segment_plan.specs.declared.plan.Scenario.{Scenario}
 use Rattle.segment_plan.specs.declared.service.Service as Plan
 use Rattle.segment_plan.specs.declared.slave.SlaveSpec.{SlaveSpec}
-use Rattle.served_runs.specs.of_life_runs.of_segment_ring.declared.wire.Fate.{Fate}
-use Rattle.served_runs.specs.of_life_runs.of_segment_ring.declared.wire.Fate.TheVariants.{Pass, Lost}
-use Rattle.master_duty.specs.of_task_model.Accounts.{Duty, Stage, Pick}
+use Rattle.life_runs.specs.of_segment_ring.declared.wire.Fate.{Fate}
+use Rattle.life_runs.specs.of_segment_ring.declared.wire.Fate.TheVariants.{Pass, Lost}
+use Rattle.master_duty.specs.of_state_model.Accounts.{Duty, Stage, Pick}
 use Rattle.master_node.specs.Wants.{gave_of, IsCounted, AllCounted, AllPlaced}
 
 -- one of two
@@ -132,7 +132,7 @@ given_counted recover n m start few e = by (nat_lt n recover) refl
     by false ge = let over = ltb-false n recover ge in omega (arith, over, few, e)
 
 -- no more came into hand than the script has
-pub one_placed : (room : ℕ) (script : List Plan.Service) (n : ℕ) (b : Option (Rattle.master_duty.specs.of_state_exchange.Stated.Service Asked)) (k : ℕ) → Comes room script n b k → n ≤ length script → k ≤ length script
+pub one_placed : (room : ℕ) (script : List Plan.Service) (n : ℕ) (b : Option (Rattle.master_duty.specs.of_state_model.Stated.Service Asked)) (k : ℕ) → Comes room script n b k → n ≤ length script → k ≤ length script
 one_placed room script n _ _ Comes.none few = few
 one_placed room script n _ _ (Comes.mails s q at asked) few = let inside = slice_get_within script n s at in omega (arith, inside)
 one_placed room script n _ _ (Comes.state target at) few = let inside = slice_get_within script n (Plan.Service.State target) at in omega (arith, inside)
@@ -142,7 +142,7 @@ module _ (lens : ℕ → Lens) (recover retry : ℕ) (gives : Bool) (made : ℕ)
   -- the frame has nothing of one that was given up for good
   not_under : (spot : Spot) (stand : Stand) (share : Share) (ds : List Raw.Datagram) → stand ≡ Stand.Gone → FrameFor lens spot stand share ds → share.under ≡ false
   not_under spot _ share ds e (FrameFor.none bare others) = bare
-  not_under spot stand share ds e (FrameFor.one under d one gram) = absurd (subst (λ (s : Stand). Rattle.served_runs.specs.of_life_runs.of_life_frames.Frames.GramFor lens spot s d) e gram)
+  not_under spot stand share ds e (FrameFor.one under d one gram) = absurd (subst (λ (s : Stand). Rattle.life_runs.specs.of_frame_view.Frames.GramFor lens spot s d) e gram)
 
   few_by : (stand : Stand) (n : ℕ) (share : Share) (spot : Spot) (ds : List Raw.Datagram) → FrameFor lens spot stand share ds → share.under ≡ true → IsCounted recover stand n → n ≤ recover
   few_by (Stand.Opens o) n share spot ds has under h = h

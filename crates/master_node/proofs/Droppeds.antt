@@ -4,7 +4,7 @@ use Rattle.std.specs.Prelude.{◌&&◌, ◌||◌, map, if◌then◌else◌}
 use Rattle.std.proofs.lemmas.Bool.{eq-eqb, eqb-true}
 use Rattle.master_tour.specs.Made.{is_in}
 use Rattle.master_tour.specs.Walks.{StepsAt}
-use Rattle.served_runs.specs.Served.{Keyed}
+use Rattle.life_runs.specs.Served.{Keyed}
 use Rattle.master_node.specs.Dropped.{Drops}
 use Rattle.master_node.specs.Passes.{waits_in}
 use Rattle.master_node.specs.Serving.{waits_of}

@@ -5,15 +5,15 @@ use Rattle.mailbox_mail.specs.declared.mail.Mail.{Mail}
 use Rattle.mailbox_master.specs.Any.{in_half_of}
 use Rattle.mailbox_master.specs.Seat.{seat_half}
 use Rattle.mailbox_master.specs.of_link_model.Link.{Halves}
-use Rattle.served_runs.specs.of_life_runs.of_frame_view.View.{Lens}
-use Rattle.served_runs.specs.of_life_runs.of_life_frames.Shares.{AllBoth}
-use Rattle.served_runs.specs.of_life_runs.Led.{Turn, speech_at}
+use Rattle.life_runs.specs.of_frame_view.View.{Lens}
+use Rattle.life_runs.specs.of_frame_view.Shares.{AllBoth}
+use Rattle.life_runs.specs.Led.{Turn, speech_at}
 use Rattle.master_duty.specs.Reply.{Reply}
 use Rattle.master_duty.specs.of_exchange_model.Exchange.{Speech}
 use Rattle.master_duty.specs.of_exchange_model.Rows.{left}
 use Rattle.master_duty.specs.of_segment_model.Seats
 use Rattle.master_duty.specs.of_segment_model.Seats.{next_mail, first_left}
-use Rattle.master_duty.specs.of_task_model.Accounts.{Account}
+use Rattle.master_duty.specs.of_state_model.Accounts.{Account}
 use Rattle.master_hand.specs.Shown.{Shows, SameHand, knows}
 use Rattle.master_hand.specs.Spoken.{Asked}
 use Rattle.master_hand.specs.declared.hand.InHand.{InHand}

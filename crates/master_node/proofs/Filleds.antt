@@ -2,9 +2,9 @@
 use Rattle.std.proofs.Common.{◌≡◌, ◌⊎◌, inl, inr, ◌<◌, ◌≤◌, ◌+◌, ◌%◌, ℕ, zero, suc, Bool, true, false, List, [], ◌∷◌, sym, ap, subst, length, refl}
 use Rattle.std.specs.Prelude.{nat_lt, map, All}
 use Rattle.std.specs.List.{list_any}
-use Rattle.served_runs.specs.of_life_runs.of_frame_view.View.{Lens}
-use Rattle.served_runs.specs.of_life_runs.of_life_frames.Shares.{AllFrom}
-use Rattle.served_runs.specs.of_life_runs.Led.{Leads}
+use Rattle.life_runs.specs.of_frame_view.View.{Lens}
+use Rattle.life_runs.specs.of_frame_view.Shares.{AllFrom}
+use Rattle.life_runs.specs.Led.{Leads}
 use Rattle.master_tour.specs.Goes.{is_live, holds_at, BeginsLive}
 use Rattle.master_tour.specs.Made.{FrameMade, is_in}
 use Rattle.master_tour.specs.Orders.{visits_left, AreOnce, IsNextOf, IsCarried}

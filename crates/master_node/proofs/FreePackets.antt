@@ -7,7 +7,7 @@ use Rattle.master_duty.specs.of_exchange_model.Exchange.{Speech}
 use Rattle.master_duty.specs.of_exchange_model.Rows.{Row}
 use Rattle.master_duty.specs.of_segment_model.Seats as Seats
 use Rattle.master_duty.specs.of_segment_model.Seats.{is_none_left}
-use Rattle.master_duty.specs.of_task_model.Accounts.{Account, is_free}
+use Rattle.master_duty.specs.of_state_model.Accounts.{Account, is_free}
 use Rattle.master_hand.proofs.Hands.{goes_is, sent_free}
 use Rattle.master_hand.proofs.Knowing.{goes_over}
 use Rattle.master_hand.specs.Over.{done_by, is_sent_by, over_by}
@@ -18,7 +18,7 @@ use Rattle.master_hand.specs.contracts.hand.InHandHand.TheImpl as Impl
 use Rattle.master_hand.specs.declared.clients.Which.{Which}
 use Rattle.master_hand.specs.declared.course.Course.{Course}
 use Rattle.master_hand.specs.declared.hand.InHand.{InHand}
-use Rattle.master_hand.specs.of_eoe_model.Client as EoeClient
+use Rattle.master_hand.specs.of_protocol_models.EoeClient as EoeClient
 use Rattle.master_side.specs.Carried.{in_hand}
 use Rattle.master_side.specs.Free.{is_free_side}
 use Rattle.master_side.specs.Shown.{SideShows}

@@ -1,8 +1,8 @@
 -- A SLAVE OF WHICH A SERVICE MIGHT COME INTO HAND: so it stays as long as none did, and its side shows it.
 use Rattle.std.proofs.Common.{◌≡◌, ℕ, Bool, true, false, Option, Some, None, List, [], ◌∷◌, refl, sym, ap, ◌∙◌, subst}
 use Rattle.std.specs.Prelude.{◌&&◌}
-use Rattle.served_runs.specs.of_life_runs.of_frame_view.View.{Lens}
-use Rattle.served_runs.specs.of_life_runs.Led.{speech_at}
+use Rattle.life_runs.specs.of_frame_view.View.{Lens}
+use Rattle.life_runs.specs.Led.{speech_at}
 use Rattle.mailbox_master.specs.of_link_model.Mails.{LinkMail}
 use Rattle.master_duty.specs.Reply.{Reply}
 use Rattle.master_duty.specs.of_exchange_model.Exchange.{Speech}
@@ -11,8 +11,8 @@ use Rattle.master_duty.specs.of_segment_model.Ends as Ends
 use Rattle.master_duty.specs.of_segment_model.Seats
 use Rattle.master_duty.specs.of_segment_model.Seats.{Choice, first_left, is_none_left, next_mail, side_holds, side_next}
 use Rattle.master_duty.specs.declared.duty.Duty.{Duty}
-use Rattle.master_duty.specs.of_task_model.Accounts
-use Rattle.master_duty.specs.of_task_model.Accounts.{Account, Pick, account_begins, is_acknowledged, is_free, mails_begin}
+use Rattle.master_duty.specs.of_state_model.Accounts
+use Rattle.master_duty.specs.of_state_model.Accounts.{Account, Pick, account_begins, is_acknowledged, is_free, mails_begin}
 use Rattle.master_hand.specs.Shown.{knows}
 use Rattle.master_hand.specs.Spoken.{Asked, acknowledged}
 use Rattle.master_hand.specs.declared.hand.InHand.{InHand}

@@ -1,11 +1,11 @@
 -- WHAT IS TOLD TO WHO ASKED of one slave is what its life tells.
 use Rattle.std.proofs.Common.{◌≡◌, ℕ, zero, suc, Bool, true, false, Option, Some, None, List, [], ◌∷◌, ◌++◌, refl, sym, ap, ◌∙◌, subst}
 use Rattle.std.specs.Prelude.{is_some, map, option_map, if◌then◌else◌}
-use Rattle.served_runs.specs.of_life_runs.Led.{Exchanged}
-use Rattle.served_runs.specs.of_life_runs.of_frame_view.Seen.{seen}
-use Rattle.served_runs.specs.of_life_runs.of_frame_view.View.{Lens}
-use Rattle.served_runs.specs.of_life_runs.of_life_frames.Shares.{AllThree}
-use Rattle.served_runs.specs.of_life_runs.of_segment_ring.declared.wire.Fate.TheVariants.{Pass}
+use Rattle.life_runs.specs.Led.{Exchanged}
+use Rattle.life_runs.specs.of_frame_view.Seen.{seen}
+use Rattle.life_runs.specs.of_frame_view.View.{Lens}
+use Rattle.life_runs.specs.of_frame_view.Shares.{AllThree}
+use Rattle.life_runs.specs.of_segment_ring.declared.wire.Fate.TheVariants.{Pass}
 use Rattle.mailbox_mail.specs.declared.mail.Mail.{Mail}
 use Rattle.master_duty.specs.Reply.{Reply}
 use Rattle.master_duty.specs.of_segment_model.Ends as Ends
@@ -28,8 +28,8 @@ use Rattle.master_tour.specs.Walks.{EachPair}
 use Rattle.master_tour.specs.declared.stop.Stand.{Stand}
 use Rattle.master_tour.specs.of_life_model.Lives.{Life}
 use Rattle.master_tour.specs.declared.stop.Stop.{Stop}
-use Rattle.served_runs.specs.Served.{Serves, ServedTurn, served_behind}
-use Rattle.served_runs.specs.Told.{Passed, replies_in}
+use Rattle.life_runs.specs.Served.{Serves, ServedTurn, served_behind}
+use Rattle.life_runs.specs.Told.{Passed, replies_in}
 use Rattle.master_node.specs.Besides.{by_stop, reply_told}
 use Rattle.master_node.specs.Gateways.{done_told, gateway_of, life_told, lives_told, replies_told}
 use Rattle.master_node.specs.Handed.{work_at}

@@ -2,15 +2,15 @@
 use Rattle.std.proofs.Common.{◌≡◌, ◌==◌, ℕ, suc, Bool, true, false, Option, None, Some, List, [], ◌∷◌, ◌++◌, ◌+◌, refl, sym, ap, ◌∙◌, subst, arith, length}
 use Rattle.std.specs.Prelude.{◌&&◌, is_some, nat_lt, map, if◌then◌else◌}
 use Rattle.std.proofs.lemmas.Bool.Decides.{nat_tests}
-use Rattle.served_runs.specs.of_life_runs.of_life_frames.Shares.{given_where}
+use Rattle.life_runs.specs.of_frame_view.Shares.{given_where}
 use Rattle.master_duty.specs.Reply.{Reply}
 use Rattle.master_duty.specs.of_exchange_model.Exchange.{Speech}
 use Rattle.master_duty.specs.of_segment_model.Ends as Ends
 use Rattle.master_duty.specs.of_segment_model.Record.{Kept, News}
 use Rattle.master_duty.specs.of_segment_model.Slaves.{Datagram, Found}
-use Rattle.master_duty.specs.of_state_exchange.Stated.{Service}
-use Rattle.master_duty.specs.of_task_model.Accounts as Accounts
-use Rattle.master_duty.specs.of_task_model.Accounts.{Account, Pick, account_back}
+use Rattle.master_duty.specs.of_state_model.Stated.{Service}
+use Rattle.master_duty.specs.of_state_model.Accounts as Accounts
+use Rattle.master_duty.specs.of_state_model.Accounts.{Account, Pick, account_back}
 use Rattle.master_hand.specs.Spoken.{Asked, acknowledged, is_followed, is_passed}
 use Rattle.master_side.specs.Passing.{news_lost}
 use Rattle.master_side.specs.Shown.{started_by}
@@ -20,9 +20,9 @@ use Rattle.master_tour.specs.Stands.{Counts}
 use Rattle.master_tour.specs.of_life_model.Lives.{Life, Spot, granted, life_back, life_lost, life_next, passes}
 use Rattle.master_tour.specs.of_life_model.Own.{own}
 use Rattle.segment_plan.specs.declared.service.Service as Plan
-use Rattle.served_runs.specs.Served.{Keyed, ServedComes}
-pub use Rattle.served_runs.proofs.Quiet.{comes_own}
-use Rattle.served_runs.specs.Told.{Passed, told_on}
+use Rattle.life_runs.specs.Served.{Keyed, ServedComes}
+pub use Rattle.life_runs.proofs.Quiet.{comes_own}
+use Rattle.life_runs.specs.Told.{Passed, told_on}
 use Rattle.master_node.specs.Handed.{HasBegun, IsDuty, IsHanded, StaysNamed, hand_behind, is_left, newest}
 use Rattle.master_node.specs.Passes.{BeginsFree}
 use Rattle.master_node.specs.declared.post.Work.{Work}

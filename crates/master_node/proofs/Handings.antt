@@ -4,12 +4,12 @@ use Rattle.std.specs.Prelude.{is_some, map, nat_lt, slice_get, All, if◌then◌
 use Rattle.std.proofs.lemmas.List.Elements.{All-head}
 use Rattle.master_duty.specs.Reply.{Reply}
 use Rattle.master_duty.specs.of_segment_model.Ends as Ends
-use Rattle.master_duty.specs.of_state_exchange.Stated.{Service}
+use Rattle.master_duty.specs.of_state_model.Stated.{Service}
 use Rattle.master_hand.specs.Laying.{Waiting, asked_next, ready_by, ready_of}
 use Rattle.master_hand.specs.Spoken.{Asked, is_passed, net, passed}
 use Rattle.master_hand.specs.Talk.{asked_of}
 use Rattle.master_hand.specs.declared.laying.Laid.{Laid}
-use Rattle.master_hand.specs.of_eoe_model.Client as EoeClient
+use Rattle.master_hand.specs.of_protocol_models.EoeClient as EoeClient
 use Rattle.master_side.specs.Free.{begins_by}
 use Rattle.master_side.specs.Passing.{passing_behind}
 use Rattle.master_side.specs.Shown.{wish_begun, wished}
@@ -20,8 +20,8 @@ use Rattle.master_tour.specs.declared.stop.Stand.{Stand}
 use Rattle.master_tour.specs.of_life_model.Lives
 use Rattle.master_tour.specs.of_life_model.Lives.{Life}
 use Rattle.segment_plan.specs.declared.service.Service as Plan
-use Rattle.served_runs.specs.Served.{Keyed, Serves}
-use Rattle.served_runs.specs.Told.{Passed}
+use Rattle.life_runs.specs.Served.{Keyed, Serves}
+use Rattle.life_runs.specs.Told.{Passed}
 use Rattle.master_node.specs.Begins.{is_other}
 use Rattle.master_node.specs.Coming.{IsLaid, wish_of}
 use Rattle.master_node.specs.Handed.{HasBegun, IsOldestWork, LaysWork, hand_behind, work_from}
@@ -34,7 +34,7 @@ use Rattle.master_node.specs.declared.coming.Coming.{Coming}
 use Rattle.master_node.specs.declared.post.Asked as Queue
 use Rattle.master_node.specs.declared.post.Post.{Post}
 use Rattle.master_node.specs.declared.post.Work.{Work}
-use Rattle.served_runs.proofs.Quiet.{none_in, passed_in}
+use Rattle.life_runs.proofs.Quiet.{none_in, passed_in}
 use Rattle.master_node.proofs.Servings.{keyed, none_some}
 
 -- THE OLDEST IS LAID READY under the key of its asker

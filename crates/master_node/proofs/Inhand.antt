@@ -1,8 +1,8 @@
 -- WHAT A POST HAS IN HAND is what its slave's life has: before the first frame, at a visit, and behind a lost frame.
 use Rattle.std.proofs.Common.{◌≡◌, inr, ℕ, Bool, true, false, Option, Some, None, List, [], ◌∷◌, length, refl, sym, ap, ◌∙◌, subst}
 use Rattle.std.specs.Prelude.{◌&&◌, is_some, nat_lt, option_map, if◌then◌else◌}
-use Rattle.served_runs.specs.of_life_runs.of_life_frames.Shares.{given_where}
-use Rattle.served_runs.specs.of_life_runs.of_life_frames.of_exchange_model.Areas.{Areas}
+use Rattle.life_runs.specs.of_frame_view.Shares.{given_where}
+use Rattle.life_runs.specs.of_frame_view.of_exchange_model.Areas.{Areas}
 use Rattle.master_duty.specs.Reply.{Reply}
 use Rattle.master_duty.specs.of_exchange_model.Exchange.{Speech}
 use Rattle.master_duty.specs.of_exchange_model.Rows.{Row, begun, row_told}
@@ -10,8 +10,8 @@ use Rattle.master_duty.specs.of_segment_model.Ends as Ends
 use Rattle.master_duty.specs.of_segment_model.Record.{Kept}
 use Rattle.master_duty.specs.of_segment_model.Seats.{Side, next_mail, side_holds, side_next}
 use Rattle.master_duty.specs.of_segment_model.Slaves.{Datagram, grams}
-use Rattle.master_duty.specs.of_state_exchange.Stated.{Service}
-use Rattle.master_duty.specs.of_task_model.Accounts.{Account, Duty, Pick, account_begins, is_acknowledged, is_free, mails_begin, starts, state_begins}
+use Rattle.master_duty.specs.of_state_model.Stated.{Service}
+use Rattle.master_duty.specs.of_state_model.Accounts.{Account, Duty, Pick, account_begins, is_acknowledged, is_free, mails_begin, starts, state_begins}
 use Rattle.master_hand.specs.Spoken.{Asked, acknowledged, hand_speech, is_followed, is_passed}
 use Rattle.master_side.specs.Passing.{news_lost, passing_behind}
 use Rattle.master_side.specs.of_link_mails.Body.{Body}

@@ -4,10 +4,10 @@ use Rattle.std.specs.Prelude.{◌==◌, ◌&&◌, nat_lt, if◌then◌else◌, m
 use Rattle.std.proofs.lemmas.Bool.Decides.{nat_tests}
 use Rattle.eoe.specs.declared.joining.Unfinished.{Unfinished}
 use Rattle.master_duty.specs.of_exchange_model.Exchange.{Speech}
-use Rattle.served_runs.specs.of_life_runs.of_life_frames.Shares.{AllBoth, AllThree, given_where}
+use Rattle.life_runs.specs.of_frame_view.Shares.{AllBoth, AllThree, given_where}
 use Rattle.master_tour.specs.of_life_model.Lives.{Life, Era, Opening, Spot, Stand, shows_clear, last_step, is_shown, clears, opens, steps_on, opening_back, reopens, reopens_at, reopening, opens_state, returns_to_init, era_back, life_back, life_lost}
-use Rattle.served_runs.specs.of_life_runs.Led.{Turn}
-use Rattle.served_runs.specs.of_life_runs.Spans.{is_leaving}
+use Rattle.life_runs.specs.Led.{Turn}
+use Rattle.life_runs.specs.Spans.{is_leaving}
 use Rattle.master_side.specs.of_link_mails.Body.{Body}
 use Rattle.mailbox_master.specs.of_link_model.Link.{Halves}
 use Rattle.master_duty.specs.Reply.{Reply}
@@ -26,7 +26,7 @@ use Rattle.master_tour.proofs.Openings.{turned_is, lt_self, lt_more}
 use Rattle.master_duty.specs.of_segment_model.Record.{News}
 use Rattle.master_duty.specs.of_segment_model.Slaves as Slaves
 use Rattle.master_duty.specs.of_segment_model.Slaves.{Datagram}
-use Rattle.master_duty.specs.of_task_model.Accounts.{Duty, Stage}
+use Rattle.master_duty.specs.of_state_model.Accounts.{Duty, Stage}
 use Rattle.master_hand.specs.declared.hand.InHand.{InHand}
 use Rattle.master_side.specs.declared.hand.Hand.{Ghosts}
 use Rattle.master_tour.specs.declared.stop.Stop.{Stop}

@@ -1,10 +1,10 @@
 -- What stays of a master.
 use Rattle.std.proofs.Common.{◌≡◌, ℕ, refl, sym, ap, ◌∙◌, subst}
 use Rattle.std.specs.Prelude.{All}
-use Rattle.served_runs.specs.of_life_runs.of_frame_view.View.{Lens}
-use Rattle.served_runs.specs.of_life_runs.of_life_frames.Shares.{Lived}
+use Rattle.life_runs.specs.of_frame_view.View.{Lens}
+use Rattle.life_runs.specs.of_frame_view.Shares.{Lived}
 use Rattle.master_tour.specs.of_life_model.Lives.{Spot}
-use Rattle.served_runs.specs.of_life_runs.Led.{speech_at}
+use Rattle.life_runs.specs.Led.{speech_at}
 use Rattle.mailbox_master.specs.Any.{in_area_len}
 use Rattle.master_duty.specs.Reply.{Reply}
 use Rattle.master_hand.specs.Shown.{Shows, SameHand}

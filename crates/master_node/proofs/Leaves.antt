@@ -1,10 +1,10 @@
 -- What a frame leaves out of its visit.
 use Rattle.std.proofs.Common.{◌≡◌, ◌≤◌, ◌-◌, ℕ, zero, suc, Bool, true, false, Option, None, List, [], ◌∷◌, ◌++◌, refl, sym, ap, ◌∙◌, subst, arith, length, length-append, append-nil}
 use Rattle.std.specs.Prelude.{cond, filter, map, nat_lt, if◌then◌else◌}
-use Rattle.served_runs.specs.of_life_runs.of_life_frames.Shares.{AllFrom, Lived}
+use Rattle.life_runs.specs.of_frame_view.Shares.{AllFrom, Lived}
 use Rattle.master_tour.specs.of_life_model.Lives.{Spot}
-use Rattle.served_runs.specs.of_life_runs.Led.{Leads}
-use Rattle.served_runs.specs.of_life_runs.of_frame_view.View.{Lens}
+use Rattle.life_runs.specs.Led.{Leads}
+use Rattle.life_runs.specs.of_frame_view.View.{Lens}
 use Rattle.mailbox_master.specs.Any.{in_area_len}
 use Rattle.master_duty.specs.Reply.{Reply}
 use Rattle.master_hand.specs.Spoken.{Asked}

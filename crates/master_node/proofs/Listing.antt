@@ -4,13 +4,13 @@ use Rattle.std.specs.Prelude.{All, is_some, map, nat_lt, slice_get, if◌then◌
 use Rattle.std.proofs.lemmas.Bool.{eq-eqb, eqb-true}
 use Rattle.std.proofs.lemmas.List.{take-append-drop}
 use Rattle.std.proofs.lemmas.List.Elements.{All-head, All-tail}
-use Rattle.served_runs.specs.of_life_runs.of_frame_view.View.{Lens}
-use Rattle.served_runs.specs.of_life_runs.of_life_frames.Shares.{AllFrom, AreDistinct}
-use Rattle.served_runs.specs.of_life_runs.Led.{Leads, Turn}
-use Rattle.master_duty.specs.of_state_exchange.Stated.{Service}
+use Rattle.life_runs.specs.of_frame_view.View.{Lens}
+use Rattle.life_runs.specs.of_frame_view.Shares.{AllFrom, AreDistinct}
+use Rattle.life_runs.specs.Led.{Leads, Turn}
+use Rattle.master_duty.specs.of_state_model.Stated.{Service}
 use Rattle.master_hand.specs.Laying.{Waiting, asked_next, ready_by, ready_of, scripted}
 use Rattle.master_hand.specs.Spoken.{Asked, net}
-use Rattle.master_hand.specs.of_eoe_model.Client as EoeClient
+use Rattle.master_hand.specs.of_protocol_models.EoeClient as EoeClient
 use Rattle.master_hand.specs.Talk.{asked_of}
 use Rattle.master_hand.specs.declared.hand.InHand.{InHand}
 use Rattle.master_hand.specs.declared.laying.Laid.{Laid}

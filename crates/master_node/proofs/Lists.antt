@@ -2,7 +2,7 @@
 use Rattle.std.proofs.Common.{◌≡◌, ℕ, zero, suc, ◌<◌, Bool, Some, List, [], ◌∷◌, ◌++◌, refl, sym, ap, ◌∙◌, subst, arith, length, get_or, set}
 use Rattle.std.specs.Prelude.{map, All, IfSome, slice_get}
 use Rattle.std.proofs.lemmas.List.Elements.{All-nil, All-cons, All-head, All-tail}
-use Rattle.served_runs.specs.of_life_runs.of_life_frames.Shares.{AllBoth}
+use Rattle.life_runs.specs.of_frame_view.Shares.{AllBoth}
 use Rattle.master_tour.specs.Goes.{holds_at}
 use Rattle.master_tour.specs.Walks.{EachPair, StepsAt}
 use Rattle.master_tour.proofs.Walks.{each_same}

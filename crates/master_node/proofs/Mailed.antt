@@ -2,12 +2,12 @@
 use Rattle.std.proofs.Common.{◌≡◌, ℕ, Bool, true, false, Option, None, Some, List, [], ◌∷◌, refl, sym, ap, ◌∙◌, subst}
 use Rattle.std.specs.Prelude.{◌&&◌, is_some, drop, All, slice_get, if◌then◌else◌}
 use Rattle.std.proofs.lemmas.List.Elements.{All-head}
-use Rattle.served_runs.specs.of_life_runs.Led.{Comes}
+use Rattle.life_runs.specs.Led.{Comes}
 use Rattle.master_duty.specs.Reply.{Reply}
 use Rattle.master_duty.specs.of_exchange_model.Exchange.{Speech}
 use Rattle.master_duty.specs.of_segment_model.Ends as Ends
-use Rattle.master_duty.specs.of_state_exchange.Stated.{Service}
-use Rattle.master_duty.specs.of_task_model.Accounts.{Pick, account_next}
+use Rattle.master_duty.specs.of_state_model.Stated.{Service}
+use Rattle.master_duty.specs.of_state_model.Accounts.{Pick, account_next}
 use Rattle.master_hand.specs.Laying.{Waiting, Scripted, ready_of, scripted, scripted_behind}
 use Rattle.master_hand.specs.Spoken.{Asked, acknowledged, is_followed, is_passed, passed}
 use Rattle.master_side.specs.Free.{begins_by}
@@ -24,8 +24,8 @@ use Rattle.master_tour.specs.of_life_model.Lives
 use Rattle.master_tour.specs.of_life_model.Lives.{Life, granted, life_next, passing_begins}
 use Rattle.master_tour.proofs.Passings.{next_open}
 use Rattle.segment_plan.specs.declared.service.Service as Plan
-use Rattle.served_runs.specs.Served.{Keyed, ServedComes}
-use Rattle.served_runs.specs.Told.{Passed}
+use Rattle.life_runs.specs.Served.{Keyed, ServedComes}
+use Rattle.life_runs.specs.Told.{Passed}
 use Rattle.master_node.specs.Coming.{IsLaid, wish_of}
 use Rattle.master_node.specs.Passes.{BeginsFree, IsNextState, LaysMail, MailWaits, waits_behind}
 use Rattle.master_node.specs.Serving.{MayPass}

@@ -8,7 +8,7 @@ use Rattle.master_hand.specs.declared.laying.Laid.{Laid}
 use Rattle.master_side.specs.of_mailbox_mail.declared.mail.Mail.{Mail}
 use Rattle.master_tour.specs.Walks.{StepsAt}
 use Rattle.segment_plan.specs.declared.service.Service.{Service}
-use Rattle.served_runs.specs.Served.{Keyed}
+use Rattle.life_runs.specs.Served.{Keyed}
 use Rattle.master_node.specs.Coming.{IsComing}
 use Rattle.master_node.specs.Passes.{IsNextState, IsReady, MailWaits, ScriptLast, waits_behind, waits_in}
 use Rattle.master_node.specs.Serving.{MayPass, waits_of}

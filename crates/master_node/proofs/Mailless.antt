@@ -2,8 +2,8 @@
 use Rattle.std.proofs.Common.{◌≡◌, ◌<◌, ◌≤◌, inl, inr, ℕ, suc, Option, Some, None, List, [], ◌∷◌, length, get_or, map, refl, ap, sym, ◌∙◌, subst, arith}
 use Rattle.std.specs.Prelude.{All, IfSome, slice_get}
 use Rattle.std.proofs.lemmas.List.Elements.{All-nil, All-cons, All-head, All-tail}
-use Rattle.served_runs.specs.of_life_runs.of_frame_view.View.{Lens}
-use Rattle.served_runs.specs.of_life_runs.of_life_frames.Shares.{AllThree}
+use Rattle.life_runs.specs.of_frame_view.View.{Lens}
+use Rattle.life_runs.specs.of_frame_view.Shares.{AllThree}
 use Rattle.master_hand.specs.Shown.{awaits_reply}
 use Rattle.master_hand.specs.declared.hand.InHand.{InHand}
 use Rattle.master_side.specs.Passing.{PassingShows, passing_seen}
@@ -13,7 +13,7 @@ use Rattle.master_tour.specs.Passing.{StandPassing}
 use Rattle.master_tour.specs.Stands.{StandShows}
 use Rattle.master_tour.specs.declared.stop.Stand.{Stand}
 use Rattle.master_tour.specs.declared.stop.Stop.{Stop}
-use Rattle.served_runs.specs.Served.{Serves}
+use Rattle.life_runs.specs.Served.{Serves}
 use Rattle.master_node.specs.Serving.{IsServed, run_lead}
 use Rattle.master_node.specs.Shows.{WaitsNone, side_shows}
 use Rattle.master_node.specs.Wants.{AllPlaced, IsMaillessBy, IsQuietBy, IsServedOut}

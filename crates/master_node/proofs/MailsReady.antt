@@ -2,8 +2,8 @@
 use Rattle.std.proofs.Common.{◌≡◌, ◌+◌, ℕ, zero, suc, true, Option, None, Some, List, [], ◌∷◌, refl, sym, ap, subst, arith}
 use Rattle.std.specs.Prelude.{All, IfSome, slice_get}
 use Rattle.std.proofs.lemmas.List.Elements.{All-head}
-use Rattle.served_runs.specs.of_life_runs.of_frame_view.View.{Lens}
-use Rattle.master_duty.specs.of_state_exchange.Stated.{Service}
+use Rattle.life_runs.specs.of_frame_view.View.{Lens}
+use Rattle.master_duty.specs.of_state_model.Stated.{Service}
 use Rattle.master_hand.specs.Laying.{Waiting}
 use Rattle.master_hand.specs.Spoken.{Asked}
 use Rattle.master_hand.specs.declared.hand.InHand.{InHand}
@@ -11,7 +11,7 @@ use Rattle.master_side.specs.declared.hand.Hand.{Ghosts}
 use Rattle.master_tour.specs.Made.{is_in}
 use Rattle.master_tour.specs.Walks.{StepsAt}
 use Rattle.master_tour.specs.declared.stop.Stop.{Stop}
-use Rattle.served_runs.specs.Served.{Keyed, Serves}
+use Rattle.life_runs.specs.Served.{Keyed, Serves}
 use Rattle.master_node.specs.Passes.{IsMailReady, IsServing, LaysMail, MailWaits, ThreeFrom, waits_in}
 use Rattle.master_node.specs.Serving.{MayPass}
 use Rattle.master_node.specs.declared.coming.Coming.{Coming}

@@ -2,12 +2,12 @@
 use Rattle.std.proofs.Common.{◌≡◌, ◌≤◌, ◌<◌, ◌-◌, ◌%◌, ◌+◌, ℕ, zero, suc, List, [], ◌∷◌, ◌++◌, refl, sym, ap, ◌∙◌, subst, arith, length, get_or, set}
 use Rattle.std.specs.Prelude.{All, map}
 use Rattle.std.proofs.lemmas.List.Elements.{All-head, All-tail}
-use Rattle.served_runs.specs.of_life_runs.Led.{Leads}
-use Rattle.served_runs.specs.of_life_runs.of_life_frames.Shares.{AllBoth, AllThree}
+use Rattle.life_runs.specs.Led.{Leads}
+use Rattle.life_runs.specs.of_frame_view.Shares.{AllBoth, AllThree}
 use Rattle.master_side.specs.of_mailbox_mail.declared.mail.Mail.{Mail}
 use Rattle.master_tour.specs.Walks.{EachPair, StepsAt}
 use Rattle.master_tour.proofs.Walks.{each_same, steps_set}
-use Rattle.served_runs.specs.Served.{Keyed, Serves, all_serve, asked_at}
+use Rattle.life_runs.specs.Served.{Keyed, Serves, all_serve, asked_at}
 use Rattle.master_node.specs.Appends.{AppendsMail}
 use Rattle.master_node.specs.Numbered.{IsNumbered, StaysNumbered}
 use Rattle.master_node.specs.Shows.{WaitsNone}

@@ -1,15 +1,15 @@
 -- The slaves of a frame that is under way, of a run and of a serving.
 use Rattle.std.proofs.Common.{ℕ, List, [], ◌∷◌, map, sym, ap, ◌∙◌, subst}
-use Rattle.served_runs.specs.of_life_runs.of_frame_view.View.{Lens}
-use Rattle.served_runs.specs.of_life_runs.of_life_frames.Shares.{AllBoth, AllThree}
-use Rattle.served_runs.specs.of_life_runs.Led.{Turn}
+use Rattle.life_runs.specs.of_frame_view.View.{Lens}
+use Rattle.life_runs.specs.of_frame_view.Shares.{AllBoth, AllThree}
+use Rattle.life_runs.specs.Led.{Turn}
 use Rattle.master_hand.specs.Shown.{awaits_reply}
 use Rattle.master_hand.specs.declared.hand.InHand.{InHand}
 use Rattle.master_side.specs.Passing.{passing_seen}
 use Rattle.master_side.specs.declared.hand.Hand.{Ghosts}
 use Rattle.master_tour.specs.Passing.{StandPassing}
 use Rattle.master_tour.specs.declared.stop.Stop.{Stop}
-use Rattle.served_runs.specs.Served.{ServedTurn}
+use Rattle.life_runs.specs.Served.{ServedTurn}
 use Rattle.master_node.specs.Serving.{IsServedUnder, ServedUnder, run_turn}
 use Rattle.master_node.specs.Shows.{IsOnFrame, IsUnder, IsUnderWay, MasterUnder}
 use Rattle.master_node.specs.declared.node.MasterNode.{MasterNode}

@@ -6,10 +6,10 @@ use Rattle.std.proofs.lemmas.Bool.{ltb-true, ltb-false, le-leb, lt-leb}
 use Rattle.std.proofs.lemmas.List.Elements.{All-nil, All-cons, All-head, All-tail}
 use Rattle.master_duty.specs.of_exchange_model.Exchange.{Speech}
 use Rattle.master_duty.specs.of_exchange_model.Rows.{Row}
-use Rattle.served_runs.specs.of_life_runs.of_frame_view.View.{Lens}
-use Rattle.served_runs.specs.of_life_runs.of_life_frames.Shares.{AllBoth}
+use Rattle.life_runs.specs.of_frame_view.View.{Lens}
+use Rattle.life_runs.specs.of_frame_view.Shares.{AllBoth}
 use Rattle.master_tour.specs.of_life_model.Lives
-use Rattle.served_runs.specs.of_life_runs.Led.{Leads, speech_at}
+use Rattle.life_runs.specs.Led.{Leads, speech_at}
 use Rattle.master_side.specs.of_link_mails.Body.{link_mail}
 use Rattle.master_duty.specs.declared.duty.Duty.{Duty}
 use Rattle.master_hand.specs.Shown.{Shows}
@@ -22,8 +22,8 @@ use Rattle.master_tour.specs.declared.stop.Stand.{Stand}
 use Rattle.master_tour.specs.declared.stop.Stop.{Stop}
 use Rattle.master_duty.specs.of_segment_model.Laws.{NothingInHand}
 use Rattle.master_duty.specs.of_segment_model.Seats
-use Rattle.master_duty.specs.of_task_model.Accounts
-use Rattle.master_duty.specs.of_task_model.Accounts.{is_free}
+use Rattle.master_duty.specs.of_state_model.Accounts
+use Rattle.master_duty.specs.of_state_model.Accounts.{is_free}
 use Rattle.master_tour.specs.Stands.{StandShows}
 use Rattle.master_node.specs.Told.{IsTold}
 use Rattle.master_node.specs.Shows.{IsLead, IsLived, lived_of, side_shows}

@@ -2,11 +2,11 @@
 use Rattle.std.proofs.Common.{◌≡◌, ◌==◌, ℕ, Bool, true, false, not, Option, Some, None, List, [], ◌∷◌, refl, sym, ap, ◌∙◌, subst}
 use Rattle.std.specs.Prelude.{◌&&◌, ◌||◌, cond, if◌then◌else◌, is_some, map}
 use Rattle.std.proofs.lemmas.Bool.{eq-eqb}
-use Rattle.life_measure.specs.Visits.{Visit, mails_visit}
-use Rattle.served_runs.specs.of_life_runs.of_frame_view.View.{Lens, link_counter, register_counter}
-use Rattle.served_runs.specs.of_life_runs.of_frame_view.Seen.{seen}
-use Rattle.served_runs.specs.of_life_runs.of_life_frames.Shares.{AllBoth, AllThree}
-use Rattle.served_runs.specs.of_life_runs.Led.{Turn, speech_at}
+use Rattle.life_model.specs.Visits.{Visit, mails_visit}
+use Rattle.life_runs.specs.of_frame_view.View.{Lens, link_counter, register_counter}
+use Rattle.life_runs.specs.of_frame_view.Seen.{seen}
+use Rattle.life_runs.specs.of_frame_view.Shares.{AllBoth, AllThree}
+use Rattle.life_runs.specs.Led.{Turn, speech_at}
 use Rattle.mailbox_master.specs.Any.{in_half_of}
 use Rattle.mailbox_master.specs.of_link_model.Frames.{Ask, in_ask}
 use Rattle.mailbox_master.specs.of_link_model.Link.{Halves}
@@ -17,7 +17,7 @@ use Rattle.master_duty.specs.of_segment_model.Ends as Ends
 use Rattle.master_duty.specs.of_segment_model.Record.{is_for}
 use Rattle.master_duty.specs.of_segment_model.Returned.{Returns}
 use Rattle.master_duty.specs.of_segment_model.Slaves.{Access, Address, Datagram, Found}
-use Rattle.master_duty.specs.of_task_model.Accounts.{Account, Duty, Stage, account_back, account_by, account_met, access_done, duty_access}
+use Rattle.master_duty.specs.of_state_model.Accounts.{Account, Duty, Stage, account_back, account_by, account_met, access_done, duty_access}
 use Rattle.master_hand.specs.Shown.{knows}
 use Rattle.master_hand.specs.Spoken.{Asked}
 use Rattle.master_hand.specs.declared.hand.InHand.{InHand}

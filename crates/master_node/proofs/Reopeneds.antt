@@ -6,7 +6,7 @@ use Rattle.master_duty.specs.Reply.{Reply}
 use Rattle.master_duty.specs.of_exchange_model.Exchange.{Speech}
 use Rattle.master_duty.specs.of_segment_model.Record.{News}
 use Rattle.master_duty.specs.of_segment_model.Slaves.{Datagram, Found}
-use Rattle.master_duty.specs.of_task_model.Accounts.{Duty, Stage}
+use Rattle.master_duty.specs.of_state_model.Accounts.{Duty, Stage}
 use Rattle.master_hand.specs.Spoken.{Asked, acknowledged, is_followed, is_passed}
 use Rattle.master_side.specs.of_link_mails.Body.{Body}
 use Rattle.master_tour.specs.Stands.{is_open, is_opening, turned, turned_by}

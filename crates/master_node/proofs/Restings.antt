@@ -3,9 +3,9 @@ use Rattle.std.proofs.Common.{◌≡◌, inl, inr, ℕ, zero, suc, ◌+◌, true
 use Rattle.std.specs.Prelude.{All, IfSome, slice_get, option_map, is_some, map, ◌⊎◌, ◌&&◌, ◌||◌}
 use Rattle.std.proofs.lemmas.List.Elements.{All-head, All-tail}
 use Rattle.mailbox_mail.specs.declared.mail.Mail.{Mail}
-use Rattle.served_runs.specs.of_life_runs.of_frame_view.View.{Lens}
-use Rattle.served_runs.specs.of_life_runs.of_life_frames.Shares.{AllBoth, AllThree}
-use Rattle.served_runs.specs.of_life_runs.Led.{Leads, speech_at}
+use Rattle.life_runs.specs.of_frame_view.View.{Lens}
+use Rattle.life_runs.specs.of_frame_view.Shares.{AllBoth, AllThree}
+use Rattle.life_runs.specs.Led.{Leads, speech_at}
 use Rattle.mailbox_master.specs.of_link_model.Link.{Halves}
 use Rattle.master_duty.specs.Reply.{Reply}
 use Rattle.master_hand.specs.Shown.{awaits_reply}
@@ -24,7 +24,7 @@ use Rattle.master_tour.specs.declared.stop.Stand.{Stand}
 use Rattle.master_tour.specs.declared.stop.Stop.{Stop}
 use Rattle.master_tour.specs.of_life_model.Lives
 use Rattle.master_tour.specs.of_life_model.Lives.{Life, Spot}
-use Rattle.served_runs.specs.Served.{Serves}
+use Rattle.life_runs.specs.Served.{Serves}
 use Rattle.master_node.specs.Eager.{recall_of}
 use Rattle.master_node.specs.Resting.{AllRest, IsResting, Rests, StandRests, StopRests}
 use Rattle.master_node.specs.ServedEager.{AllServedRest, AllServedStill, ServedResting}

@@ -3,7 +3,7 @@ use Rattle.std.proofs.Common.{◌≡◌, ◌⊎◌, inl, inr, ◌<◌, ◌≤◌
 use Rattle.std.specs.Prelude.{nat_lt}
 use Rattle.std.specs.List.{list_any}
 use Rattle.std.proofs.lemmas.Bool.{lt-ltb, le-ltb}
-use Rattle.served_runs.specs.of_life_runs.Led.{Leads}
+use Rattle.life_runs.specs.Led.{Leads}
 use Rattle.master_tour.specs.Goes.{is_live, holds_at, BeginsLive, Passes}
 use Rattle.master_tour.specs.Made.{is_in}
 use Rattle.master_tour.specs.Orders.{visits_left, AreOnce, IsNextOf, IsCarried}

@@ -4,16 +4,16 @@ use Rattle.std.specs.Prelude.{IfSome, IfOk, Result, Ok, Err, slice_get, is_some,
 use Rattle.std.proofs.lemmas.List.{append-nil}
 use Rattle.master_duty.specs.of_exchange_model.Exchange.{Speech}
 use Rattle.master_duty.specs.of_exchange_model.Rows.{Row}
-use Rattle.served_runs.specs.of_life_runs.of_frame_view.View.{Lens}
-use Rattle.served_runs.specs.of_life_runs.of_life_frames.Shares.{AllBoth, Lived}
+use Rattle.life_runs.specs.of_frame_view.View.{Lens}
+use Rattle.life_runs.specs.of_frame_view.Shares.{AllBoth, Lived}
 use Rattle.master_tour.specs.of_life_model.Lives
-use Rattle.served_runs.specs.of_life_runs.Led.{Leads}
+use Rattle.life_runs.specs.Led.{Leads}
 use Rattle.master_side.specs.of_link_mails.Body.{Body}
 use Rattle.mailbox_mail.specs.declared.outcome.ReplyKind.{ReplyKind}
 use Rattle.master_duty.specs.Reply.{Reply}
 use Rattle.master_duty.specs.declared.duty.Duty.{Duty}
-use Rattle.master_hand.specs.of_eoe_model.Client as EoeClient
-use Rattle.master_hand.specs.of_foe_model.Meaning as FoeMeaning
+use Rattle.master_hand.specs.of_protocol_models.EoeClient as EoeClient
+use Rattle.master_hand.specs.of_protocol_models.FoeMeaning as FoeMeaning
 use Rattle.master_hand.specs.Grips.{HasIt}
 use Rattle.master_hand.specs.Passed.{at_end, passed_awaits}
 use Rattle.master_hand.specs.declared.passed.PassedMail.{PassedMail}
@@ -29,7 +29,7 @@ use Rattle.master_side.specs.declared.hand.Hand.{Ghosts}
 use Rattle.master_tour.specs.Stands.{StandShows}
 use Rattle.master_tour.specs.declared.stop.Stand.{Stand}
 use Rattle.master_tour.specs.declared.stop.Stop.{Stop}
-use Rattle.master_duty.specs.of_task_model.Accounts
+use Rattle.master_duty.specs.of_state_model.Accounts
 use Rattle.master_node.specs.Shows.{IsLived, side_shows}
 use Rattle.master_node.specs.Told.{IsTold, Tells, answer_at, value_by, value_in}
 use Rattle.master_node.specs.declared.post.Post.{Post}

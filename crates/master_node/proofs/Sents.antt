@@ -5,14 +5,14 @@ use Rattle.std.proofs.lemmas.Bool.{ne_eqb}
 use Rattle.std.specs.List.{list_any}
 use Rattle.datagrams.specs.Datagram as Raw
 use Rattle.datagrams.specs.Frame.{IsFrame, MoreButLast, chained}
-use Rattle.served_runs.specs.of_life_runs.of_frame_view.View.{Lens, datagram_seen}
-use Rattle.served_runs.specs.of_life_runs.of_frame_view.Seen.{seen, datagrams_seen}
-use Rattle.served_runs.proofs.of_life_runs.of_frame_view.Octets.{seen_is, seen_chained}
-use Rattle.served_runs.specs.of_life_runs.of_life_frames.Frames.{AreApart}
-use Rattle.served_runs.specs.of_life_runs.of_life_frames.Shares.{Lived, AllFrom, AllBoth, AllThree, IsElsewhere, AreDistinct}
+use Rattle.life_runs.specs.of_frame_view.View.{Lens, datagram_seen}
+use Rattle.life_runs.specs.of_frame_view.Seen.{seen, datagrams_seen}
+use Rattle.life_runs.proofs.of_frame_view.Octets.{seen_is, seen_chained}
+use Rattle.life_runs.specs.of_frame_view.Frames.{AreApart}
+use Rattle.life_runs.specs.of_frame_view.Shares.{Lived, AllFrom, AllBoth, AllThree, IsElsewhere, AreDistinct}
 use Rattle.master_tour.specs.of_life_model.Lives
 use Rattle.master_tour.specs.of_life_model.Lives.{Spot}
-use Rattle.served_runs.specs.of_life_runs.Led.{Leads, Turn, Comes, Took, IsTurn, AllTurn, speech_at}
+use Rattle.life_runs.specs.Led.{Leads, Turn, Comes, Took, IsTurn, AllTurn, speech_at}
 use Rattle.master_duty.specs.Reply.{Reply}
 use Rattle.master_hand.specs.Spoken.{Asked, acknowledged, is_followed, is_passed}
 use Rattle.master_hand.specs.declared.hand.InHand.{InHand}
@@ -20,21 +20,20 @@ use Rattle.master_side.specs.Shown.{started_by}
 use Rattle.master_side.specs.declared.hand.Hand.{Ghosts}
 use Rattle.master_tour.specs.Goes.{is_live, holds_at, BeginsLive}
 use Rattle.master_tour.specs.Made.{StopLives, StopSent, is_in}
-use Rattle.master_tour.specs.Stands.{StandShows, StandUnder}
+use Rattle.master_tour.specs.Stands.{StandShows, StandUnder, is_opening}
 use Rattle.master_tour.specs.Walks.{EachPair}
 use Rattle.master_tour.specs.declared.stop.Stand.{Stand}
 use Rattle.master_tour.specs.declared.stop.Stop.{Stop}
 use Rattle.master_tour.proofs.Unpassed.{unpassed_next}
 use Rattle.mailbox_master.specs.Any.{in_area_len}
-use Rattle.master_duty.specs.of_state_exchange.Stated.{Service}
-use Rattle.master_duty.specs.of_task_model.Accounts.{Account}
+use Rattle.master_duty.specs.of_state_model.Stated.{Service}
+use Rattle.master_duty.specs.of_state_model.Accounts.{Account}
 use Rattle.master_node.specs.Rooms.{FitAgain}
 use Rattle.master_node.specs.Begins.{begun_for, begun_of}
 use Rattle.master_node.specs.Filling.{IsAmong}
 use Rattle.master_node.specs.declared.node.MasterNode.{MasterNode}
 use Rattle.master_node.specs.Shows.{MasterShows, WaitsNone, is_led, lived_of, turned_of, is_live_lead, is_opening_lead, is_live_turn, is_opening_turn, is_carried, side_shows, HoldsFirst, ComeAgain, GoesOn, GoesUnder, IsLived, IsLead, IsUnder}
-use Rattle.master_tour.specs.Stands.{is_opening}
-use Rattle.served_runs.proofs.Quiet.{comes_own}
+use Rattle.life_runs.proofs.Quiet.{comes_own}
 use Rattle.master_node.proofs.Lists.{both_holds, both_length}
 use Rattle.master_node.proofs.Mailed.{next_stands}
 

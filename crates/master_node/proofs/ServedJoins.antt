@@ -2,11 +2,11 @@
 use Rattle.std.proofs.Common.{◌≡◌, ℕ, zero, suc, Bool, List, [], ◌∷◌, refl, sym, ap, ◌∙◌}
 use Rattle.std.specs.Prelude.{map, ◌&&◌, Option, None}
 use Rattle.eoe.specs.declared.joining.Unfinished.{Unfinished}
-use Rattle.served_runs.specs.of_life_runs.of_frame_view.Seen.{seen}
-use Rattle.served_runs.specs.of_life_runs.of_frame_view.View.{Lens}
-use Rattle.served_runs.specs.of_life_runs.of_life_frames.Shares.{AllBoth, AllThree, came_at, given_where}
-use Rattle.served_runs.specs.of_life_runs.of_segment_ring.declared.wire.Fate.TheVariants.{Pass, Lost}
-use Rattle.served_runs.specs.of_life_runs.Led.{Exchanged, Turn, speech_at}
+use Rattle.life_runs.specs.of_frame_view.Seen.{seen}
+use Rattle.life_runs.specs.of_frame_view.View.{Lens}
+use Rattle.life_runs.specs.of_frame_view.Shares.{AllBoth, AllThree, came_at, given_where}
+use Rattle.life_runs.specs.of_segment_ring.declared.wire.Fate.TheVariants.{Pass, Lost}
+use Rattle.life_runs.specs.Led.{Exchanged, Turn, speech_at}
 use Rattle.master_hand.specs.Joins.{unfinished_behind}
 use Rattle.master_hand.specs.Spoken.{acknowledged, is_followed, is_passed}
 use Rattle.master_hand.specs.declared.hand.InHand.{InHand}
@@ -17,7 +17,7 @@ use Rattle.master_tour.specs.Goes.{holds_at}
 use Rattle.master_tour.specs.Joins.{join_at}
 use Rattle.master_tour.specs.declared.stop.Stop.{Stop}
 use Rattle.master_tour.specs.of_life_model.Lives.{Stand, life_back, life_lost}
-use Rattle.served_runs.specs.Served.{ServedTurn, served_behind, served_life}
+use Rattle.life_runs.specs.Served.{ServedTurn, served_behind, served_life}
 use Rattle.master_node.specs.Joined.{stand_under, unfinished_after}
 use Rattle.master_node.specs.Serving.{IsServedUnder, run_turn}
 use Rattle.master_node.specs.Shows.{IsOnFrame}

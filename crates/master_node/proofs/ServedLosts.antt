@@ -2,19 +2,19 @@
 use Rattle.std.proofs.Common.{◌≡◌, ◌≤◌, ◌<◌, ℕ, zero, suc, Bool, true, false, List, [], ◌∷◌, refl, sym, ap, ◌∙◌, subst, arith, length}
 use Rattle.std.specs.Prelude.{◌&&◌, not, map, All, nat_le, if◌then◌else◌}
 use Rattle.std.proofs.lemmas.List.Elements.{All-nil}
-use Rattle.counters_kept.specs.Lives.{LifeKept}
-use Rattle.counters_kept.proofs.Lives.{given_life, lost_life}
-use Rattle.counters_kept.specs.of_news_kept.Counts.{counts_on}
-use Rattle.served_runs.specs.of_life_runs.Led.{Exchanged, Leads, led_behind, speech_at}
-use Rattle.served_runs.specs.of_life_runs.of_frame_view.View.{Lens}
-use Rattle.served_runs.specs.of_life_runs.of_frame_view.Seen.{seen}
-use Rattle.served_runs.specs.of_life_runs.of_life_frames.Shares.{Lived, AllThree, given_where, lived_lost}
-use Rattle.served_runs.specs.of_life_runs.of_segment_ring.declared.wire.Fate.{Fate}
-use Rattle.served_runs.specs.of_life_runs.of_segment_ring.declared.wire.Fate.TheVariants.{Lost}
+use Rattle.life_runs.specs.Lives.{LifeKept}
+use Rattle.life_runs.proofs.Lives.{given_life, lost_life}
+use Rattle.life_runs.specs.of_master_side.Counts.{counts_on}
+use Rattle.life_runs.specs.Led.{Exchanged, Leads, led_behind, speech_at}
+use Rattle.life_runs.specs.of_frame_view.View.{Lens}
+use Rattle.life_runs.specs.of_frame_view.Seen.{seen}
+use Rattle.life_runs.specs.of_frame_view.Shares.{Lived, AllThree, given_where, lived_lost}
+use Rattle.life_runs.specs.of_segment_ring.declared.wire.Fate.{Fate}
+use Rattle.life_runs.specs.of_segment_ring.declared.wire.Fate.TheVariants.{Lost}
 use Rattle.master_duty.specs.Reply.{Reply}
 use Rattle.master_duty.specs.of_segment_model.Record.{Kept, News}
 use Rattle.master_duty.specs.of_segment_model.Slaves.{Datagram}
-use Rattle.master_duty.specs.of_task_model.Accounts.{duty_access}
+use Rattle.master_duty.specs.of_state_model.Accounts.{duty_access}
 use Rattle.master_hand.specs.Laying.{scripted}
 use Rattle.master_hand.specs.Shown.{awaits_reply, knows}
 use Rattle.master_hand.specs.Spoken.{Asked, acknowledged, is_followed, is_passed}
@@ -32,7 +32,7 @@ use Rattle.master_tour.specs.declared.stop.Stop.{Stop}
 use Rattle.master_tour.specs.of_life_model.Lives
 use Rattle.master_tour.specs.of_life_model.Lives.{Life, Spot, life_lost}
 use Rattle.master_tour.proofs.Backs.{seen_aims}
-use Rattle.served_runs.specs.Served.{Keyed, ServedTurn, served_behind}
+use Rattle.life_runs.specs.Served.{Keyed, ServedTurn, served_behind}
 use Rattle.master_node.specs.Handed.{work_at}
 use Rattle.master_node.specs.Inhand.{HasInHand}
 use Rattle.master_node.specs.Passes.{waits_in}

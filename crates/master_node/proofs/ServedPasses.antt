@@ -1,11 +1,11 @@
 -- How far a mail that is passed on has come behind a frame that came back: one that came no step on is still in hand.
 use Rattle.std.proofs.Common.{◌≡◌, ℕ, Bool, Option, List, [], ◌∷◌, refl, sym, ap, ◌∙◌, subst}
 use Rattle.std.specs.Prelude.{is_some, map}
-use Rattle.served_runs.specs.of_life_runs.Led.{Exchanged, speech_at}
-use Rattle.served_runs.specs.of_life_runs.of_frame_view.Seen.{seen}
-use Rattle.served_runs.specs.of_life_runs.of_frame_view.View.{Lens}
-use Rattle.served_runs.specs.of_life_runs.of_life_frames.Shares.{AllBoth, AllThree, came_at}
-use Rattle.served_runs.specs.of_life_runs.of_segment_ring.declared.wire.Fate.TheVariants.{Pass}
+use Rattle.life_runs.specs.Led.{Exchanged, speech_at}
+use Rattle.life_runs.specs.of_frame_view.Seen.{seen}
+use Rattle.life_runs.specs.of_frame_view.View.{Lens}
+use Rattle.life_runs.specs.of_frame_view.Shares.{AllBoth, AllThree, came_at}
+use Rattle.life_runs.specs.of_segment_ring.declared.wire.Fate.TheVariants.{Pass}
 use Rattle.master_duty.specs.Reply.{Reply}
 use Rattle.master_duty.specs.of_segment_model.Ends as Ends
 use Rattle.master_hand.specs.Shown.{awaits_reply}
@@ -20,7 +20,7 @@ use Rattle.master_tour.specs.declared.stop.Stand.{Stand}
 use Rattle.master_tour.specs.declared.stop.Stop.{Stop}
 use Rattle.master_tour.specs.of_life_model.Lives
 use Rattle.master_tour.specs.of_life_model.Lives.{Life, Spot}
-use Rattle.served_runs.specs.Served.{ServedTurn, served_behind}
+use Rattle.life_runs.specs.Served.{ServedTurn, served_behind}
 use Rattle.master_node.specs.Serving.{IsServed, run_turn}
 use Rattle.master_node.specs.Shows.{IsOnFrame, side_shows}
 use Rattle.master_node.specs.declared.post.Post.{Post}

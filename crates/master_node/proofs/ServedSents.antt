@@ -3,15 +3,15 @@ use Rattle.std.proofs.Common.{◌≡◌, ◌%◌, ℕ, suc, Bool, Option, None, 
 use Rattle.std.specs.Prelude.{is_some, map, All}
 use Rattle.std.proofs.lemmas.List.Elements.{All-tail}
 use Rattle.datagrams.specs.Datagram as Raw
-use Rattle.counters_kept.specs.Lives.{LifeKept}
-use Rattle.counters_kept.proofs.Lives.{next_life}
-use Rattle.served_runs.specs.of_life_runs.of_frame_view.View.{Lens}
-use Rattle.served_runs.specs.of_life_runs.of_frame_view.Seen.{seen, datagrams_seen}
-use Rattle.served_runs.specs.of_life_runs.of_life_frames.Shares.{AllFrom, Lived, AllBoth, AllThree, AreDistinct}
-use Rattle.served_runs.specs.of_life_runs.Led.{Turn, speech_at}
+use Rattle.life_runs.specs.Lives.{LifeKept}
+use Rattle.life_runs.proofs.Lives.{next_life}
+use Rattle.life_runs.specs.of_frame_view.View.{Lens}
+use Rattle.life_runs.specs.of_frame_view.Seen.{seen, datagrams_seen}
+use Rattle.life_runs.specs.of_frame_view.Shares.{AllFrom, Lived, AllBoth, AllThree, AreDistinct}
+use Rattle.life_runs.specs.Led.{Turn, speech_at}
 use Rattle.mailbox_master.specs.Any.{in_area_len}
 use Rattle.master_duty.specs.Reply.{Reply}
-use Rattle.master_duty.specs.of_state_exchange.Stated.{Service}
+use Rattle.master_duty.specs.of_state_model.Stated.{Service}
 use Rattle.master_hand.specs.Shown.{knows}
 use Rattle.master_hand.specs.Spoken.{Asked, acknowledged, is_followed, is_passed}
 use Rattle.master_hand.specs.declared.hand.InHand.{InHand}
@@ -27,8 +27,8 @@ use Rattle.master_tour.specs.declared.stop.Stand.{Stand}
 use Rattle.master_tour.specs.declared.stop.Stop.{Stop}
 use Rattle.master_tour.specs.of_life_model.Lives.{Life, Spot}
 use Rattle.segment_plan.specs.declared.service.Service as Plan
-use Rattle.served_runs.specs.Served.{AllServedTurn, IsServedTurn, Keyed, Serves, ServedComes, ServedTurn}
-use Rattle.served_runs.specs.Told.{Passed}
+use Rattle.life_runs.specs.Served.{AllServedTurn, IsServedTurn, Keyed, Serves, ServedComes, ServedTurn}
+use Rattle.life_runs.specs.Told.{Passed}
 use Rattle.master_node.specs.Begins.{HasBegun, begun_for, begun_of}
 use Rattle.master_node.specs.Listing.{Before}
 use Rattle.master_node.specs.Events.{served_tells}

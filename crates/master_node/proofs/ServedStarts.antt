@@ -2,10 +2,10 @@
 use Rattle.std.proofs.Common.{◌≡◌, ℕ, Bool, false, true, Option, None, Some, List, ◌∷◌, map, refl, sym, ◌∙◌, subst, arith}
 use Rattle.std.specs.Prelude.{slice_get}
 use Rattle.datagrams.specs.Datagram as Raw
-use Rattle.served_runs.specs.of_life_runs.of_frame_view.View.{Lens}
-use Rattle.served_runs.specs.of_life_runs.of_life_frames.Shares.{AllFrom, AreDistinct, Lived}
+use Rattle.life_runs.specs.of_frame_view.View.{Lens}
+use Rattle.life_runs.specs.of_frame_view.Shares.{AllFrom, AreDistinct, Lived}
 use Rattle.master_duty.specs.Reply.{Reply}
-use Rattle.master_duty.specs.of_state_exchange.Stated as Stated
+use Rattle.master_duty.specs.of_state_model.Stated as Stated
 use Rattle.master_hand.specs.Laying.{ready_of}
 use Rattle.master_hand.specs.Spoken.{Asked}
 use Rattle.master_hand.specs.declared.hand.InHand.{InHand}
@@ -16,7 +16,7 @@ use Rattle.master_tour.proofs.Walks.{steps_both}
 use Rattle.master_tour.specs.Made.{is_in}
 use Rattle.master_tour.specs.Walks.{EachPair, StepsAt}
 use Rattle.master_tour.specs.declared.stop.Stop.{Stop}
-use Rattle.served_runs.specs.Served.{Keyed, Serves}
+use Rattle.life_runs.specs.Served.{Keyed, Serves}
 use Rattle.master_node.proofs.Begins.{at_other, at_place, spot_at}
 use Rattle.master_node.proofs.Eagers.{recall_kept}
 use Rattle.master_node.proofs.Fills.{begun_at, from_each}

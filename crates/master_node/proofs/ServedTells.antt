@@ -2,9 +2,9 @@
 use Rattle.std.proofs.Common.{◌≡◌, ◌+◌, ◌-◌, ◌%◌, ℕ, zero, suc, Bool, true, false, Option, None, Some, List, [], ◌∷◌, refl, sym, ap, ◌∙◌, subst, arith, length}
 use Rattle.std.specs.Prelude.{is_some, map, slice_get, All, IfSome, if◌then◌else◌}
 use Rattle.std.proofs.lemmas.List.Elements.{All-head}
-use Rattle.served_runs.specs.of_life_runs.of_frame_view.View.{Lens}
-use Rattle.served_runs.specs.of_life_runs.of_life_frames.Shares.{AllBoth}
-use Rattle.master_duty.specs.of_state_exchange.Stated.{Service}
+use Rattle.life_runs.specs.of_frame_view.View.{Lens}
+use Rattle.life_runs.specs.of_frame_view.Shares.{AllBoth}
+use Rattle.master_duty.specs.of_state_model.Stated.{Service}
 use Rattle.master_hand.specs.Laying.{Waiting, ready_by, ready_of}
 use Rattle.master_hand.specs.Spoken.{Asked, is_passed}
 use Rattle.master_hand.specs.declared.hand.InHand.{InHand}
@@ -17,7 +17,7 @@ use Rattle.master_tour.specs.Made.{is_in}
 use Rattle.master_tour.specs.Walks.{StepsAt}
 use Rattle.master_tour.specs.declared.stop.Stand.{Stand}
 use Rattle.master_tour.specs.declared.stop.Stop.{Stop}
-use Rattle.served_runs.specs.Served.{Keyed, Serves, ServedTurn}
+use Rattle.life_runs.specs.Served.{Keyed, Serves, ServedTurn}
 use Rattle.master_node.specs.Begins.{begun_for, begun_of}
 use Rattle.master_node.specs.Coming.{IsLaid, wish_of}
 use Rattle.master_node.specs.Events.{ServedBegin, begun_told, oldest_in, served_tells}

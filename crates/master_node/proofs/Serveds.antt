@@ -2,14 +2,14 @@
 use Rattle.std.proofs.Common.{◌≡◌, ◌≤◌, ◌<◌, ℕ, zero, suc, ◌+◌, ◌-◌, ◌%◌, ◌^◌, Bool, true, false, Option, None, Some, List, [], ◌∷◌, refl, sym, ap, ◌∙◌, subst, length, arith}
 use Rattle.std.specs.Prelude.{◌||◌, is_some, map, nat_le, if◌then◌else◌}
 use Rattle.std.proofs.Math.Nat.{add-mod_right, mod-eq_of_lt}
-use Rattle.counters_kept.proofs.Lives.{back_life}
-use Rattle.served_runs.specs.of_life_runs.Led.{Exchanged, led_behind, speech_at}
-use Rattle.served_runs.specs.of_life_runs.of_frame_view.View.{Lens}
-use Rattle.served_runs.specs.of_life_runs.of_frame_view.Seen.{seen}
-use Rattle.served_runs.specs.of_life_runs.of_life_frames.Frames.{Share, AreApart}
-use Rattle.served_runs.specs.of_life_runs.of_life_frames.Shares.{Lived, AllBoth, AllThree, AreDistinct, IsElsewhere, came_at, lived_back}
-use Rattle.served_runs.specs.of_life_runs.of_segment_ring.declared.wire.Fate.{Fate}
-use Rattle.served_runs.specs.of_life_runs.of_segment_ring.declared.wire.Fate.TheVariants.{Pass}
+use Rattle.life_runs.proofs.Lives.{back_life}
+use Rattle.life_runs.specs.Led.{Exchanged, led_behind, speech_at}
+use Rattle.life_runs.specs.of_frame_view.View.{Lens}
+use Rattle.life_runs.specs.of_frame_view.Seen.{seen}
+use Rattle.life_runs.specs.of_frame_view.Frames.{Share, AreApart}
+use Rattle.life_runs.specs.of_frame_view.Shares.{Lived, AllBoth, AllThree, AreDistinct, IsElsewhere, came_at, lived_back}
+use Rattle.life_runs.specs.of_segment_ring.declared.wire.Fate.{Fate}
+use Rattle.life_runs.specs.of_segment_ring.declared.wire.Fate.TheVariants.{Pass}
 use Rattle.mailbox_master.specs.of_link_model.Link.{Halves}
 use Rattle.master_duty.specs.Reply.{Reply}
 use Rattle.master_duty.specs.of_exchange_model.Exchange.{Speech}
@@ -18,8 +18,8 @@ use Rattle.master_duty.specs.of_segment_model.Record.{Kept, News}
 use Rattle.master_duty.specs.of_segment_model.Returned.{Returns}
 use Rattle.master_duty.specs.of_segment_model.Seats.{Side}
 use Rattle.master_duty.specs.of_segment_model.Slaves.{Access, Datagram, Found}
-use Rattle.master_duty.specs.of_task_model.Accounts as Accounts
-use Rattle.master_duty.specs.of_task_model.Accounts.{Account, duty_access}
+use Rattle.master_duty.specs.of_state_model.Accounts as Accounts
+use Rattle.master_duty.specs.of_state_model.Accounts.{Account, duty_access}
 use Rattle.master_hand.specs.Laying.{scripted}
 use Rattle.master_hand.specs.Shown.{awaits_reply, knows}
 use Rattle.master_hand.specs.Spoken.{Asked, acknowledged, is_followed, is_passed}
@@ -43,8 +43,8 @@ use Rattle.master_tour.specs.of_life_model.Lives.{Life, Spot, era_back, life_bac
 use Rattle.master_tour.proofs.Backs.{seen_aims}
 use Rattle.master_tour.proofs.Passings.{nothing_told}
 use Rattle.master_tour.proofs.Unders.{SameAim, under_back}
-use Rattle.counters_kept.specs.of_news_kept.Counts.{counts_on}
-use Rattle.served_runs.specs.Served.{Serves, ServedTurn, served_behind}
+use Rattle.life_runs.specs.of_master_side.Counts.{counts_on}
+use Rattle.life_runs.specs.Served.{Serves, ServedTurn, served_behind}
 use Rattle.master_node.specs.Besides.{back_does, by_stop, stays}
 use Rattle.master_node.specs.Handed.{work_at}
 use Rattle.master_node.specs.Inhand.{HasInHand}

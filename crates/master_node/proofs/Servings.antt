@@ -2,8 +2,8 @@
 use Rattle.std.proofs.Common.{◌≡◌, ◌≤◌, ◌<◌, ◌+◌, ℕ, zero, suc, Bool, true, Option, None, Some, List, [], ◌∷◌, ◌++◌, refl, sym, ap, ◌∙◌, subst, length, arith, get_or, set}
 use Rattle.std.specs.Prelude.{map, All, is_some, ⊤}
 use Rattle.std.proofs.lemmas.List.Elements.{All-nil, All-head, All-tail, All-push}
-use Rattle.counters_kept.specs.Lives.{LifeKept}
-use Rattle.served_runs.specs.of_life_runs.First.{leads_from}
+use Rattle.life_runs.specs.Lives.{LifeKept}
+use Rattle.life_runs.specs.First.{leads_from}
 use Rattle.master_hand.specs.Spoken as Talk
 use Rattle.master_side.specs.Passing.{passing_seen}
 use Rattle.master_side.specs.declared.passing.Passing.{Passing}
@@ -14,20 +14,20 @@ use Rattle.master_tour.specs.Counting.{StandCounts}
 use Rattle.master_tour.specs.Passing.{StandPassing}
 use Rattle.master_tour.specs.declared.stop.Stand.{Stand}
 use Rattle.master_tour.specs.of_life_model.Lives.{Life, new_life}
-use Rattle.counters_kept.specs.of_news_kept.Counts.{CountsAt}
-use Rattle.counters_kept.proofs.of_news_kept.Kepts.{new_kept}
+use Rattle.life_runs.specs.of_master_side.Counts.{CountsAt}
+use Rattle.life_runs.proofs.of_master_side.Kepts.{new_kept}
 use Rattle.segment_plan.specs.declared.service.Service as Plan
 use Rattle.segment_plan.specs.declared.slave.SlaveSpec.{SlaveSpec}
-use Rattle.served_runs.specs.of_life_runs.of_frame_view.View.{Lens}
-use Rattle.served_runs.specs.of_life_runs.of_life_frames.Shares.{AllBoth, AllThree}
-use Rattle.served_runs.specs.of_life_runs.Led.{Leads, speech_at}
+use Rattle.life_runs.specs.of_frame_view.View.{Lens}
+use Rattle.life_runs.specs.of_frame_view.Shares.{AllBoth, AllThree}
+use Rattle.life_runs.specs.Led.{Leads, speech_at}
 use Rattle.master_hand.specs.Shown.{knows}
 use Rattle.master_hand.specs.declared.hand.InHand.{InHand}
 use Rattle.master_side.specs.declared.hand.Hand.{Ghosts}
 use Rattle.master_side.specs.of_mailbox_mail.declared.mail.Mail.{Mail}
 use Rattle.master_tour.specs.Walks.{StepsAt}
 use Rattle.master_tour.specs.declared.stop.Stop.{Stop}
-use Rattle.served_runs.specs.Served.{Keyed, Serves, MayAsk, asked_at, all_serve, new_serves}
+use Rattle.life_runs.specs.Served.{Keyed, Serves, MayAsk, asked_at, all_serve, new_serves}
 use Rattle.master_node.specs.Appends.{AppendsMail}
 use Rattle.master_node.specs.Inhand.{HasInHand}
 use Rattle.master_node.specs.Lives.{waiting_at}

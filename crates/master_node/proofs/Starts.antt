@@ -3,12 +3,12 @@ use Rattle.std.proofs.Common.{◌≡◌, ◌==◌, ◌+◌, ◌<◌, ℕ, zero, 
 use Rattle.std.specs.Prelude.{IfSome, length, map, nat_lt, slice_get}
 use Rattle.std.proofs.lemmas.Bool.{eq-eqb, eqb-true, ltb-false}
 use Rattle.datagrams.specs.Datagram as Raw
-use Rattle.served_runs.specs.of_life_runs.of_frame_view.View.{Lens}
-use Rattle.served_runs.specs.of_life_runs.of_life_frames.Shares.{AllBoth, AllFrom, Lived}
-use Rattle.served_runs.specs.of_life_runs.Led.{Leads, Turn, speech_at}
+use Rattle.life_runs.specs.of_frame_view.View.{Lens}
+use Rattle.life_runs.specs.of_frame_view.Shares.{AllBoth, AllFrom, Lived}
+use Rattle.life_runs.specs.Led.{Leads, Turn, speech_at}
 use Rattle.master_duty.specs.Reply.{Reply}
-use Rattle.master_duty.specs.of_state_exchange.Stated as Stated
-use Rattle.master_duty.specs.of_task_model.Accounts.{Pick}
+use Rattle.master_duty.specs.of_state_model.Stated as Stated
+use Rattle.master_duty.specs.of_state_model.Accounts.{Pick}
 use Rattle.master_hand.specs.Laying.{Waiting, asked_next, ready_by, ready_of}
 use Rattle.master_hand.specs.Shown.{Shows, awaits_reply, knows}
 use Rattle.master_hand.specs.Spoken.{Asked, acknowledged, is_followed, is_passed}
@@ -29,7 +29,7 @@ use Rattle.master_tour.specs.declared.stop.Stand.{Stand}
 use Rattle.master_tour.specs.declared.stop.Stop.{Stop}
 use Rattle.master_tour.specs.of_life_model.Lives.{Life, life_next}
 use Rattle.segment_plan.specs.declared.service.Service as Plan
-use Rattle.served_runs.specs.Served.{Keyed, Serves}
+use Rattle.life_runs.specs.Served.{Keyed, Serves}
 use Rattle.master_node.specs.Begins.{NoneMore, PacketFirst, begun_of}
 use Rattle.master_node.specs.Coming.{IsComing, IsLaid, next_of, wish_of}
 use Rattle.master_node.specs.Eager.{recall_of}

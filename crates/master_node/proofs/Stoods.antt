@@ -2,10 +2,10 @@
 use Rattle.std.proofs.Common.{◌≡◌, ℕ, Bool, true, false, refl, ap, sym, ◌∙◌}
 use Rattle.std.specs.Prelude.{◌&&◌, nat_lt}
 use Rattle.al_state.specs.declared.bringing.BringStep.{BringStep}
-use Rattle.served_runs.specs.of_life_runs.of_frame_view.View.{Lens}
-use Rattle.served_runs.specs.of_life_runs.Spans.{is_leaving, is_open}
-use Rattle.served_runs.specs.of_life_runs.of_life_frames.Openings.{step_number}
-use Rattle.served_runs.specs.of_life_runs.Led.{Leads}
+use Rattle.life_runs.specs.of_frame_view.View.{Lens}
+use Rattle.life_runs.specs.Spans.{is_leaving, is_open}
+use Rattle.life_runs.specs.of_frame_view.Openings.{step_number}
+use Rattle.life_runs.specs.Led.{Leads}
 use Rattle.master_hand.specs.declared.hand.InHand.{InHand}
 use Rattle.master_node.specs.Shows.{side_shows}
 use Rattle.master_node.specs.Told.{IsTold}

@@ -1,7 +1,7 @@
 -- THREE LISTS IN STEP, as slaves, mails and stops are: what goes from one stop to another goes for all.
 use Rattle.std.proofs.Common.{ℕ, suc, List, [], ◌∷◌}
 use Rattle.std.specs.Prelude.{map}
-use Rattle.served_runs.specs.of_life_runs.of_life_frames.Shares.{AllFrom, AllThree}
+use Rattle.life_runs.specs.of_frame_view.Shares.{AllFrom, AllThree}
 use Rattle.master_tour.specs.Walks.{EachPair}
 use Rattle.master_node.specs.Passes.{ThreeFrom}
 

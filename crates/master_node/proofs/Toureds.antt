@@ -1,43 +1,35 @@
 -- THE VISITS OF A FRAME are the first of the tour's, one behind the other.
-use Rattle.std.proofs.Common.{◌≡◌, ◌⊎◌, inl, inr, ◌<◌, ◌≤◌, ◌+◌, ◌==◌, ℕ, zero, suc, Bool, true, false, Option, Some, None, List, [], ◌∷◌, ◌++◌, refl, sym, ap, ◌∙◌, subst, arith, length, append_assoc}
-use Rattle.std.specs.Prelude.{nat_lt, ◌&&◌, not, if◌then◌else◌}
-use Rattle.std.proofs.lemmas.Bool.{eq-eqb, eqb-true, lt-ltb, le-ltb}
-use Rattle.served_runs.specs.of_life_runs.of_life_frames.Frames.{Share}
+use Rattle.std.proofs.Common.{◌≡◌, ◌⊎◌, inl, inr, ◌<◌, ◌≤◌, ◌+◌, ◌==◌, ℕ, zero, suc, Bool, true, false, Option, Some, None, List, [], ◌∷◌, ◌++◌, refl, sym, ap, ◌∙◌, subst, arith, length, append_assoc, ◌-◌, drop}
+use Rattle.std.specs.Prelude.{nat_lt, ◌&&◌, not, if◌then◌else◌, IfSome, slice_get}
+use Rattle.std.proofs.lemmas.Bool.{eq-eqb, eqb-true, lt-ltb, le-ltb, ltb-true, ltb-false}
+use Rattle.life_runs.specs.of_frame_view.Frames.{Share}
 use Rattle.master_hand.specs.contracts.hand.InHandHand.TheImpl as Impl
 use Rattle.master_hand.specs.declared.hand.InHand.{InHand}
 use Rattle.master_tour.specs.declared.tour.Tour as Tours
 use Rattle.master_side.specs.declared.hand.Hand.{Ghosts}
-use Rattle.master_tour.specs.Goes.{is_live, holds_at}
+use Rattle.master_tour.specs.Goes.{is_live, holds_at, opened_behind}
 use Rattle.master_tour.specs.Made.{is_in}
-use Rattle.std.proofs.Common.{◌-◌, drop}
-use Rattle.std.specs.Prelude.{IfSome, slice_get}
 use Rattle.master_tour.specs.Rooms.{StopRepeats, stop_len}
 use Rattle.master_tour.proofs.Walks.{steps_both}
-use Rattle.master_node.specs.Rooms.{FitFrom, IsSentStop, Takes, len_in}
+use Rattle.master_node.specs.Rooms.{FitFrom, IsSentStop, Takes, len_in, LeavesFull, area_in}
 use Rattle.master_node.proofs.Fits.{again_here, fit_else, fit_ends, fit_less, fit_more, fit_most, stays_here, way_here}
-use Rattle.master_node.proofs.Lists.{steps_map}
-use Rattle.std.proofs.lemmas.Bool.{ltb-true, ltb-false}
+use Rattle.master_node.proofs.Lists.{steps_map, steps_trans, steps_holds, both_holds, both_length}
 use Rattle.master_side.specs.Again.{HasNoRoom}
-use Rattle.master_node.specs.Rooms.{LeavesFull, area_in}
-use Rattle.master_tour.specs.Orders.{visits_left, visited_of, is_fixed, AreOnce, IsCarried}
-use Rattle.master_tour.specs.Toured.{Tour, HaveFrom, Carries, IsOfTour, has_number, visit_of, visit_on}
+use Rattle.master_tour.specs.Orders.{visits_left, visited_of, is_fixed, AreOnce, IsCarried, last_behind}
+use Rattle.master_tour.specs.Toured.{Tour, HaveFrom, Carries, IsOfTour, has_number, visit_of, visit_on, goes_on, lost_on}
 use Rattle.master_tour.specs.Walks.{StepsAt, EachPair}
 use Rattle.master_tour.specs.declared.stop.Stop.{Stop}
 use Rattle.master_tour.proofs.Firsts.{visits_once, visited_same}
 use Rattle.master_node.specs.Kept.{TourOn}
 use Rattle.master_node.specs.Toured.{stop_share, turn_share, again_of, tour_of, StaysPut, TakesPart, IsBare, HasVisited}
 use Rattle.master_node.specs.Shows.{IsOnFrame}
-use Rattle.served_runs.specs.of_life_runs.of_frame_view.View.{Lens}
-use Rattle.served_runs.specs.of_life_runs.of_life_frames.Shares.{AllBoth}
-use Rattle.served_runs.specs.of_life_runs.Led.{Turn}
-use Rattle.master_tour.specs.Goes.{opened_behind}
-use Rattle.master_tour.specs.Orders.{last_behind}
-use Rattle.master_tour.specs.Toured.{goes_on, lost_on}
+use Rattle.life_runs.specs.of_frame_view.View.{Lens}
+use Rattle.life_runs.specs.of_frame_view.Shares.{AllBoth}
+use Rattle.life_runs.specs.Led.{Turn}
 use Rattle.master_node.specs.declared.node.MasterNode.{MasterNode}
 use Rattle.master_node.proofs.Leaves.{leaves_none, leaves_one, leaves_out, left_of, none_left, visit_live}
 use Rattle.master_node.proofs.Roundings.{SameTour}
 use Rattle.master_node.proofs.Lefts.{true_false, in_here, in_there, in_last, in_first, not_in}
-use Rattle.master_node.proofs.Lists.{steps_trans, steps_holds, both_holds, both_length}
 
 -- ONE PLACE GOES ON
 steps_else : {S : Type 0} (test : S → Bool) (P : S → S → Type 0) (i : ℕ) (xs ys : List S) → StepsAt P i xs ys → (k : ℕ) → (k ≡ i → ⊥) → holds_at test ys k ≡ holds_at test xs k

@@ -1,11 +1,11 @@
 -- WHAT IS TOLD OF HOW A SLAVE TURNED is what its life tells.
 use Rattle.std.proofs.Common.{◌≡◌, ℕ, zero, suc, Bool, Option, List, [], ◌∷◌, refl, sym, ap, ◌∙◌, subst}
 use Rattle.std.specs.Prelude.{◌&&◌, map}
-use Rattle.served_runs.specs.of_life_runs.Led.{Exchanged, speech_at}
-use Rattle.served_runs.specs.of_life_runs.of_frame_view.View.{Lens}
-use Rattle.served_runs.specs.of_life_runs.of_frame_view.Seen.{seen}
-use Rattle.served_runs.specs.of_life_runs.of_life_frames.Shares.{AllThree, given_where}
-use Rattle.served_runs.specs.of_life_runs.of_segment_ring.declared.wire.Fate.TheVariants.{Lost}
+use Rattle.life_runs.specs.Led.{Exchanged, speech_at}
+use Rattle.life_runs.specs.of_frame_view.View.{Lens}
+use Rattle.life_runs.specs.of_frame_view.Seen.{seen}
+use Rattle.life_runs.specs.of_frame_view.Shares.{AllThree, given_where}
+use Rattle.life_runs.specs.of_segment_ring.declared.wire.Fate.TheVariants.{Lost}
 use Rattle.master_hand.specs.Spoken.{acknowledged, is_followed, is_passed}
 use Rattle.master_hand.specs.declared.hand.InHand.{InHand}
 use Rattle.master_side.specs.Passing.{news_lost}
@@ -15,7 +15,7 @@ use Rattle.master_tour.specs.Walks.{EachPair}
 use Rattle.master_tour.specs.declared.stop.Stop.{Stop}
 use Rattle.master_tour.specs.declared.stop.Turned.{Turned}
 use Rattle.master_tour.specs.of_life_model.Lives.{life_lost}
-use Rattle.served_runs.specs.Served.{Serves, ServedTurn, served_behind}
+use Rattle.life_runs.specs.Served.{Serves, ServedTurn, served_behind}
 use Rattle.master_node.specs.Besides.{by_stop}
 use Rattle.master_node.specs.Lifetold.{told_at}
 use Rattle.master_node.specs.Serving.{IsServedUnder}

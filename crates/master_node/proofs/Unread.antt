@@ -1,10 +1,10 @@
 -- A SLAVE OF WHICH A FRAME HAD NOTHING has in hand behind it what it had; and so what each post has in hand behind a frame that came back is what its slave's life has.
 use Rattle.std.proofs.Common.{◌≡◌, ℕ, Bool, true, false, Option, Some, None, List, [], refl, sym, ap, ◌∙◌, subst, append-nil}
 use Rattle.std.specs.Prelude.{◌&&◌, nat_le, option_map, if◌then◌else◌}
-use Rattle.served_runs.specs.of_life_runs.Led.{speech_at}
-use Rattle.served_runs.specs.of_life_runs.of_frame_view.Seen.{seen}
-use Rattle.served_runs.specs.of_life_runs.of_frame_view.View.{Lens}
-use Rattle.served_runs.specs.of_life_runs.of_life_frames.Shares.{came_at}
+use Rattle.life_runs.specs.Led.{speech_at}
+use Rattle.life_runs.specs.of_frame_view.Seen.{seen}
+use Rattle.life_runs.specs.of_frame_view.View.{Lens}
+use Rattle.life_runs.specs.of_frame_view.Shares.{came_at}
 use Rattle.master_duty.specs.Reply.{Reply}
 use Rattle.master_duty.specs.of_exchange_model.Exchange.{Speech, plain}
 use Rattle.master_duty.specs.of_exchange_model.Rows.{Row, answer_after, row_heard}
@@ -12,7 +12,7 @@ use Rattle.master_duty.specs.of_segment_model.Record.{News}
 use Rattle.master_duty.specs.of_segment_model.Returned.{Returns}
 use Rattle.master_duty.specs.of_segment_model.Seats.{side_back}
 use Rattle.master_duty.specs.of_segment_model.Slaves.{Datagram, Found}
-use Rattle.master_duty.specs.of_task_model.Accounts.{Duty, account_back}
+use Rattle.master_duty.specs.of_state_model.Accounts.{Duty, account_back}
 use Rattle.master_hand.specs.Shown.{knows}
 use Rattle.master_hand.specs.Spoken.{Asked, acknowledged, is_followed, is_passed}
 use Rattle.master_hand.specs.contracts.hand.InHandHand.TheImpl as Impl
@@ -26,7 +26,7 @@ use Rattle.master_tour.specs.Stands.{StandShows}
 use Rattle.master_tour.specs.declared.stop.Stand.{Stand}
 use Rattle.master_tour.specs.declared.stop.Stop.{Stop}
 use Rattle.master_tour.proofs.Backs.{seen_aims}
-use Rattle.served_runs.specs.Served.{ServedTurn}
+use Rattle.life_runs.specs.Served.{ServedTurn}
 use Rattle.master_node.specs.Besides.{back_does}
 use Rattle.master_node.specs.Inhand.{HasInHand, OpenHas}
 use Rattle.master_node.specs.Serving.{IsServedUnder}

@@ -4,12 +4,12 @@ use Rattle.std.specs.Prelude.{◌&&◌, is_none, is_some, option_map}
 use Rattle.datagrams.specs.Datagram as Raw
 use Rattle.mailbox_mail.specs.declared.mail.Mail.{Mail}
 use Rattle.mailbox_master.specs.of_link_model.Link.{Halves}
-use Rattle.served_runs.specs.of_life_runs.of_frame_view.View.{Lens}
-use Rattle.served_runs.specs.of_life_runs.of_life_frames.Shares.{AllFrom, Lived}
-use Rattle.served_runs.specs.of_life_runs.Led.{speech_at}
+use Rattle.life_runs.specs.of_frame_view.View.{Lens}
+use Rattle.life_runs.specs.of_frame_view.Shares.{AllFrom, Lived}
+use Rattle.life_runs.specs.Led.{speech_at}
 use Rattle.master_duty.specs.Reply.{Reply}
-use Rattle.master_duty.specs.of_state_exchange.Stated.{Service}
-use Rattle.master_duty.specs.of_task_model.Accounts.{Pick}
+use Rattle.master_duty.specs.of_state_model.Stated.{Service}
+use Rattle.master_duty.specs.of_state_model.Accounts.{Pick}
 use Rattle.master_hand.proofs.Firsts.{some_planned}
 use Rattle.master_hand.specs.Laying.{ready_of}
 use Rattle.master_hand.specs.Over.{over_by}

@@ -2,12 +2,12 @@
 use Rattle.std.proofs.Common.{◌≡◌, ◌+◌, ◌==◌, ℕ, suc, Bool, true, false, List, [], ◌∷◌, ◌++◌, Option, Some, None, refl, sym, ap, ◌∙◌, subst}
 use Rattle.std.proofs.lemmas.Bool.{eqb-true}
 use Rattle.std.specs.Prelude.{cond, ◌&&◌, ◌||◌, not, if◌then◌else◌, is_some, option_map, map, length}
-use Rattle.life_measure.specs.Visits.{Visit, mails_visit, drain_visit}
-use Rattle.served_runs.specs.of_life_runs.of_frame_view.View.{Lens}
-use Rattle.served_runs.specs.of_life_runs.of_frame_view.Seen.{seen}
-use Rattle.served_runs.specs.of_life_runs.of_life_frames.Shares.{AllBoth}
-use Rattle.served_runs.specs.of_life_runs.of_state_model.States.{Phase}
-use Rattle.served_runs.specs.of_life_runs.Led.{Turn}
+use Rattle.life_model.specs.Visits.{Visit, mails_visit, drain_visit}
+use Rattle.life_runs.specs.of_frame_view.View.{Lens}
+use Rattle.life_runs.specs.of_frame_view.Seen.{seen}
+use Rattle.life_runs.specs.of_frame_view.Shares.{AllBoth}
+use Rattle.life_runs.specs.of_state_model.States.{Phase}
+use Rattle.life_runs.specs.Led.{Turn}
 use Rattle.mailbox_mail.specs.declared.mail.Mail.{Mail}
 use Rattle.mailbox_master.specs.Any.{in_half_of}
 use Rattle.mailbox_master.specs.Seat.{seat_half}
@@ -21,7 +21,7 @@ use Rattle.master_duty.specs.declared.stage.Stage as Stages
 use Rattle.master_duty.specs.of_segment_model.Ends as Ends
 use Rattle.master_duty.specs.of_segment_model.Record.{is_for}
 use Rattle.master_duty.specs.of_segment_model.Slaves.{Access, Datagram}
-use Rattle.master_duty.specs.of_task_model.Accounts.{Duty, Stage, duty_access, stage_access, phase_access}
+use Rattle.master_duty.specs.of_state_model.Accounts.{Duty, Stage, duty_access, stage_access, phase_access}
 use Rattle.master_hand.specs.declared.hand.InHand.{InHand}
 use Rattle.master_side.specs.Again.{IsOnWay}
 use Rattle.master_side.specs.Carried.{Asks, Meant, in_hand, is_clear, duty_choice, link_choice, drain_choice, errand_choice, errand_carried, mails_choice}

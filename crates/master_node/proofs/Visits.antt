@@ -1,10 +1,10 @@
 -- A VISIT: what comes into hand of one slave, and what stays of all others.
 use Rattle.std.proofs.Common.{◌≡◌, ◌<◌, ℕ, suc, Bool, true, false, Option, Some, None, List, [], refl, sym, ap, ◌∙◌, subst, arith, length}
 use Rattle.std.specs.Prelude.{is_some, slice_get, map, IfSome, if◌then◌else◌}
-use Rattle.served_runs.specs.of_life_runs.of_frame_view.View.{Lens}
-use Rattle.served_runs.specs.of_life_runs.of_life_frames.Shares.{Lived, AllFrom, AreDistinct}
+use Rattle.life_runs.specs.of_frame_view.View.{Lens}
+use Rattle.life_runs.specs.of_frame_view.Shares.{Lived, AllFrom, AreDistinct}
 use Rattle.master_duty.specs.Reply.{Reply}
-use Rattle.served_runs.specs.of_life_runs.Led.{Leads, Comes}
+use Rattle.life_runs.specs.Led.{Leads, Comes}
 use Rattle.master_hand.specs.Laying.{Scripted, scripted, scripted_behind, ready_of}
 use Rattle.master_hand.specs.Spoken.{Asked, is_passed}
 use Rattle.master_hand.specs.declared.hand.InHand.{InHand}
@@ -16,7 +16,7 @@ use Rattle.master_tour.specs.Made.{ComesAt, FrameMade, is_in}
 use Rattle.master_tour.specs.Walks.{EachPair, StepsAt}
 use Rattle.master_tour.specs.declared.stop.Stop.{Stop}
 use Rattle.segment_plan.specs.declared.service.Service as Plan
-use Rattle.master_duty.specs.of_state_exchange.Stated.{Service}
+use Rattle.master_duty.specs.of_state_model.Stated.{Service}
 use Rattle.master_node.specs.Begins.{LaysOldest, PacketFirst, begins_by, begins_other, taken_where}
 use Rattle.master_node.specs.Coming.{IsComing, IsLaid, PassesBy, CameBy, next_of, wish_of}
 use Rattle.master_node.specs.Filling.{IsAmong, StopFills}

@@ -3,7 +3,7 @@ use Rattle.std.specs.Prelude.{◌≡◌, ℕ, zero, suc, nat_lt, Bool, true, fal
 use Rattle.eoe.specs.declared.joining.Unfinished.{Unfinished}
 use Rattle.eoe_switch.specs.declared.switching.SwitchEvent.{SwitchEvent}
 use Rattle.eoe_switch.specs.declared.switching.SwitchEvent.TheVariants.{Arrive}
-use Rattle.served_runs.specs.of_life_runs.Led.{Turn}
+use Rattle.life_runs.specs.Led.{Turn}
 use Rattle.master_duty.specs.of_segment_model.Slaves.{Datagram}
 use Rattle.master_hand.specs.Brings.{as_list}
 use Rattle.master_hand.specs.Joins.{packet_kept, packets_in}

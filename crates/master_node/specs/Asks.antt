@@ -1,6 +1,6 @@
 -- WHAT A FRAME ASKS AN OPEN SLAVE whose last read was lost.
 use Rattle.std.specs.Prelude.{◌≡◌, false, List, [], ◌∷◌, ⊤}
-use Rattle.served_runs.specs.of_life_runs.Led.{Turn}
+use Rattle.life_runs.specs.Led.{Turn}
 use Rattle.master_duty.specs.of_segment_model.Slaves.{Datagram}
 use Rattle.master_side.specs.Carried.{is_clear}
 use Rattle.master_side.specs.of_link_mails.Body.{Body}

@@ -1,14 +1,14 @@
 -- WHAT A FRAME THAT CAME BACK TELLS of a slave, by its life before the frame and behind it.
 use Rattle.std.specs.Prelude.{◌&&◌, not, ℕ, zero, suc, Bool, true, false, is_some, Option, Some, None, List, [], ◌∷◌, ◌++◌, length}
-use Rattle.served_runs.specs.of_life_runs.Led.{speech_at}
-use Rattle.served_runs.specs.of_life_runs.of_frame_view.View.{Lens}
+use Rattle.life_runs.specs.Led.{speech_at}
+use Rattle.life_runs.specs.of_frame_view.View.{Lens}
 use Rattle.mailbox_mail.specs.declared.outcome.ReplyKind.{ReplyKind}
 use Rattle.master_duty.specs.Reply.{Reply}
 use Rattle.master_duty.specs.of_exchange_model.Exchange.{Speech}
 use Rattle.master_duty.specs.of_exchange_model.Rows.{Row}
 use Rattle.master_duty.specs.of_segment_model.Ends.{Outcome, Passing}
 use Rattle.master_duty.specs.of_segment_model.Slaves.{Datagram}
-use Rattle.master_duty.specs.of_task_model.Accounts.{Change, is_free}
+use Rattle.master_duty.specs.of_state_model.Accounts.{Change, is_free}
 use Rattle.master_hand.specs.Brings.{emergencies_in}
 use Rattle.master_hand.specs.Spoken.{Asked}
 use Rattle.master_side.specs.Recall.{Recall}
@@ -18,8 +18,8 @@ use Rattle.master_tour.specs.Stands.{turned}
 use Rattle.master_tour.specs.declared.stop.Turned.{Turned}
 use Rattle.master_tour.specs.of_life_model.Lives
 use Rattle.master_tour.specs.of_life_model.Lives.{Life}
-use Rattle.served_runs.specs.Served.{Serves, ServedTurn}
-use Rattle.served_runs.specs.Told.{Passed, replies_in}
+use Rattle.life_runs.specs.Served.{Serves, ServedTurn}
+use Rattle.life_runs.specs.Told.{Passed, replies_in}
 use Rattle.master_hand.specs.Hears.{kind_in}
 use Rattle.master_node.specs.Begins.{is_other}
 use Rattle.master_node.specs.Gateways.{replies_told}

@@ -4,9 +4,9 @@ use Rattle.arrayvec.specs.ArrayVec.{ArrayVec}
 use Rattle.eoe_switch.specs.Switch.{Switched, arrived, begun_at, downed_at, queue_at}
 use Rattle.eoe_switch.specs.declared.switching.SwitchEvent.{SwitchEvent}
 use Rattle.eoe_switch.specs.declared.switching.SwitchEvent.TheVariants.{Arrive, Begun, Down}
-use Rattle.served_runs.specs.of_life_runs.Led.{Leads, Turn}
-use Rattle.master_duty.specs.of_state_exchange.Stated.{Service}
-use Rattle.master_hand.specs.of_eoe_model.Client as EoeClient
+use Rattle.life_runs.specs.Led.{Leads, Turn}
+use Rattle.master_duty.specs.of_state_model.Stated.{Service}
+use Rattle.master_hand.specs.of_protocol_models.EoeClient as EoeClient
 use Rattle.master_hand.specs.Spoken.{Asked, sdo, file, drive, net, passed}
 use Rattle.master_hand.specs.declared.hand.InHand.{InHand}
 use Rattle.master_hand.specs.declared.laying.Laid.{Laid}

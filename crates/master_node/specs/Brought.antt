@@ -1,7 +1,7 @@
 -- WHAT A FRAME THAT CAME BACK BROUGHT of the slaves, by their lives, as a master has it.
 use Rattle.std.specs.Prelude.{List}
-use Rattle.served_runs.specs.of_life_runs.of_life_frames.Shares.{AllBoth}
-use Rattle.served_runs.specs.of_life_runs.Led.{Turn}
+use Rattle.life_runs.specs.of_frame_view.Shares.{AllBoth}
+use Rattle.life_runs.specs.Led.{Turn}
 use Rattle.master_side.specs.of_link_mails.Body.{Body}
 use Rattle.master_hand.specs.Brings.{Brings}
 use Rattle.master_hand.specs.declared.hand.InHand.{InHand}

@@ -4,7 +4,7 @@ use Rattle.master_duty.specs.Reply.{Reply}
 use Rattle.master_hand.specs.Spoken.{Asked}
 use Rattle.master_side.specs.Shown.{HasOver}
 use Rattle.master_duty.specs.of_segment_model.Ends.{Outcome}
-use Rattle.master_duty.specs.of_task_model.Accounts.{Account, Duty}
+use Rattle.master_duty.specs.of_state_model.Accounts.{Account, Duty}
 use Rattle.master_node.specs.declared.changed.Changed.{Changed}
 
 -- by the account: none came into hand since the slave was opened; one is in hand; or the newest is over, and has this answer

@@ -5,7 +5,7 @@ use Rattle.master_side.specs.declared.hand.Hand.{Ghosts}
 use Rattle.master_tour.specs.Goes.{holds_at}
 use Rattle.master_tour.specs.Made.{is_in}
 use Rattle.master_tour.specs.declared.stop.Stop.{Stop}
-use Rattle.served_runs.specs.Served.{Keyed}
+use Rattle.life_runs.specs.Served.{Keyed}
 use Rattle.master_node.specs.Downs.{is_given_up}
 use Rattle.master_node.specs.Passes.{waits_in}
 

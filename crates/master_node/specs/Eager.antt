@@ -1,10 +1,10 @@
 -- A MASTER MAKES NO VISIT IN VAIN where more could go on: what it remembers of a slave's visits, what the datagram of a visit asks, and that behind a visit
 -- no mail is left that could be held.
 use Rattle.std.specs.Prelude.{◌≡◌, ℕ, Bool, true, is_some, Option, Some, None, List, [], ◌∷◌, map, ⊤}
-use Rattle.life_measure.specs.Visits.{Visit, mails_visit, drain_visit}
-use Rattle.served_runs.specs.of_life_runs.of_frame_view.View.{Lens}
-use Rattle.served_runs.specs.of_life_runs.Led.{Turn, speech_at}
-use Rattle.served_runs.specs.of_life_runs.of_state_model.States.{Phase}
+use Rattle.life_model.specs.Visits.{Visit, mails_visit, drain_visit}
+use Rattle.life_runs.specs.of_frame_view.View.{Lens}
+use Rattle.life_runs.specs.Led.{Turn, speech_at}
+use Rattle.life_runs.specs.of_state_model.States.{Phase}
 use Rattle.mailbox_master.specs.of_link_model.Frames.{Ask}
 use Rattle.mailbox_master.specs.of_link_model.Link.{Halves}
 use Rattle.mailbox_master.specs.of_link_model.Mails.{LinkMail}
@@ -12,7 +12,7 @@ use Rattle.mailbox_master.specs.of_link_model.Master.{InState}
 use Rattle.master_duty.specs.Reply.{Reply}
 use Rattle.master_duty.specs.of_exchange_model.Rows.{Row, left}
 use Rattle.master_duty.specs.of_segment_model.Slaves.{Datagram, Access}
-use Rattle.master_duty.specs.of_task_model.Accounts.{Duty, Stage, phase_access}
+use Rattle.master_duty.specs.of_state_model.Accounts.{Duty, Stage, phase_access}
 use Rattle.master_hand.specs.Spoken.{Asked}
 use Rattle.master_hand.specs.Shown.{Shows, knows}
 use Rattle.master_hand.specs.declared.hand.InHand.{InHand}

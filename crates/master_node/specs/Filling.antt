@@ -2,16 +2,16 @@
 use Rattle.std.specs.Prelude.{◌≡◌, ◌≤◌, ◌<◌, ℕ, ◌%◌, true, false, Option, None, List, [], map, length, All}
 use Rattle.std.specs.List.{list_any}
 use Rattle.datagrams.specs.Datagram as Raw
-use Rattle.served_runs.specs.of_life_runs.of_frame_view.View.{Lens}
-use Rattle.served_runs.specs.of_life_runs.of_life_frames.Shares.{Lived, AllFrom}
-use Rattle.served_runs.specs.of_life_runs.Led.{Leads, Comes, speech_at}
+use Rattle.life_runs.specs.of_frame_view.View.{Lens}
+use Rattle.life_runs.specs.of_frame_view.Shares.{Lived, AllFrom}
+use Rattle.life_runs.specs.Led.{Leads, Comes, speech_at}
 use Rattle.master_duty.specs.Reply.{Reply}
 use Rattle.master_hand.specs.Spoken.{Asked, acknowledged, is_followed, is_passed}
 use Rattle.master_hand.specs.declared.hand.InHand.{InHand}
 use Rattle.master_side.specs.declared.hand.Hand.{Ghosts}
 use Rattle.master_tour.specs.Made.{StopMade, FrameMade, is_in}
 use Rattle.master_tour.specs.declared.stop.Stop.{Stop}
-use Rattle.master_duty.specs.of_state_exchange.Stated.{Service}
+use Rattle.master_duty.specs.of_state_model.Stated.{Service}
 use Rattle.master_node.specs.Begins.{HasBegun}
 use Rattle.master_node.specs.Listing.{Before, HasListed, run_tells}
 use Rattle.master_node.specs.Starts.{HaveStarted}

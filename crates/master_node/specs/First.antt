@@ -1,8 +1,8 @@
 -- THE SLAVES OF A PLAN as a master has them before the first frame.
 use Rattle.std.specs.Prelude.{◌≡◌, ℕ, true, None, List}
-use Rattle.served_runs.specs.of_life_runs.of_frame_view.View.{Lens}
-use Rattle.served_runs.specs.of_life_runs.Led.{new_leads}
-use Rattle.served_runs.specs.of_life_runs.First.{spot_of, script_for}
+use Rattle.life_runs.specs.of_frame_view.View.{Lens}
+use Rattle.life_runs.specs.Led.{new_leads}
+use Rattle.life_runs.specs.First.{spot_of, script_for}
 use Rattle.mailbox_master.specs.Any.{in_area_len}
 use Rattle.master_hand.specs.Shown.{Shows, knows}
 use Rattle.master_hand.specs.Spoken.{hand_speech}
@@ -14,7 +14,7 @@ use Rattle.master_tour.specs.declared.stop.Stop.{Stop}
 use Rattle.segment_plan.specs.declared.plan.Scenario.{Scenario}
 use Rattle.segment_plan.specs.declared.service.Service.{Service}
 use Rattle.segment_plan.specs.declared.slave.SlaveSpec.{SlaveSpec}
-use Rattle.master_duty.specs.of_task_model.Accounts.{new_account}
+use Rattle.master_duty.specs.of_state_model.Accounts.{new_account}
 use Rattle.master_node.specs.Shows.{IsLead}
 
 -- a slave's side: its mailboxes and services are new, and its script begins

@@ -6,8 +6,8 @@ use Rattle.master_hand.specs.Spoken.{Asked}
 use Rattle.master_side.specs.of_link_mails.Body.{Body}
 use Rattle.master_tour.specs.Brings.{accepted_in}
 use Rattle.master_tour.specs.of_life_model.Lives.{Life}
-use Rattle.served_runs.specs.Served.{Serves, ServedTurn}
-use Rattle.served_runs.specs.Told.{Passed, replies_in}
+use Rattle.life_runs.specs.Served.{Serves, ServedTurn}
+use Rattle.life_runs.specs.Told.{Passed, replies_in}
 use Rattle.master_node.specs.Listing.{events_in, told_in}
 use Rattle.master_node.specs.Named.{is_left}
 use Rattle.master_node.specs.declared.event.Event.{Event}

@@ -1,10 +1,10 @@
 -- WHAT A POST HAS IN HAND of a mail that is passed on: as it is laid ready, as it comes into hand, and behind a frame.
 use Rattle.std.specs.Prelude.{◌≡◌, ◌⊎◌, ◌&&◌, ◌||◌, not, ℕ, zero, suc, Bool, if◌then◌else◌, is_some, Option, Some, None, List, [], ◌∷◌, ⊤}
-use Rattle.served_runs.specs.of_life_runs.Led.{speech_at}
-use Rattle.served_runs.specs.of_life_runs.of_frame_view.View.{Lens}
+use Rattle.life_runs.specs.Led.{speech_at}
+use Rattle.life_runs.specs.of_frame_view.View.{Lens}
 use Rattle.master_duty.specs.Reply.{Reply}
-use Rattle.master_duty.specs.of_state_exchange.Stated.{Service}
-use Rattle.master_duty.specs.of_task_model.Accounts.{Duty}
+use Rattle.master_duty.specs.of_state_model.Stated.{Service}
+use Rattle.master_duty.specs.of_state_model.Accounts.{Duty}
 use Rattle.master_hand.specs.Spoken.{Asked, is_passed}
 use Rattle.master_hand.specs.declared.hand.InHand.{InHand}
 use Rattle.master_side.specs.Passing.{passing_behind}
@@ -14,8 +14,8 @@ use Rattle.master_tour.specs.Goes.{holds_at}
 use Rattle.master_tour.specs.Made.{is_in}
 use Rattle.master_tour.specs.declared.stop.Stop.{Stop}
 use Rattle.master_tour.specs.of_life_model.Lives.{Life}
-use Rattle.served_runs.specs.Served.{Keyed, Serves}
-use Rattle.served_runs.specs.Told.{Passed}
+use Rattle.life_runs.specs.Served.{Keyed, Serves}
+use Rattle.life_runs.specs.Told.{Passed}
 pub use Rattle.master_node.specs.Named.{IsHanded, IsNamed, StaysNamed, is_left}
 use Rattle.master_node.specs.Inhand.{HasInHand, WorkOf}
 use Rattle.master_node.specs.Serving.{waits_of}

@@ -5,8 +5,8 @@ use Rattle.master_duty.specs.of_exchange_model.Exchange.{Speech}
 use Rattle.master_duty.specs.of_exchange_model.Rows.{Row}
 use Rattle.master_duty.specs.of_segment_model.Ends.{Passing}
 use Rattle.master_duty.specs.of_segment_model.Seats.{Side}
-use Rattle.master_duty.specs.of_state_exchange.Stated.{Service}
-use Rattle.master_duty.specs.of_task_model.Accounts.{Duty, is_free, new_account}
+use Rattle.master_duty.specs.of_state_model.Stated.{Service}
+use Rattle.master_duty.specs.of_state_model.Accounts.{Duty, is_free, new_account}
 use Rattle.master_hand.specs.Spoken.{Asked, is_passed}
 use Rattle.master_side.specs.of_link_mails.Body.{Body}
 use Rattle.master_tour.specs.of_life_model.Lives

@@ -1,10 +1,10 @@
 -- THE PACKETS THAT SLAVES SEND, as a master joins them: what is unfinished of each, by the lives of the slaves, and what a frame that came back completed.
 use Rattle.std.specs.Prelude.{◌≡◌, ⊤, false, Option, None, List, [], ◌∷◌}
 use Rattle.eoe.specs.declared.joining.Unfinished.{Unfinished}
-use Rattle.served_runs.specs.of_life_runs.of_life_frames.Shares.{AllThree}
+use Rattle.life_runs.specs.of_frame_view.Shares.{AllThree}
 use Rattle.master_tour.specs.of_life_model.Lives.{Stand}
-use Rattle.served_runs.specs.of_life_runs.Led.{Leads, Turn}
-use Rattle.served_runs.specs.of_life_runs.Spans.{is_leaving}
+use Rattle.life_runs.specs.Led.{Leads, Turn}
+use Rattle.life_runs.specs.Spans.{is_leaving}
 use Rattle.master_side.specs.of_link_mails.Body.{Body}
 use Rattle.master_hand.specs.Joins.{unfinished_behind, Completes}
 use Rattle.master_hand.specs.declared.hand.InHand.{InHand}

@@ -1,18 +1,15 @@
-pub use Rattle.served_runs.specs as of_served_runs
+pub use Rattle.life_runs.specs as of_life_runs
 pub use Rattle.al_state.specs as of_al_state
 pub use Rattle.datagrams.specs as of_datagrams
-pub use Rattle.life_measure.specs as of_life_measure
-pub use Rattle.served_runs.specs.of_life_runs.of_frame_view as of_frame_view
-pub use Rattle.served_runs.specs.of_life_runs.of_life_frames as of_life_frames
-pub use Rattle.master_tour.specs.of_life_model as of_life_model
-pub use Rattle.served_runs.specs.of_life_runs as of_life_runs
+pub use Rattle.life_model.specs as of_life_model
+pub use Rattle.life_runs.specs.of_frame_view as of_frame_view
 pub use Rattle.master_duty.specs as of_master_duty
 pub use Rattle.master_hand.specs as of_master_hand
 pub use Rattle.master_side.specs as of_master_side
 pub use Rattle.master_tour.specs as of_master_tour
 pub use Rattle.master_duty.specs.of_segment_model as of_segment_model
-pub use Rattle.served_runs.specs.of_life_runs.of_segment_ring as of_segment_ring
-pub use Rattle.master_duty.specs.of_task_model as of_task_model
+pub use Rattle.life_runs.specs.of_segment_ring as of_segment_ring
+pub use Rattle.master_duty.specs.of_state_model as of_state_model
 pub mod Listed
 pub mod Numbered
 pub mod Lives

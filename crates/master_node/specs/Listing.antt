@@ -1,9 +1,9 @@
 -- WHICH SERVICES ARE LISTED AS BEGUN while a frame is made: just those that came into hand, each with where it comes from and its number there.
 use Rattle.std.specs.Prelude.{◌≡◌, ◌<◌, ℕ, zero, suc, Bool, true, false, if◌then◌else◌, Option, Some, None, List, [], ◌∷◌, ◌++◌}
 use Rattle.eoe_switch.specs.Switch.{Switched}
-use Rattle.served_runs.specs.of_life_runs.Led.{Leads, Turn}
+use Rattle.life_runs.specs.Led.{Leads, Turn}
 use Rattle.mailbox_mail.specs.declared.outcome.ReplyKind.{ReplyKind}
-use Rattle.master_duty.specs.of_state_exchange.Stated.{Service}
+use Rattle.master_duty.specs.of_state_model.Stated.{Service}
 use Rattle.master_hand.specs.Spoken.{Asked}
 use Rattle.master_tour.specs.Made.{is_in}
 use Rattle.master_tour.specs.Orders.{AreOnce}

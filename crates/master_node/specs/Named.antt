@@ -5,7 +5,7 @@ use Rattle.master_hand.specs.Spoken.{Asked}
 use Rattle.master_side.specs.of_link_mails.Body.{Body}
 use Rattle.master_tour.specs.of_life_model.Lives
 use Rattle.master_tour.specs.of_life_model.Lives.{Life}
-use Rattle.served_runs.specs.Told.{Passed}
+use Rattle.life_runs.specs.Told.{Passed}
 use Rattle.master_node.specs.declared.post.Work.{Work}
 
 -- THE MAIL IN HAND was asked under this key, and nothing else is in hand of its slave

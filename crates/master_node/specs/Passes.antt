@@ -1,12 +1,12 @@
 -- WHILE A FRAME OF A SERVING IS MADE: what may come into hand of a slave where mails wait, what was laid ready, and what each slave has of the frame.
 use Rattle.std.specs.Prelude.{◌≡◌, ◌≤◌, ◌<◌, ◌%◌, ℕ, zero, suc, true, false, Option, Some, None, List, [], ◌∷◌, map, length, drop, All, ⊤}
 use Rattle.std.specs.List.{list_any}
-use Rattle.counters_kept.specs.Lives.{LifeKept}
-use Rattle.served_runs.specs.of_life_runs.Led.{Leads}
-use Rattle.served_runs.specs.of_life_runs.of_frame_view.View.{Lens}
-use Rattle.served_runs.specs.of_life_runs.of_life_frames.Shares.{AllBoth}
+use Rattle.life_runs.specs.Lives.{LifeKept}
+use Rattle.life_runs.specs.Led.{Leads}
+use Rattle.life_runs.specs.of_frame_view.View.{Lens}
+use Rattle.life_runs.specs.of_frame_view.Shares.{AllBoth}
 use Rattle.master_duty.specs.Reply.{Reply}
-use Rattle.master_duty.specs.of_state_exchange.Stated as Stated
+use Rattle.master_duty.specs.of_state_model.Stated as Stated
 use Rattle.master_hand.specs.Laying.{Waiting, ready_of}
 use Rattle.master_hand.specs.Shown.{awaits_reply, knows}
 use Rattle.master_hand.specs.Spoken.{Asked, is_passed, passed}
@@ -24,8 +24,8 @@ use Rattle.master_tour.specs.declared.stop.Stop.{Stop}
 use Rattle.master_tour.specs.of_life_model.Lives
 use Rattle.master_tour.specs.of_life_model.Lives.{Life}
 use Rattle.segment_plan.specs.declared.service.Service.{Service}
-use Rattle.served_runs.specs.Served.{Keyed, Serves, ServedComes}
-use Rattle.served_runs.specs.Told.{Passed}
+use Rattle.life_runs.specs.Served.{Keyed, Serves, ServedComes}
+use Rattle.life_runs.specs.Told.{Passed}
 use Rattle.master_node.specs.Events.{served_tells}
 use Rattle.master_node.specs.Filling.{StopFills}
 use Rattle.master_node.specs.Handed.{IsHanding}

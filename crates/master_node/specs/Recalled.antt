@@ -1,9 +1,9 @@
 -- WHAT A FRAME THAT CAME BACK LEAVES TO REMEMBER of a slave's visits, by what was remembered before.
 use Rattle.std.specs.Prelude.{◌≡◌, ◌==◌, ℕ, Bool, true, false, Some, List, [], ◌∷◌, ⊤}
-use Rattle.life_measure.specs.Visits.{Visit}
-use Rattle.served_runs.specs.of_life_runs.of_frame_view.View.{Lens}
-use Rattle.served_runs.specs.of_life_runs.of_life_frames.Shares.{AllThree}
-use Rattle.served_runs.specs.of_life_runs.Led.{Turn, speech_at}
+use Rattle.life_model.specs.Visits.{Visit}
+use Rattle.life_runs.specs.of_frame_view.View.{Lens}
+use Rattle.life_runs.specs.of_frame_view.Shares.{AllThree}
+use Rattle.life_runs.specs.Led.{Turn, speech_at}
 use Rattle.master_duty.specs.of_segment_model.Slaves.{Datagram, Found}
 use Rattle.master_side.specs.Due.{EachDue}
 use Rattle.master_side.specs.Recall.{Recall}

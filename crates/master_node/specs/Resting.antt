@@ -1,13 +1,13 @@
 -- WHAT A MASTER WANTS NOTHING MORE OF, by the lives of its slaves and by what it has of them.
 use Rattle.std.specs.Prelude.{◌≡◌, ◌⊎◌, ℕ, suc, true, None, List, [], ◌∷◌, slice_get, ⊤}
-use Rattle.served_runs.specs.of_life_runs.of_frame_view.View.{Lens}
-use Rattle.served_runs.specs.of_life_runs.Led.{Leads, speech_at}
+use Rattle.life_runs.specs.of_frame_view.View.{Lens}
+use Rattle.life_runs.specs.Led.{Leads, speech_at}
 use Rattle.mailbox_master.specs.Any.{in_half_of}
 use Rattle.mailbox_master.specs.of_link_model.Master.{InState}
 use Rattle.master_duty.specs.Reply.{Reply}
 use Rattle.master_duty.specs.of_exchange_model.Exchange.{Speech}
 use Rattle.master_duty.specs.of_segment_model.Seats
-use Rattle.master_duty.specs.of_task_model.Accounts.{Account, is_free, is_acknowledged}
+use Rattle.master_duty.specs.of_state_model.Accounts.{Account, is_free, is_acknowledged}
 use Rattle.master_hand.specs.Shown.{Shows, knows}
 use Rattle.master_hand.specs.Spoken.{Asked, acknowledged}
 use Rattle.master_hand.specs.declared.hand.InHand.{InHand}

@@ -1,7 +1,7 @@
 -- WHETHER A FRAME HAS ROOM for the slaves of its visit: which it leaves out, and why.
 use Rattle.std.specs.Prelude.{◌≡◌, ◌≤◌, ◌+◌, ℕ, zero, suc, Bool, true, false, List, [], ◌∷◌, length, ⊤}
-use Rattle.served_runs.specs.of_life_runs.of_frame_view.View.{Lens}
-use Rattle.served_runs.specs.of_life_runs.Led.{Leads}
+use Rattle.life_runs.specs.of_frame_view.View.{Lens}
+use Rattle.life_runs.specs.Led.{Leads}
 use Rattle.master_hand.specs.declared.hand.InHand.{InHand}
 use Rattle.master_side.specs.Again.{HasNoRoom, area_of, larger}
 use Rattle.master_side.specs.declared.hand.Hand.{Ghosts}

@@ -1,2 +1,2 @@
 -- The script of a slave.
-pub use Rattle.served_runs.specs.of_life_runs.First.{script_for}
+pub use Rattle.life_runs.specs.First.{script_for}

@@ -1,10 +1,10 @@
 -- A MASTER LEADS THE LIVES OF ITS SLAVES ALSO WHILE MAILS ARE PASSED ON: what it has of each then, before a frame and while one is under way.
 use Rattle.std.specs.Prelude.{◌≡◌, ◌≤◌, ◌<◌, ◌+◌, ◌^◌, ℕ, zero, suc, true, None, List, [], ◌∷◌, map, length, All}
-use Rattle.counters_kept.specs.Lives.{LifeKept}
-use Rattle.served_runs.specs.of_life_runs.Led.{Leads, Turn, speech_at}
-use Rattle.served_runs.specs.of_life_runs.of_frame_view.View.{Lens}
-use Rattle.served_runs.specs.of_life_runs.of_frame_view.Seen.{seen}
-use Rattle.served_runs.specs.of_life_runs.of_life_frames.Shares.{AllBoth, AllThree, AreDistinct}
+use Rattle.life_runs.specs.Lives.{LifeKept}
+use Rattle.life_runs.specs.Led.{Leads, Turn, speech_at}
+use Rattle.life_runs.specs.of_frame_view.View.{Lens}
+use Rattle.life_runs.specs.of_frame_view.Seen.{seen}
+use Rattle.life_runs.specs.of_frame_view.Shares.{AllBoth, AllThree, AreDistinct}
 use Rattle.master_hand.specs.Shown.{awaits_reply, knows}
 use Rattle.master_hand.specs.declared.hand.InHand.{InHand}
 use Rattle.master_side.specs.declared.hand.Hand.{Ghosts}
@@ -15,7 +15,7 @@ use Rattle.master_tour.specs.Made.{is_in}
 use Rattle.master_tour.specs.Passing.{StandPassing}
 use Rattle.master_tour.specs.Stands.{StandUnder}
 use Rattle.master_tour.specs.declared.stop.Stop.{Stop}
-use Rattle.served_runs.specs.Served.{Keyed, Serves, ServedTurn}
+use Rattle.life_runs.specs.Served.{Keyed, Serves, ServedTurn}
 use Rattle.master_node.specs.Inhand.{HasInHand}
 use Rattle.master_node.specs.Named.{IsHanded}
 use Rattle.master_node.specs.Numbered.{IsNumbered}

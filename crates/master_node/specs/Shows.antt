@@ -1,11 +1,11 @@
 -- A MASTER LEADS THE LIVES OF ITS SLAVES: what it has of each, before a frame and while one is under way.
 use Rattle.std.specs.Prelude.{◌≡◌, ◌≤◌, ◌<◌, ℕ, Bool, true, false, None, List, [], ◌∷◌, map, length, All}
-use Rattle.served_runs.specs.of_life_runs.of_frame_view.View.{Lens}
-use Rattle.served_runs.specs.of_life_runs.of_frame_view.Seen.{seen}
-use Rattle.served_runs.specs.of_life_runs.of_life_frames.Shares.{Lived, AllBoth, AreDistinct}
+use Rattle.life_runs.specs.of_frame_view.View.{Lens}
+use Rattle.life_runs.specs.of_frame_view.Seen.{seen}
+use Rattle.life_runs.specs.of_frame_view.Shares.{Lived, AllBoth, AreDistinct}
 use Rattle.master_tour.specs.of_life_model.Lives
 use Rattle.master_tour.specs.of_life_model.Lives.{Spot}
-use Rattle.served_runs.specs.of_life_runs.Led.{Leads, Turn, speech_at}
+use Rattle.life_runs.specs.Led.{Leads, Turn, speech_at}
 use Rattle.master_side.specs.of_link_mails.Body.{Body}
 use Rattle.mailbox_master.specs.Any.{in_area_len}
 use Rattle.master_duty.specs.Reply.{Reply}
@@ -22,7 +22,7 @@ use Rattle.master_tour.specs.Stands.{StandUnder, is_opening}
 use Rattle.master_tour.specs.declared.stop.Stand.{Stand}
 use Rattle.master_tour.specs.declared.stop.Stop.{Stop}
 use Rattle.master_duty.specs.of_segment_model.Seats.{Side}
-use Rattle.master_duty.specs.of_task_model.Accounts.{Account}
+use Rattle.master_duty.specs.of_state_model.Accounts.{Account}
 use Rattle.master_node.specs.Rooms.{FitAgain, FitUnder}
 use Rattle.master_node.specs.declared.node.MasterNode.{MasterNode}
 use Rattle.master_node.specs.declared.post.Post.{Post}

@@ -1,13 +1,13 @@
 -- WHAT MAY BEGIN AT A VISIT BEGINS, and without a visit nothing does.
 use Rattle.std.specs.Prelude.{◌≡◌, ℕ, suc, true, false, Option, Some, None, List, [], ◌∷◌, slice_get, ⊤}
-use Rattle.served_runs.specs.of_life_runs.of_frame_view.View.{Lens}
-use Rattle.served_runs.specs.of_life_runs.of_life_frames.Shares.{AllFrom}
-use Rattle.served_runs.specs.of_life_runs.Led.{Leads, Turn}
+use Rattle.life_runs.specs.of_frame_view.View.{Lens}
+use Rattle.life_runs.specs.of_frame_view.Shares.{AllFrom}
+use Rattle.life_runs.specs.Led.{Leads, Turn}
 use Rattle.master_duty.specs.Reply.{Reply}
 use Rattle.master_duty.specs.of_exchange_model.Exchange.{Speech}
 use Rattle.master_duty.specs.of_segment_model.Seats
-use Rattle.master_duty.specs.of_state_exchange.Stated as Stated
-use Rattle.master_duty.specs.of_task_model.Accounts.{Account, is_free, is_acknowledged}
+use Rattle.master_duty.specs.of_state_model.Stated as Stated
+use Rattle.master_duty.specs.of_state_model.Accounts.{Account, is_free, is_acknowledged}
 use Rattle.master_hand.specs.Shown.{Shows, knows}
 use Rattle.master_hand.specs.Spoken.{Asked, acknowledged}
 use Rattle.master_hand.specs.Talk.{asked_of}
@@ -22,7 +22,7 @@ use Rattle.master_side.specs.of_link_mails.Body.{Body}
 use Rattle.master_tour.specs.Made.{is_in}
 use Rattle.master_tour.specs.declared.stop.Stop.{Stop}
 use Rattle.segment_plan.specs.declared.service.Service.{Service}
-use Rattle.served_runs.specs.Served.{Keyed}
+use Rattle.life_runs.specs.Served.{Keyed}
 use Rattle.segment_plan.specs.declared.service.Service.TheVariants.{State}
 use Rattle.master_node.specs.Begins.{begun_for}
 use Rattle.master_node.specs.Forwards.{forwarded}

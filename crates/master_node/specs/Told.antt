@@ -1,9 +1,9 @@
 -- WHAT A MASTER SAYS OF THE NEWEST SERVICE of a slave, by what it has of it.
 use Rattle.std.specs.Prelude.{◌≡◌, ℕ, Bool, true, false, Option, Some, None, List, [], ◌++◌, IfSome, slice_get}
 use Rattle.master_duty.specs.of_exchange_model.Rows.{Row}
-use Rattle.served_runs.specs.of_life_runs.of_frame_view.View.{Lens}
-use Rattle.served_runs.specs.of_life_runs.of_life_frames.Shares.{AllBoth, Lived}
-use Rattle.served_runs.specs.of_life_runs.Led.{Leads}
+use Rattle.life_runs.specs.of_frame_view.View.{Lens}
+use Rattle.life_runs.specs.of_frame_view.Shares.{AllBoth, Lived}
+use Rattle.life_runs.specs.Led.{Leads}
 use Rattle.master_tour.specs.of_life_model.Lives.{Stand}
 use Rattle.master_side.specs.of_link_mails.Body.{Body}
 use Rattle.master_duty.specs.Reply.{Reply}

@@ -1,7 +1,7 @@
 -- THE TOUR OF A MASTER: what its frames carry of the tour, and where that stands behind them.
 use Rattle.std.specs.Prelude.{◌≡◌, ◌≤◌, ℕ, Bool, true, false, Option, Some, None, List, [], ◌++◌, length}
-use Rattle.served_runs.specs.of_life_runs.of_life_frames.Frames.{Share}
-use Rattle.served_runs.specs.of_life_runs.Led.{Turn}
+use Rattle.life_runs.specs.of_frame_view.Frames.{Share}
+use Rattle.life_runs.specs.Led.{Turn}
 use Rattle.master_hand.specs.declared.hand.InHand.{InHand}
 use Rattle.master_side.specs.declared.hand.Hand.{Ghosts}
 use Rattle.master_tour.specs.Goes.{is_live, holds_at}

@@ -1,11 +1,11 @@
 -- A FRAME OF A SERVING IS A VISIT OF ITS MASTER'S TOUR.
 use Rattle.std.specs.Prelude.{◌≡◌, ℕ, List, map, length}
-use Rattle.served_runs.specs.of_life_runs.of_frame_view.Seen.{seen}
-use Rattle.served_runs.specs.of_life_runs.of_frame_view.View.{Lens}
+use Rattle.life_runs.specs.of_frame_view.Seen.{seen}
+use Rattle.life_runs.specs.of_frame_view.View.{Lens}
 use Rattle.master_tour.specs.Goes.{holds_at}
 use Rattle.master_tour.specs.Sizes.{frame_size}
 use Rattle.master_tour.specs.Toured.{IsOfTour}
-use Rattle.served_runs.specs.Served.{Serves, ServedTurn}
+use Rattle.life_runs.specs.Served.{Serves, ServedTurn}
 use Rattle.master_node.specs.Asks.{AllAsk}
 use Rattle.master_node.specs.Begins.{PacketsBegin}
 use Rattle.master_node.specs.Eager.{AllTakeUp, recalls}

@@ -2,9 +2,9 @@
 use Rattle.std.specs.Prelude.{◌≡◌, ◌⊎◌, ◌≤◌, ℕ, suc, ◌-◌, Bool, true, false, nat_lt, nat_le, Option, None, IfSome, List, [], ◌∷◌, length, slice_get, ⊤}
 use Rattle.std.specs.List.{list_any}
 use Rattle.master_duty.specs.of_exchange_model.Exchange.{Speech}
-use Rattle.served_runs.specs.of_life_runs.of_frame_view.View.{Lens}
+use Rattle.life_runs.specs.of_frame_view.View.{Lens}
 use Rattle.master_tour.specs.of_life_model.Lives
-use Rattle.served_runs.specs.of_life_runs.Led.{Leads, speech_at}
+use Rattle.life_runs.specs.Led.{Leads, speech_at}
 use Rattle.master_side.specs.of_link_mails.Body.{Body}
 use Rattle.mailbox_master.specs.of_link_model.Master.{InState}
 use Rattle.mailbox_master.specs.Any.{in_half_of}
@@ -21,8 +21,8 @@ use Rattle.master_tour.specs.Goes.{holds_at, is_live}
 use Rattle.master_tour.specs.declared.stop.Stand.{Stand}
 use Rattle.master_duty.specs.of_segment_model.Laws.{WantsNothing}
 use Rattle.master_duty.specs.of_segment_model.Seats
-use Rattle.master_duty.specs.of_task_model.Accounts.{Account, is_free}
-use Rattle.served_runs.specs.Served.{Serves}
+use Rattle.master_duty.specs.of_state_model.Accounts.{Account, is_free}
+use Rattle.life_runs.specs.Served.{Serves}
 use Rattle.master_node.specs.Forwards.{forwarded}
 use Rattle.master_node.specs.Lives.{waiting_at}
 use Rattle.master_node.specs.Shows.{WaitsNone}

@@ -36,7 +36,7 @@ fn packet_of(side: &Side<InHand>) -> Option<&Packet>
 impl MasterNode {
     ghost use Rattle.std.specs.Prelude.{◌≡◌, ◌<◌, ℕ, List, Option, IfSome, slice_get, vec_len, option_map};
     ghost use Rattle.eoe.specs.declared.joining.Unfinished.{Unfinished};
-    ghost use Rattle.served_runs.specs.of_life_runs.Led.{Turn};
+    ghost use Rattle.life_runs.specs.Led.{Turn};
     ghost use Rattle.master_side.specs.of_link_mails.Body.{Body};
     ghost use Rattle.master_duty.specs.of_segment_model.Slaves.{Datagram};
     ghost use Rattle.master_hand.specs.Brings.{as_list, emergencies_in};

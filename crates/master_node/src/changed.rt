@@ -5,7 +5,7 @@ ghost use Rattle.master_duty.specs.Reply.{Reply};
 ghost use Rattle.master_hand.specs.Spoken.{Asked};
 ghost use Rattle.master_side.specs.Carried.{in_hand};
 ghost use Rattle.master_side.specs.Shown.{DutyShows, OverShows};
-ghost use Rattle.master_duty.specs.of_task_model.Accounts.{Account};
+ghost use Rattle.master_duty.specs.of_state_model.Accounts.{Account};
 ghost use Rattle.master_node.specs.Changed.{TellsChange};
 
 use crate::node::MasterNode;
@@ -38,9 +38,9 @@ fn changed_by(duty: Option<Met>) -> Changed
 
 impl MasterNode {
     ghost use Rattle.std.specs.Prelude.{◌≡◌, ◌<◌, ℕ, List, IfSome, slice_get, vec_len};
-    ghost use Rattle.served_runs.specs.of_life_runs.of_frame_view.View.{Lens};
+    ghost use Rattle.life_runs.specs.of_frame_view.View.{Lens};
     ghost use Rattle.master_tour.specs.of_life_model.Lives.{Stand};
-    ghost use Rattle.served_runs.specs.of_life_runs.Led.{Leads};
+    ghost use Rattle.life_runs.specs.Led.{Leads};
     ghost use Rattle.master_node.specs.Told.{HasLeads};
 
     /// What became of the newest change of state of a slave that is open. It stays until the next comes into hand, or the slave is opened

@@ -41,17 +41,15 @@ pub struct MasterNode {
 }
 
 impl MasterNode {
-    ghost use Rattle.master_node.specs.Entering.{IsIdle};
-    ghost use Rattle.std.specs.Prelude.{◌≡◌, ◌<◌, ◌≤◌, ◌^◌, suc, ℕ, List, true, false, vec_len, length};
+    ghost use Rattle.master_node.specs.Entering.{IsIdle, AllStopsRest, EntersFirst, HostMayEnter};
+    ghost use Rattle.std.specs.Prelude.{◌≡◌, ◌<◌, ◌≤◌, ◌^◌, suc, ℕ, List, true, false, vec_len, length, ◌↔◌, All, IfSome, Some, slice_get, ◌⊎◌, ◌+◌, [], nat_lt, map, take, if◌then◌else◌, None};
     ghost use Rattle.datagrams.specs.Datagram as Raw;
     ghost use Rattle.datagrams.specs.Frame.{IsBegun};
-    ghost use Rattle.std.specs.Prelude.{◌↔◌};
     ghost use Rattle.master_node.specs.Listed.{listed, listed_last};
     ghost use Rattle.master_node.specs.Lives.{holds_at, waiting_at};
     ghost use Rattle.master_tour.specs.Goes.{is_live};
     ghost use Rattle.std.specs.List.{list_any};
     ghost use Rattle.master_node.specs.declared.node.Next.{Next};
-    ghost use Rattle.std.specs.Prelude.{All, IfSome, Some, slice_get};
     ghost use Rattle.master_tour.specs.Walks.{StepsAt};
     ghost use Rattle.master_node.specs.declared.coming.Coming.{Coming};
     ghost use Rattle.master_node.specs.Appends.{AppendsMail};
@@ -61,22 +59,19 @@ impl MasterNode {
     ghost use Rattle.master_node.specs.ServedEager.{AllServedBegin};
     ghost use Rattle.master_node.specs.Touring.{IsServedVisit};
     ghost use Rattle.master_node.specs.Handed.{work_from};
-    ghost use Rattle.served_runs.specs.Served.{Keyed, Serves, ServedTurn, IsServedFrame, MayAsk, asked_at};
-    ghost use Rattle.master_node.specs.Shows.{WaitsNone};
+    ghost use Rattle.life_runs.specs.Served.{Keyed, Serves, ServedTurn, IsServedFrame, MayAsk, asked_at};
+    ghost use Rattle.master_node.specs.Shows.{WaitsNone, GoesOn, lived_of, MasterShows, MasterUnder, is_live_lead};
     ghost use Rattle.master_node.specs.Kept.{TourKept, TourOn};
     ghost use Rattle.master_node.specs.Coming.{PassesBy, CameBy};
-    ghost use Rattle.std.specs.Prelude.{◌⊎◌, ◌+◌, [], nat_lt, map, take, if◌then◌else◌};
-    ghost use Rattle.served_runs.specs.of_life_runs.of_frame_view.View.{Lens};
-    ghost use Rattle.served_runs.specs.of_life_runs.of_frame_view.Seen.{seen};
-    ghost use Rattle.served_runs.specs.of_life_runs.of_life_frames.Shares.{AreDistinct};
-    ghost use Rattle.served_runs.specs.of_life_runs.Led.{Leads, Turn, IsLedFrame};
+    ghost use Rattle.life_runs.specs.of_frame_view.View.{Lens};
+    ghost use Rattle.life_runs.specs.of_frame_view.Seen.{seen};
+    ghost use Rattle.life_runs.specs.of_frame_view.Shares.{AreDistinct};
+    ghost use Rattle.life_runs.specs.Led.{Leads, Turn, IsLedFrame};
     ghost use Rattle.master_tour.specs.Made.{is_in};
     ghost use Rattle.master_tour.specs.Orders.{IsCarried};
-    ghost use Rattle.master_node.specs.Shows.{GoesOn, lived_of, MasterShows, MasterUnder};
     ghost use Rattle.master_node.specs.Filling.{IsFilling, IsEmpty, IsFilled};
     ghost use Rattle.master_node.specs.Joined.{JoinsKept};
     ghost use Rattle.master_tour.specs.Toured.{IsOfTour};
-    ghost use Rattle.master_node.specs.Shows.{is_live_lead};
     ghost use Rattle.master_side.specs.Again.{HasNoRoom};
     ghost use Rattle.master_tour.specs.Sizes.{frame_size};
     ghost use Rattle.master_node.specs.Rooms.{FitAgain, SendsSame, Takes, area_at, area_in};
@@ -84,10 +79,8 @@ impl MasterNode {
     ghost use Rattle.master_node.specs.Eager.{AllTakeUp, AllVisit, EagerFrom, EagerOn, recalls};
     ghost use Rattle.master_node.specs.Starts.{AllBegin, AllUnvisited};
     ghost use Rattle.master_tour.specs.declared.stop.Stand.{Stand};
-    ghost use Rattle.std.specs.Prelude.{None};
     ghost use Rattle.master_node.specs.Toured.{StaysPut, TakesPart, IsBare, HasVisited, stop_share, turn_share, tour_of};
     ghost use Rattle.master_node.specs.Happened.{Happens, HappensSo};
-    ghost use Rattle.master_node.specs.Entering.{AllStopsRest, EntersFirst, HostMayEnter};
     ghost use Rattle.master_node.specs.Made.{Makes, AreOfMaking};
     ghost use Rattle.master_node.specs.Resting.{AllRest, StopRests};
     ghost use Rattle.master_node.specs.Listing.{Before, IsUnlisted, ListsOne, ServicesBegin, events_before, events_in, where_began};

@@ -26,9 +26,9 @@ fn is_up(stand: Stand) -> bool
 
 impl MasterNode {
     ghost use Rattle.std.specs.Prelude.{◌≡◌, ◌<◌, ℕ, List, IfSome, slice_get, vec_len};
-    ghost use Rattle.served_runs.specs.of_life_runs.of_frame_view.View.{Lens};
-    ghost use Rattle.served_runs.specs.of_life_runs.Spans.{is_leaving, is_open};
-    ghost use Rattle.served_runs.specs.of_life_runs.Led.{Leads};
+    ghost use Rattle.life_runs.specs.of_frame_view.View.{Lens};
+    ghost use Rattle.life_runs.specs.Spans.{is_leaving, is_open};
+    ghost use Rattle.life_runs.specs.Led.{Leads};
     ghost use Rattle.master_node.specs.Told.{HasLeads};
 
     /// Whether a slave is to be returned to Init: it is opened anew, and wasn't seen in Init yet.

@@ -1,7 +1,7 @@
 //! A master before its first frame.
 
 ghost use Rattle.std.specs.Prelude.{◌≡◌, ◌≤◌, ◌<◌, length, map, replicate, vec_len, false, All, IfOk, None};
-ghost use Rattle.served_runs.specs.of_life_runs.of_life_frames.Shares.{AllBoth, AllFrom};
+ghost use Rattle.life_runs.specs.of_frame_view.Shares.{AllBoth, AllFrom};
 ghost use Rattle.master_node.specs.Serving.{IsPaced};
 ghost use Rattle.master_node.specs.Lives.{waiting_of};
 ghost use Rattle.segment_plan.specs.Sound.{IsPlan, IsSlave, IsPace};
@@ -129,20 +129,17 @@ fn tour_of(alloc: Global, plan: &Scenario) -> Result<Tour<InHand>, NoMemory>
 }
 
 impl MasterNode {
-    ghost use Rattle.std.specs.Prelude.{◌≡◌, length, map, replicate, vec_len, IfOk};
-    ghost use Rattle.std.specs.Prelude.{ℕ};
+    ghost use Rattle.std.specs.Prelude.{◌≡◌, length, map, replicate, vec_len, IfOk, ℕ, None, []};
     ghost use Rattle.master_node.specs.Lives.{waiting_of};
     ghost use Rattle.master_node.specs.Origins.{forwards_at};
     ghost use Rattle.master_node.specs.Answered.{answer_at};
     ghost use Rattle.segment_plan.specs.Sound.{IsPlan};
-    ghost use Rattle.served_runs.specs.of_life_runs.First.{lens_of, first_leads};
+    ghost use Rattle.life_runs.specs.First.{lens_of, first_leads};
     ghost use Rattle.master_node.specs.Shows.{MasterShows};
     ghost use Rattle.master_node.specs.Serving.{ServedShows};
-    ghost use Rattle.served_runs.specs.Served.{all_serve};
-    ghost use Rattle.std.specs.Prelude.{None};
+    ghost use Rattle.life_runs.specs.Served.{all_serve};
     ghost use Rattle.master_node.specs.Joined.{HasUnfinished, stand_before};
     ghost use Rattle.eoe_switch.specs.Switch.{first_switch};
-    ghost use Rattle.std.specs.Prelude.{[]};
     ghost use Rattle.master_node.specs.Happened.{HasHappened};
     ghost use Rattle.master_node.specs.Ports.{ports_of, ports_behind};
     ghost use Rattle.master_tour.specs.Toured.{new_tour};

@@ -21,23 +21,23 @@ fn is_given_up(news: Option<Turned>) -> bool
 }
 
 impl MasterNode {
-    ghost use Rattle.std.specs.Prelude.{◌≡◌, ◌<◌, ◌≤◌, ◌&&◌, not, ℕ, Option, List, map, length, slice_get};
+    ghost use Rattle.std.specs.Prelude.{◌≡◌, ◌<◌, ◌≤◌, ◌&&◌, not, ℕ, Option, List, map, length, slice_get, ◌∷◌, suc, [], ◌++◌, take, true, Some, None};
     ghost use Rattle.master_tour.specs.Goes.{is_live, holds_at};
     ghost use Rattle.master_node.specs.Arrivals.{arrive_by, arrivals_in, packets_of, kept_at, heard_at, completed_at, ComeIn};
     ghost use Rattle.master_node.specs.Downs.{Lists, down_by, downs_in, is_given_up, gives_at, GoDown};
     ghost use Rattle.master_node.specs.Forwards.{port_by};
     ghost use Rattle.eoe.specs.declared.joining.Unfinished.{Unfinished};
-    ghost use Rattle.served_runs.specs.of_life_runs.of_frame_view.View.{Lens};
-    ghost use Rattle.served_runs.specs.of_life_runs.of_frame_view.Seen.{seen};
+    ghost use Rattle.life_runs.specs.of_frame_view.View.{Lens};
+    ghost use Rattle.life_runs.specs.of_frame_view.Seen.{seen};
     ghost use Rattle.master_duty.specs.of_segment_model.Returned.{Returns};
-    ghost use Rattle.served_runs.specs.of_life_runs.of_segment_ring.declared.wire.Fate.{Fate};
-    ghost use Rattle.served_runs.specs.of_life_runs.Led.{Leads, Turn, Exchanged, led_behind, gives_up_at, missed_behind};
+    ghost use Rattle.life_runs.specs.of_segment_ring.declared.wire.Fate.{Fate};
+    ghost use Rattle.life_runs.specs.Led.{Leads, Turn, Exchanged, led_behind, gives_up_at, missed_behind};
     ghost use Rattle.master_node.specs.Brought.{HasBrought};
     ghost use Rattle.master_node.specs.Joined.{HasUnfinished, HasCompleted, stand_before, stand_under, unfinished_after, mails_back, mails_lost};
     ghost use Rattle.master_node.specs.Kept.{NodeKept};
     ghost use Rattle.master_node.specs.Origins.{forwards_at};
     ghost use Rattle.master_node.specs.Happened.{Happens, HappensSo};
-    ghost use Rattle.master_node.specs.Shows.{IsUnderWay, MasterShows, MasterUnder};
+    ghost use Rattle.master_node.specs.Shows.{IsUnderWay, MasterShows, MasterUnder, is_opening_lead, lived_of};
     ghost use Rattle.master_node.specs.Serving.{TellsOnly, ServedShows, ServedUnder, mails_in, run_lead, run_turn};
     ghost use Rattle.master_node.specs.Dropped.{Drops, gave_at};
     ghost use Rattle.master_node.specs.Besides.{DoesAt, DoesSo, HasBack, TellsAll, accepted_does, answers, back_does, back_told, complete_does, emitted_does, given_at, handed_does, heard_does, is_state, met_does, over_does, passed_does, replied_does, turned_does};
@@ -50,14 +50,10 @@ impl MasterNode {
     ghost use Rattle.master_node.specs.Handed.{DropsWork, EndsWork, NonePassed, passing_at, work_at};
     ghost use Rattle.master_node.specs.declared.post.Work.{Work};
     ghost use Rattle.master_tour.specs.Walks.{StepsAt};
-    ghost use Rattle.std.specs.Prelude.{◌∷◌};
-    ghost use Rattle.served_runs.specs.Served.{ServedTurn, served_behind};
-    ghost use Rattle.std.specs.Prelude.{suc};
+    ghost use Rattle.life_runs.specs.Served.{ServedTurn, served_behind};
     ghost use Rattle.master_tour.specs.Toured.{goes_on, lost_on};
-    ghost use Rattle.master_node.specs.Shows.{is_opening_lead, lived_of};
     ghost use Rattle.master_node.specs.Told.{HasLives};
     ghost use Rattle.master_node.specs.Toured.{tour_of};
-    ghost use Rattle.std.specs.Prelude.{[], ◌++◌, take, true, Some, None};
     ghost use Rattle.master_node.specs.Answered.{AnswersSo};
     ghost use Rattle.master_node.specs.Eager.{AllVisit, recalls};
     ghost use Rattle.master_node.specs.Recalled.{AllRecall};

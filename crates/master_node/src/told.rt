@@ -59,12 +59,11 @@ fn has_value(answer: Option<ReplyKind>) -> bool
 }
 
 impl MasterNode {
-    ghost use Rattle.std.specs.Prelude.{◌≡◌, ◌<◌, ℕ, List, IfOk, IfSome, is_some, slice_get, vec_len};
-    ghost use Rattle.served_runs.specs.of_life_runs.of_frame_view.View.{Lens};
+    ghost use Rattle.std.specs.Prelude.{◌≡◌, ◌<◌, ℕ, List, IfOk, IfSome, is_some, slice_get, vec_len, false, OnOk, OnErr};
+    ghost use Rattle.life_runs.specs.of_frame_view.View.{Lens};
     ghost use Rattle.master_tour.specs.of_life_model.Lives.{Stand};
-    ghost use Rattle.served_runs.specs.of_life_runs.Led.{Leads};
+    ghost use Rattle.life_runs.specs.Led.{Leads};
     ghost use Rattle.master_node.specs.Told.{AppendsValue, HasLeads, Tells, answer_at, has_value};
-    ghost use Rattle.std.specs.Prelude.{false, OnOk, OnErr};
 
     /// How many scripted services of a slave came into hand.
     pub fn scripted(&self, slave: u32) -> u32

@@ -1,10 +1,9 @@
 //! What the master still wants of its slaves, and how often each was given up.
 
-ghost use Rattle.std.specs.Prelude.{◌≡◌, ◌<◌, None, vec_len};
+ghost use Rattle.std.specs.Prelude.{◌≡◌, ◌<◌, None, vec_len, true, false};
 ghost use Rattle.std.specs.Bool.{OnTrue, OnFalse};
 ghost use Rattle.mailbox_master.specs.of_link_model.Master.{InState};
 ghost use Rattle.mailbox_master.specs.Any.{in_half_of};
-ghost use Rattle.std.specs.Prelude.{true, false};
 ghost use Rattle.master_node.specs.Resting.{SideRests};
 ghost use Rattle.master_node.specs.Wants.{IsQuiet, gave_more};
 
@@ -49,26 +48,23 @@ fn gave_more(stand: Stand, spare: u32, recover: u32, times: usize) -> bool
 }
 
 impl MasterNode {
-    ghost use Rattle.std.specs.Prelude.{◌≡◌, ◌<◌, ℕ, List, All, IfSome, true, nat_lt, length, map, slice_get, vec_len};
+    ghost use Rattle.std.specs.Prelude.{◌≡◌, ◌<◌, ℕ, List, All, IfSome, true, nat_lt, length, map, slice_get, vec_len, [], false, ◌&&◌};
     ghost use Rattle.std.specs.Bool.{OnTrue, OnFalse};
     ghost use Rattle.std.specs.List.{list_any};
-    ghost use Rattle.served_runs.specs.of_life_runs.of_frame_view.View.{Lens};
-    ghost use Rattle.served_runs.specs.of_life_runs.Led.{Leads};
+    ghost use Rattle.life_runs.specs.of_frame_view.View.{Lens};
+    ghost use Rattle.life_runs.specs.Led.{Leads};
     ghost use Rattle.master_tour.specs.Goes.{is_live, holds_at};
-    ghost use Rattle.master_node.specs.Shows.{MasterShows, lived_of};
+    ghost use Rattle.master_node.specs.Shows.{MasterShows, lived_of, WaitsNone};
     ghost use Rattle.master_node.specs.Told.{HasLives};
-    ghost use Rattle.std.specs.Prelude.{[], false, ◌&&◌};
     ghost use Rattle.master_tour.specs.declared.stop.Stand.{Stand};
     ghost use Rattle.master_node.specs.Entering.{IsIdle};
     ghost use Rattle.master_node.specs.Passes.{waits_in};
-    ghost use Rattle.master_node.specs.Serving.{mails_in};
+    ghost use Rattle.master_node.specs.Serving.{mails_in, ServedShows, run_lead};
     ghost use Rattle.master_node.specs.Eager.{recalls};
     ghost use Rattle.master_node.specs.Forwards.{forwarded};
     ghost use Rattle.master_node.specs.Resting.{AllRest, StopRests};
-    ghost use Rattle.master_node.specs.Serving.{ServedShows, run_lead};
-    ghost use Rattle.master_node.specs.Shows.{WaitsNone};
     ghost use Rattle.master_node.specs.Wants.{gave_of, IsCounted, AllPlaced, AllLeft, IsQuietBy, IsServedOut, MaillessAt, NoneToCome, NoneWaiting};
-    ghost use Rattle.served_runs.specs.Served.{Serves};
+    ghost use Rattle.life_runs.specs.Served.{Serves};
 
     // Whether a packet or a mail waits for a slave.
     fn has_waiting(&self, place: usize) -> bool

@@ -1,9 +1,8 @@
 -- A slave's own datagram, lost or back.
 use Rattle.std.proofs.lemmas.Bool.{eqb-true}
 use Rattle.std.proofs.lemmas.List.{length-take}
-use Rattle.std.proofs.Common.{◌≡◌, ◌≢◌, ◌≤◌, ◌-◌, ℕ, ◌==◌, List, [], ◌++◌, Bool, true, false, Option, Some, None, refl, sym, ap, ◌∙◌, subst, append-nil, eq-eqb, take, drop, length, arith}
+use Rattle.std.proofs.Common.{◌≡◌, ◌≢◌, ◌≤◌, ◌-◌, ℕ, ◌==◌, List, [], ◌++◌, Bool, true, false, Option, Some, None, refl, sym, ap, ◌∙◌, subst, append-nil, eq-eqb, take, drop, length, arith, inl, inr}
 use Rattle.std.specs.Prelude.{◌&&◌, ◌||◌, not, if◌then◌else◌, option_map, ◌⊎◌, Result, Ok, Err, IfSome, nat_lt, ⊤}
-use Rattle.std.proofs.Common.{inl, inr}
 use Rattle.mailbox_mail.specs.declared.mail.Mail.{Mail}
 use Rattle.mailbox_mail.specs.declared.mail.MailFault.{MailFault}
 use Rattle.mailbox_mail.specs.declared.mail.MailFault.TheVariants.{Short, LengthPastArea}
@@ -16,17 +15,17 @@ use Rattle.frame_view.specs.of_exchange_model.Rows.{Row, row_heard}
 use Rattle.frame_view.specs.of_link_mails.Body.{Body, link_mail, mail_brought}
 use Rattle.frame_view.specs.of_link_model.Mails.{LinkMail, news}
 use Rattle.frame_view.specs.of_link_model.Counters.{repeats}
-use Rattle.frame_view.specs.of_link_model.Master.{InHalf, InState, in_lost, out_answered}
+use Rattle.frame_view.specs.of_link_model.Master.{InHalf, InState, in_lost, out_answered, read_answered, doubt_answered, asked_answered}
 use Rattle.frame_view.specs.of_link_model.Link.{Halves}
-use Rattle.frame_view.specs.of_link_model.Frames.{Ask, Gram, in_ask, halves_answered, halves_accept, halves_lost, all_accepted}
-use Rattle.frame_view.specs.of_segment_model.Slaves.{Datagram, grams}
+use Rattle.frame_view.specs.of_link_model.Frames.{Ask, Gram, in_ask, halves_answered, halves_accept, halves_lost, all_accepted, mail_back}
+use Rattle.frame_view.specs.of_segment_model.Slaves.{Datagram, grams, Address, Access, Found}
 use Rattle.frame_view.specs.of_segment_model.Seats.{Side, is_write, side_lost, side_back}
-use Rattle.master_duty.specs.of_task_model.Accounts.{Account}
+use Rattle.master_duty.specs.of_state_model.Accounts.{Account, account_back, account_met, account_by, access_done, duty_access}
 use Rattle.mailbox_master.specs.Links.{OutLink}
 use Rattle.mailbox_master.specs.Seat.{seat_half, got_seen}
 use Rattle.mailbox_master.specs.declared.seat.GotView.{GotView}
 use Rattle.mailbox_master.specs.declared.halves.InwardHalf.{InwardHalf}
-use Rattle.mailbox_master.specs.Any.{in_half_of, out_returned}
+use Rattle.mailbox_master.specs.Any.{in_half_of, out_returned, in_returned, in_got}
 use Rattle.master_duty.specs.declared.duty.Duty.{Duty}
 use Rattle.master_side.specs.declared.carried.Carried.{Carried}
 use Rattle.frame_view.specs.of_exchange_model.Exchange.{Speech}
@@ -37,19 +36,14 @@ use Rattle.frame_view.specs.View.{link_counter, register_counter, link_mail_in, 
 use Rattle.master_duty.specs.declared.stage.Met.{Met}
 use Rattle.master_duty.specs.Stages.{stage_of}
 use Rattle.master_duty.specs.Mets.{progress_of, KeepsTarget}
-use Rattle.frame_view.specs.of_segment_model.Slaves.{Address, Access, Found}
 use Rattle.frame_view.specs.of_segment_model.Ends.{Outcome}
 use Rattle.frame_view.specs.of_segment_model.Record.{is_for}
-use Rattle.master_duty.specs.of_task_model.Accounts as Tasks
-use Rattle.master_duty.specs.of_task_model.Accounts.{account_back, account_met, account_by, access_done, duty_access}
+use Rattle.master_duty.specs.of_state_model.Accounts as Tasks
 use Rattle.master_side.specs.Heard.{view_in, heard_of}
-use Rattle.mailbox_master.specs.Any.{in_returned, in_got}
 use Rattle.mailbox_master.specs.Next.{got_by, got_of, accepted_by}
 use Rattle.mailbox_master.specs.declared.inward.Got.TheVariants.{Mail as GotMail, Repeat, Empty}
 use Rattle.mailbox_master.specs.declared.inward.Got.{Got}
 use Rattle.mailbox_master.proofs.Agreement.{got_by-accepts}
-use Rattle.frame_view.specs.of_link_model.Master.{read_answered, doubt_answered, asked_answered}
-use Rattle.frame_view.specs.of_link_model.Frames.{mail_back}
 
 abbrev Rows : Type 0 → Type 0
 Rows Q = Option (Row Body Q Reply)

@@ -10,9 +10,9 @@ use Rattle.frame_view.specs.of_link_model.Master.{out_hold}
 use Rattle.frame_view.specs.of_link_model.Link.{Halves}
 use Rattle.frame_view.specs.of_segment_model.Seats
 use Rattle.frame_view.specs.of_segment_model.Seats.{Side, next_mail, side_holds}
-use Rattle.master_duty.specs.of_state_exchange.Stated.{Service}
-use Rattle.master_duty.specs.of_task_model.Accounts
-use Rattle.master_duty.specs.of_task_model.Accounts.{Account, is_free, is_acknowledged, mails_begin, account_begins, starts, state_begins}
+use Rattle.master_duty.specs.of_state_model.Stated.{Service}
+use Rattle.master_duty.specs.of_state_model.Accounts
+use Rattle.master_duty.specs.of_state_model.Accounts.{Account, is_free, is_acknowledged, mails_begin, account_begins, starts, state_begins}
 use Rattle.mailbox_master.specs.declared.halves.InwardHalf.{InwardHalf}
 use Rattle.mailbox_master.specs.Links.{OutLink}
 use Rattle.mailbox_master.specs.Any.{in_half_of, out_held}

@@ -15,8 +15,8 @@ use Rattle.frame_view.specs.of_link_model.Link.{Halves}
 use Rattle.frame_view.specs.of_link_model.Frames.{Ask, in_ask}
 use Rattle.frame_view.specs.of_segment_model.Slaves as Slaves
 use Rattle.frame_view.specs.of_segment_model.Slaves.{Access, Datagram}
-use Rattle.master_duty.specs.of_task_model.Accounts
-use Rattle.master_duty.specs.of_task_model.Accounts.{duty_access, stage_access}
+use Rattle.master_duty.specs.of_state_model.Accounts
+use Rattle.master_duty.specs.of_state_model.Accounts.{duty_access, stage_access}
 use Rattle.frame_view.specs.View.{Lens, datagram_seen}
 use Rattle.mailbox_master.specs.declared.halves.InwardHalf.{InwardHalf}
 use Rattle.mailbox_master.specs.declared.halves.InwardHalf.TheVariants.{Clear, Doubt, Asked, Refetch}

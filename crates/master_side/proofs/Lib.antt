@@ -6,3 +6,5 @@ pub mod Passings
 pub mod Tellings
 pub mod Recalls
 pub mod First
+pub mod Kepts
+pub mod Counts

@@ -19,7 +19,7 @@ use Rattle.mailbox_master.specs.Any.{in_got}
 use Rattle.mailbox_master.specs.Seat.{got_seen}
 use Rattle.mailbox_master.specs.declared.seat.GotView.{GotView}
 use Rattle.master_duty.specs.Reply.{Reply}
-use Rattle.master_duty.specs.of_task_model.Accounts.{Account, duty_access}
+use Rattle.master_duty.specs.of_state_model.Accounts.{Account, duty_access}
 use Rattle.master_side.specs.declared.carried.Carried.{Carried}
 use Rattle.master_side.specs.declared.passing.Passing.{Passing}
 use Rattle.master_side.specs.Carried.{Asks, Meant, IsBack, one, is_read, is_errand}

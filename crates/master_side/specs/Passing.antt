@@ -10,7 +10,7 @@ use Rattle.frame_view.specs.of_segment_model.Record.{News, Kept, frame_news, wit
 use Rattle.frame_view.specs.of_segment_model.Seats.{Side}
 use Rattle.frame_view.specs.of_segment_model.Slaves.{Datagram}
 use Rattle.master_duty.specs.Reply.{Reply}
-use Rattle.master_duty.specs.of_state_exchange.Stated.{Service}
+use Rattle.master_duty.specs.of_state_model.Stated.{Service}
 use Rattle.master_side.specs.declared.passing.Passing.{Passing}
 use Rattle.master_side.specs.declared.hand.Heard.{Heard}
 use Rattle.master_side.specs.declared.carried.Carried.{Carried}

@@ -11,7 +11,7 @@ use Rattle.life_model.specs.Lives.{passes}
 use Rattle.mailbox_mail.specs.declared.mail.MailView.{MailView}
 use Rattle.mailbox_master.specs.Any.{in_half_of}
 use Rattle.master_duty.specs.Reply.{Reply}
-use Rattle.master_duty.specs.of_task_model.Accounts.{duty_access, account_back}
+use Rattle.master_duty.specs.of_state_model.Accounts.{duty_access, account_back}
 use Rattle.master_side.specs.Carried.{Meant, IsBack, one, paused_after, turn_after}
 use Rattle.master_side.specs.Due.{EachDue}
 use Rattle.master_side.specs.Heard.{heard_of, Brought, HasJoined}

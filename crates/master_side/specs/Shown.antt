@@ -8,9 +8,9 @@ use Rattle.frame_view.specs.of_exchange_model.Rows.{Row}
 use Rattle.frame_view.specs.of_segment_model.Ends.{Outcome}
 use Rattle.frame_view.specs.of_segment_model.Seats
 use Rattle.frame_view.specs.of_segment_model.Seats.{Side, next_mail, side_holds, side_next}
-use Rattle.master_duty.specs.of_state_exchange.Stated.{Service}
-use Rattle.master_duty.specs.of_task_model.Accounts
-use Rattle.master_duty.specs.of_task_model.Accounts.{Account, Started, mails_choice, mails_begin, account_begins, account_next}
+use Rattle.master_duty.specs.of_state_model.Stated.{Service}
+use Rattle.master_duty.specs.of_state_model.Accounts
+use Rattle.master_duty.specs.of_state_model.Accounts.{Account, Started, mails_choice, mails_begin, account_begins, account_next}
 use Rattle.mailbox_master.specs.declared.halves.InwardHalf.{InwardHalf}
 use Rattle.mailbox_master.specs.Links.{OutLink}
 use Rattle.mailbox_master.specs.Any.{in_half_of}

@@ -6,8 +6,8 @@ use Rattle.frame_view.specs.of_segment_model.Ends as Ends
 use Rattle.frame_view.specs.of_segment_model.Seats as Seats
 use Rattle.frame_view.specs.of_segment_model.Seats.{next_mail}
 use Rattle.master_duty.specs.Reply.{Reply}
-use Rattle.master_duty.specs.of_state_exchange.Stated.{Service}
-use Rattle.master_duty.specs.of_task_model.Accounts.{Account, new_account, is_free, is_acknowledged}
+use Rattle.master_duty.specs.of_state_model.Stated.{Service}
+use Rattle.master_duty.specs.of_state_model.Accounts.{Account, new_account, is_free, is_acknowledged}
 use Rattle.master_side.specs.Carried.{in_hand}
 use Rattle.master_side.specs.Passing.{PassingShows, passing_behind}
 use Rattle.master_side.specs.Recall.{Recall, recall_by, BeginsNone}

@@ -6,7 +6,7 @@ ghost use Rattle.frame_view.specs.of_link_mails.Body.{Body};
 ghost use Rattle.frame_view.specs.of_link_model.Link.{Halves};
 ghost use Rattle.frame_view.specs.of_link_model.Frames.{Ask};
 ghost use Rattle.frame_view.specs.of_segment_model.Slaves.{Access};
-ghost use Rattle.master_duty.specs.of_task_model.Accounts.{access_done};
+ghost use Rattle.master_duty.specs.of_state_model.Accounts.{access_done};
 ghost use Rattle.frame_view.specs.View.{found_of, state_found};
 ghost use Rattle.master_duty.specs.Stages.{stage_of};
 ghost use Rattle.master_duty.specs.Mets.{progress_of, KeepsTarget};

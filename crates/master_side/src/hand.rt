@@ -27,7 +27,7 @@ pub trait Hand {
     ghost use Rattle.frame_view.specs.of_exchange_model.Rows.{Row, begun, row_heard};
     ghost use Rattle.frame_view.specs.of_link_mails.Body.{Body, uncounted};
     ghost use Rattle.frame_view.specs.of_segment_model.Seats.{Side, next_mail};
-    ghost use Rattle.master_duty.specs.of_task_model.Accounts.{is_free, is_acknowledged};
+    ghost use Rattle.master_duty.specs.of_state_model.Accounts.{is_free, is_acknowledged};
     ghost use Rattle.master_duty.specs.Reply.{Reply};
     ghost use Rattle.master_side.specs.Due.{IsDue};
     ghost use Rattle.master_side.specs.Fits.{Tells};

@@ -1,13 +1,11 @@
 //! The datagram of a visit.
 
-ghost use Rattle.std.specs.Prelude.{◌≡◌, List, ◌++◌, ◌∷◌, []};
+ghost use Rattle.std.specs.Prelude.{◌≡◌, List, ◌++◌, ◌∷◌, [], Some, ◌-◌, ◌≤◌, ◌+◌, length};
 ghost use Rattle.datagrams.specs.Datagram as Raw;
-ghost use Rattle.datagrams.specs.Frame.{IsBegun};
+ghost use Rattle.datagrams.specs.Frame.{IsBegun, datagram_of};
 ghost use Rattle.master_side.specs.Carried.{errand_carried};
 ghost use Rattle.master_side.specs.Sent.{errand_gram, errand_octets, head_to, IsSent, IsWord};
 ghost use Rattle.datagrams.specs.declared.command.Command.TheVariants.{Fprd};
-ghost use Rattle.std.specs.Prelude.{Some, ◌-◌, ◌≤◌, ◌+◌, length};
-ghost use Rattle.datagrams.specs.Frame.{datagram_of};
 
 use crate::carried::{Carried, Wish};
 use crate::hand::Hand;
@@ -28,16 +26,15 @@ impl<H: Hand> Side<H> {
     ghost use Rattle.frame_view.specs.of_link_model.Link.{Halves};
     ghost use Rattle.frame_view.specs.of_segment_model.Slaves.{Access};
     ghost use Rattle.frame_view.specs.of_segment_model.Seats as Seats;
-    ghost use Rattle.master_duty.specs.of_task_model.Accounts.{Account, duty_access};
+    ghost use Rattle.master_duty.specs.of_state_model.Accounts.{Account, duty_access};
     ghost use Rattle.frame_view.specs.View.{Lens, datagram_seen};
     ghost use Rattle.mailbox_master.specs.Any.{in_half_of, in_area_len, in_access_of};
     ghost use Rattle.mailbox_master.specs.Seat.{seat_half, ReadsAs};
     ghost use Rattle.master_duty.specs.Reply.{Reply};
-    ghost use Rattle.master_side.specs.Carried.{Meant, choice_of, link_choice, drain_choice};
+    ghost use Rattle.master_side.specs.Carried.{Meant, choice_of, link_choice, drain_choice, in_hand};
     ghost use Rattle.master_side.specs.Sent.{IsSent, SameSide, visit_gram, write_gram, inward_gram, gram_len};
     ghost use Rattle.master_side.specs.Shown.{SideShows};
     ghost use Rattle.master_side.specs.Again.{HasNoRoom, IsOnWay, Repeats, area_of, next_len, sent_len};
-    ghost use Rattle.master_side.specs.Carried.{in_hand};
     ghost use Rattle.master_side.specs.Free.{is_free_side};
     ghost use Rattle.master_side.specs.First.{first_of};
     ghost use Rattle.master_side.specs.declared.carried.Wish.{Wish};

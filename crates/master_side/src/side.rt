@@ -63,7 +63,7 @@ impl<H: Hand> Side<H> {
     ghost use Rattle.std.specs.Prelude.{◌≡◌, ◌≤◌, ◌==◌, ◌&&◌, not, ℕ, true, false, List, Option, Some, None, IfSome, is_some, length, if◌then◌else◌};
     ghost use Rattle.frame_view.specs.of_exchange_model.Exchange.{Speech};
     ghost use Rattle.frame_view.specs.of_link_mails.Body.{Body};
-    ghost use Rattle.master_duty.specs.of_task_model.Accounts.{new_account};
+    ghost use Rattle.master_duty.specs.of_state_model.Accounts.{new_account};
     ghost use Rattle.mailbox_master.specs.Any.{in_half_of, in_area_len};
     ghost use Rattle.master_duty.specs.Reply.{Reply};
     ghost use Rattle.master_duty.specs.declared.duty.Duty.{Duty};

@@ -1,36 +1,32 @@
 -- What came back of a slave's datagram, for its opening and for its mailboxes.
-use Rattle.std.proofs.Common.{◌≡◌, ℕ, zero, suc, ◌+◌, ◌-◌, ◌≤◌, ◌==◌, Bool, true, false, List, [], ◌∷◌, length, get_or, take, drop, Option, Some, None, refl, sym, ap, ◌∙◌, subst, arith, ◌++◌}
-use Rattle.std.specs.Prelude.{nat_lt, nat_le, if◌then◌else◌, ◌&&◌, map, cond}
+use Rattle.std.proofs.Common.{◌≡◌, ℕ, zero, suc, ◌+◌, ◌-◌, ◌≤◌, ◌==◌, Bool, true, false, List, [], ◌∷◌, length, get_or, take, drop, Option, Some, None, refl, sym, ap, ◌∙◌, subst, arith, ◌++◌, length-append}
+use Rattle.std.specs.Prelude.{nat_lt, nat_le, if◌then◌else◌, ◌&&◌, map, cond, Result, Ok, Err}
 use Rattle.datagrams.specs.declared.frame.Part.{Part}
-use Rattle.datagrams.specs.Frame.{datagram_of}
+use Rattle.datagrams.specs.Frame.{datagram_of, frame_read}
 use Rattle.al_state.specs.declared.bringing.BringStep.{BringStep}
 use Rattle.al_state.specs.declared.bringing.BringStep.TheVariants.{Return, Watch, Address, OutOff, InOff, OutManager, InManager, Start, Await}
 use Rattle.al_state.specs.declared.bringing.BringUp.{BringUp}
 use Rattle.al_state.specs.BringUp.{head_of, octets_of}
-use Rattle.life_frames.specs.of_link_mails.Body.{Body}
-use Rattle.life_frames.specs.of_link_model.Frames.{all_accepted}
-use Rattle.life_frames.specs.of_link_model.Link.{Halves}
-use Rattle.life_frames.specs.of_exchange_model.Exchange.{Speech}
-use Rattle.life_frames.specs.of_segment_model.Slaves.{Datagram, Access, Found, grams}
-use Rattle.life_frames.specs.of_segment_model.Returned.{Returns}
-use Rattle.life_frames.specs.of_segment_model.Seats.{Side, side_back, side_lost}
-use Rattle.life_frames.specs.of_task_model.Accounts
-use Rattle.life_frames.specs.of_task_model.Accounts.{Account, account_back}
-use Rattle.life_frames.specs.of_segment_model.Record.{News}
-use Rattle.life_frames.specs.of_life_model.Lives
-use Rattle.life_frames.specs.of_life_model.Lives.{Life, Spot, Era, era_back, era_lost, life_back, life_lost, reopens, gives_up, returns_to_init}
-use Rattle.life_frames.specs.of_life_model.Own
-use Rattle.life_frames.specs.of_life_model.Tours.{item_at}
-use Rattle.life_frames.specs.of_frame_view.View.{Lens, datagram_seen, station_of, found_of, register_counter}
-use Rattle.life_frames.specs.of_frame_view.Seen.{part_seen, parts_seen, seen}
-use Rattle.datagrams.specs.Frame.{frame_read}
+use Rattle.frame_view.specs.of_link_mails.Body.{Body}
+use Rattle.frame_view.specs.of_link_model.Frames.{all_accepted}
+use Rattle.frame_view.specs.of_link_model.Link.{Halves}
+use Rattle.frame_view.specs.of_exchange_model.Exchange.{Speech}
+use Rattle.frame_view.specs.of_segment_model.Slaves.{Datagram, Access, Found, grams}
+use Rattle.frame_view.specs.of_segment_model.Returned.{Returns}
+use Rattle.frame_view.specs.of_segment_model.Seats.{Side, side_back, side_lost}
+use Rattle.frame_view.specs.of_state_model.Accounts
+use Rattle.frame_view.specs.of_state_model.Accounts.{Account, account_back, new_account}
+use Rattle.frame_view.specs.of_segment_model.Record.{News}
+use Rattle.frame_view.specs.of_life_model.Lives
+use Rattle.frame_view.specs.of_life_model.Lives.{Life, Spot, Era, era_back, era_lost, life_back, life_lost, reopens, gives_up, returns_to_init}
+use Rattle.frame_view.specs.of_life_model.Own
+use Rattle.frame_view.specs.of_life_model.Tours.{item_at}
+use Rattle.frame_view.specs.View.{Lens, datagram_seen, station_of, found_of, register_counter}
+use Rattle.frame_view.specs.Seen.{part_seen, parts_seen, seen}
 use Rattle.datagrams.specs.declared.frame.Frame.{Frame}
 use Rattle.datagrams.specs.declared.frame.FrameFault.{FrameFault}
-use Rattle.std.specs.Prelude.{Result, Ok, Err}
 use Rattle.master_side.specs.Shown.{new_side}
-use Rattle.life_frames.specs.of_task_model.Accounts.{new_account}
 use Rattle.std.proofs.lemmas.Bool.{lt-ltb}
-use Rattle.std.proofs.Common.{length-append}
 use Rattle.master_side.specs.of_master_duty.Reply.{Reply}
 use Rattle.master_tour.specs.Under.{Grams, mine, IsAt}
 use Rattle.master_tour.specs.Stands.{OpensUnder, IsMet, is_reading, came_at, came_of, turned, turned_by, is_opening, is_open, is_still, opening_of, IsOpeningOf, ShowsSome, EraShows, StopShows, FollowShows}

@@ -2,11 +2,11 @@
 use Rattle.std.proofs.Common.{◌≡◌, ◌+◌, ℕ, Bool, true, List, Option, refl, sym, ap, ◌∙◌, subst, get_or}
 use Rattle.std.specs.Prelude.{map, take, drop}
 use Rattle.datagrams.specs.declared.frame.Part.{Part}
-use Rattle.life_frames.specs.of_frame_view.Seen.{part_seen}
-use Rattle.life_frames.specs.of_frame_view.View.{Lens, station_of}
-use Rattle.life_frames.specs.of_link_mails.Body.{Body}
-use Rattle.life_frames.specs.of_link_model.Link.{Halves}
-use Rattle.life_frames.specs.of_segment_model.Slaves.{Access, Datagram}
+use Rattle.frame_view.specs.Seen.{part_seen}
+use Rattle.frame_view.specs.View.{Lens, station_of}
+use Rattle.frame_view.specs.of_link_mails.Body.{Body}
+use Rattle.frame_view.specs.of_link_model.Link.{Halves}
+use Rattle.frame_view.specs.of_segment_model.Slaves.{Access, Datagram}
 use Rattle.master_side.specs.Carried.{IsBack, Meant, one}
 use Rattle.master_side.specs.declared.carried.Carried.{Carried}
 use Rattle.master_tour.specs.Under.{Grams, IsAt, Under, mine}

@@ -4,23 +4,23 @@ use Rattle.std.specs.Prelude.{◌&&◌, not, if◌then◌else◌}
 use Rattle.al_state.specs.declared.bringing.BringUp.{BringUp}
 use Rattle.al_state.specs.BringUp.{is_behind_init, step_behind, is_up}
 use Rattle.datagrams.specs.declared.frame.Part.{Part}
-use Rattle.life_frames.specs.of_frame_view.View.{Lens, station_of}
-use Rattle.life_frames.specs.of_frame_view.Seen.{part_seen}
-use Rattle.life_frames.specs.of_life_model.Lives
-use Rattle.life_frames.specs.of_life_model.Lives.{Life, Spot, opening_back}
-use Rattle.life_frames.specs.of_link_mails.Body.{Body}
-use Rattle.life_frames.specs.of_link_model.Link.{Halves}
-use Rattle.life_frames.specs.of_link_model.Master.{InState}
-use Rattle.life_frames.specs.of_segment_model.Record.{did_read, is_read}
-use Rattle.life_frames.specs.of_segment_model.Slaves.{Datagram, Access, Found, grams}
-use Rattle.life_frames.specs.of_segment_model.Seats.{Side}
-use Rattle.life_frames.specs.of_task_model.Accounts.{Account}
+use Rattle.frame_view.specs.View.{Lens, station_of}
+use Rattle.frame_view.specs.Seen.{part_seen}
+use Rattle.frame_view.specs.of_life_model.Lives
+use Rattle.frame_view.specs.of_life_model.Lives.{Life, Spot, opening_back}
+use Rattle.frame_view.specs.of_link_mails.Body.{Body}
+use Rattle.frame_view.specs.of_link_model.Link.{Halves}
+use Rattle.frame_view.specs.of_link_model.Master.{InState}
+use Rattle.frame_view.specs.of_segment_model.Record.{did_read, is_read}
+use Rattle.frame_view.specs.of_segment_model.Slaves.{Datagram, Access, Found, grams}
+use Rattle.frame_view.specs.of_segment_model.Seats.{Side}
+use Rattle.frame_view.specs.of_state_model.Accounts.{Account}
 use Rattle.master_side.specs.Carried.{Meant, IsBack, one}
 use Rattle.master_side.specs.Passing.{read_behind}
 use Rattle.master_side.specs.declared.carried.Carried.{Carried}
 use Rattle.master_side.specs.of_master_duty.Reply.{Reply}
-use Rattle.news_kept.specs.Counts.{CountsAt, counts_behind, counts_on}
-use Rattle.news_kept.proofs.Counts.{still_counts, back_counts}
+use Rattle.master_side.specs.Counts.{CountsAt, counts_behind, counts_on}
+use Rattle.master_side.proofs.Counts.{still_counts, back_counts}
 use Rattle.master_tour.specs.Under.{Grams, mine, IsAt, Under}
 use Rattle.master_tour.specs.Stands.{IsMet, StopShows, is_still, opening_of}
 use Rattle.master_tour.specs.Counting.{StandCounts}

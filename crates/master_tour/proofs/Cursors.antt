@@ -9,8 +9,8 @@ use Rattle.datagrams.specs.Frame.{IsFrame, IsPart, text_of, parts_of, frame_read
 use Rattle.datagrams.proofs.Building.{text_of-append}
 use Rattle.datagrams.proofs.Header.{frame_read-only}
 use Rattle.datagrams.proofs.Spelled.{length-datagram_text}
-use Rattle.life_frames.specs.of_frame_view.View.{Lens}
-use Rattle.life_frames.specs.of_frame_view.Seen.{part_seen, parts_seen, seen}
+use Rattle.frame_view.specs.View.{Lens}
+use Rattle.frame_view.specs.Seen.{part_seen, parts_seen, seen}
 use Rattle.master_tour.specs.Cursor.{Stands, IsAtOne}
 
 pub stands_first : (octets : List ℕ) (part : Part) → ((ds : List Datagram) → IsFrame octets ds → Some part ≡ slice_get (parts_of 16 ds) 0) → IsAtOne octets 0 part

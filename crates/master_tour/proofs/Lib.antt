@@ -1,4 +1,4 @@
-pub use Rattle.news_kept.proofs as of_news_kept
+pub use Rattle.master_side.proofs as of_master_side
 pub mod Unders
 pub mod Visits
 pub mod Walks

@@ -7,15 +7,15 @@ use Rattle.al_state.specs.declared.bringing.BringStep.{BringStep}
 use Rattle.al_state.specs.declared.bringing.BringStep.TheVariants.{Return, Watch, Address, OutOff, InOff, OutManager, InManager, Start, Await}
 use Rattle.al_state.specs.declared.bringing.BringUp.{BringUp}
 use Rattle.al_state.specs.BringUp.{is_behind_init, step_behind, is_up, shows}
-use Rattle.life_frames.specs.of_link_mails.Body.{Body}
-use Rattle.life_frames.specs.of_exchange_model.Exchange.{Speech}
-use Rattle.life_frames.specs.of_segment_model.Slaves.{Datagram, Access, Found}
-use Rattle.life_frames.specs.of_segment_model.Record.{News}
-use Rattle.life_frames.specs.of_segment_model.Seats.{Side}
-use Rattle.life_frames.specs.of_task_model.Accounts.{Account, new_account}
-use Rattle.life_frames.specs.of_life_model.Lives
-use Rattle.life_frames.specs.of_life_model.Lives.{Opening, Life, Spot, is_shown, opening_back, opens, new_era, life_back}
-use Rattle.life_frames.specs.of_frame_view.View.{found_of, state_found}
+use Rattle.frame_view.specs.of_link_mails.Body.{Body}
+use Rattle.frame_view.specs.of_exchange_model.Exchange.{Speech}
+use Rattle.frame_view.specs.of_segment_model.Slaves.{Datagram, Access, Found}
+use Rattle.frame_view.specs.of_segment_model.Record.{News}
+use Rattle.frame_view.specs.of_segment_model.Seats.{Side}
+use Rattle.frame_view.specs.of_state_model.Accounts.{Account, new_account}
+use Rattle.frame_view.specs.of_life_model.Lives
+use Rattle.frame_view.specs.of_life_model.Lives.{Opening, Life, Spot, is_shown, opening_back, opens, new_era, life_back}
+use Rattle.frame_view.specs.View.{found_of, state_found}
 use Rattle.master_side.specs.of_master_duty.Reply.{Reply}
 use Rattle.master_side.specs.Shown.{new_side}
 use Rattle.master_tour.specs.declared.stop.Stand.{Stand}

@@ -4,20 +4,20 @@ use Rattle.std.specs.Prelude.{◌&&◌, not, nat_lt, is_some, if◌then◌else�
 use Rattle.al_state.specs.declared.bringing.BringUp.{BringUp}
 use Rattle.al_state.specs.BringUp.{is_behind_init, step_behind, is_up}
 use Rattle.datagrams.specs.declared.frame.Part.{Part}
-use Rattle.life_frames.specs.of_exchange_model.Exchange.{Speech}
-use Rattle.life_frames.specs.of_frame_view.View.{Lens, station_of}
-use Rattle.life_frames.specs.of_frame_view.Seen.{part_seen}
-use Rattle.life_frames.specs.of_life_model.Lives
-use Rattle.life_frames.specs.of_life_model.Lives.{Life, Spot, granted, passing_begins, passes, opening_back, opens, new_era, reopens, reopens_at, returns_to_init, reopening, opens_state, era_back, life_next, life_back, life_lost}
-use Rattle.life_frames.specs.of_link_mails.Body.{Body}
-use Rattle.life_frames.specs.of_link_model.Link.{Halves}
-use Rattle.life_frames.specs.of_segment_model.Ends as Ends
-use Rattle.life_frames.specs.of_segment_model.Record.{News, Kept, without_empty, all_told, back_news, datagram_news, mail_told, last_told, gram_news, last_heard, found_news}
-use Rattle.life_frames.specs.of_segment_model.Slaves.{Datagram, Access, Found, grams}
-use Rattle.life_frames.specs.of_segment_model.Seats.{Side}
-use Rattle.life_frames.specs.of_state_exchange.Stated.{Service}
-use Rattle.life_frames.specs.of_task_model.Accounts
-use Rattle.life_frames.specs.of_task_model.Accounts.{Account, Pick, account_next}
+use Rattle.frame_view.specs.of_exchange_model.Exchange.{Speech}
+use Rattle.frame_view.specs.View.{Lens, station_of}
+use Rattle.frame_view.specs.Seen.{part_seen}
+use Rattle.frame_view.specs.of_life_model.Lives
+use Rattle.frame_view.specs.of_life_model.Lives.{Life, Spot, granted, passing_begins, passes, opening_back, opens, new_era, reopens, reopens_at, returns_to_init, reopening, opens_state, era_back, life_next, life_back, life_lost}
+use Rattle.frame_view.specs.of_link_mails.Body.{Body}
+use Rattle.frame_view.specs.of_link_model.Link.{Halves}
+use Rattle.frame_view.specs.of_segment_model.Ends as Ends
+use Rattle.frame_view.specs.of_segment_model.Record.{News, Kept, without_empty, all_told, back_news, datagram_news, mail_told, last_told, gram_news, last_heard, found_news}
+use Rattle.frame_view.specs.of_segment_model.Slaves.{Datagram, Access, Found, grams}
+use Rattle.frame_view.specs.of_segment_model.Seats.{Side}
+use Rattle.frame_view.specs.of_state_model.Stated.{Service}
+use Rattle.frame_view.specs.of_state_model.Accounts
+use Rattle.frame_view.specs.of_state_model.Accounts.{Account, Pick, account_next}
 use Rattle.master_side.specs.Carried.{Meant, IsBack, one}
 use Rattle.master_side.specs.Passing.{PassingShows, passing_seen, passing_behind, news_back, news_lost}
 use Rattle.master_side.specs.Shown.{started_by}

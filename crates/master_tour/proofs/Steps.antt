@@ -3,15 +3,15 @@ use Rattle.std.proofs.Common.{◌≡◌, ℕ, zero, suc, ◌+◌, ◌<◌, ◌==
 use Rattle.std.specs.Prelude.{⊤}
 use Rattle.std.proofs.lemmas.Bool.{eqb-true}
 use Rattle.datagrams.specs.Datagram as Raw
-use Rattle.life_frames.specs.of_frame_view.View.{Lens}
+use Rattle.frame_view.specs.View.{Lens}
 use Rattle.datagrams.specs.Command.{IsNamed}
 use Rattle.datagrams.specs.Frame.{IsBegun, Each}
-use Rattle.life_frames.specs.of_life_model.Lives
-use Rattle.life_frames.specs.of_life_model.Lives.{Spot}
+use Rattle.frame_view.specs.of_life_model.Lives
+use Rattle.frame_view.specs.of_life_model.Lives.{Spot}
 use Rattle.master_side.specs.of_master_duty.Reply.{Reply}
-use Rattle.life_frames.specs.Frames.{IsNotFor, GramFor, AreApart}
-use Rattle.life_frames.specs.Shares.{Lived, AllFrom, IsElsewhere, AreDistinct}
-use Rattle.life_frames.proofs.Frames.{apart_back, not_for, gram_named}
+use Rattle.frame_view.specs.Frames.{IsNotFor, GramFor, AreApart}
+use Rattle.frame_view.specs.Shares.{Lived, AllFrom, IsElsewhere, AreDistinct}
+use Rattle.frame_view.proofs.Frames.{apart_back, not_for, gram_named}
 use Rattle.master_tour.specs.Walks.{StepsAt}
 use Rattle.master_tour.specs.Made.{FrameMade}
 use Rattle.master_tour.proofs.Walks.{steps_set}

@@ -1,9 +1,9 @@
 -- WHETHER AN EMPTY READ COUNTS for a mail that is passed on, by how the master stands to its slave, frame by frame.
 use Rattle.std.specs.Prelude.{◌≡◌, ℕ, suc, Bool, false, Option, None, [], ⊤}
-use Rattle.life_frames.specs.of_exchange_model.Exchange.{Speech}
-use Rattle.life_frames.specs.of_frame_view.View.{Lens}
-use Rattle.life_frames.specs.of_life_model.Lives.{Life, Spot}
-use Rattle.life_frames.specs.of_link_mails.Body.{Body}
+use Rattle.frame_view.specs.of_exchange_model.Exchange.{Speech}
+use Rattle.frame_view.specs.View.{Lens}
+use Rattle.frame_view.specs.of_life_model.Lives.{Life, Spot}
+use Rattle.frame_view.specs.of_link_mails.Body.{Body}
 use Rattle.master_side.specs.declared.hand.Hand.{Ghosts}
 use Rattle.master_side.specs.of_master_duty.Reply.{Reply}
 use Rattle.master_tour.specs.Stands.{is_still}
@@ -11,7 +11,7 @@ use Rattle.master_tour.specs.Stops.{StopLived, StopUnder}
 use Rattle.master_tour.specs.Under.{Grams}
 use Rattle.master_tour.specs.declared.stop.Stand.{Stand}
 use Rattle.master_tour.specs.declared.stop.Stop.{Stop}
-use Rattle.news_kept.specs.Counts.{CountsAt, counts_on}
+use Rattle.master_side.specs.Counts.{CountsAt, counts_on}
 
 -- an open slave's side knows it; one that was seen in Init on its way there has done no read yet; of the epoch before, and of a slave that is gone,
 -- nothing more counts

@@ -1,7 +1,6 @@
-pub use Rattle.life_frames.specs as of_life_frames
+pub use Rattle.frame_view.specs as of_frame_view
 pub use Rattle.master_side.specs as of_master_side
-pub use Rattle.news_kept.specs as of_news_kept
-pub use Rattle.life_frames.specs.of_life_model as of_life_model
+pub use Rattle.frame_view.specs.of_life_model as of_life_model
 pub mod Under
 pub mod Walks
 pub mod Cursor

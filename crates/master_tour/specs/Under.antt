@@ -2,9 +2,9 @@
 use Rattle.std.specs.Prelude.{◌≡◌, ℕ, zero, suc, ◌==◌, if◌then◌else◌, Bool, true, false, List, [], ◌∷◌, Option}
 use Rattle.datagrams.specs.declared.frame.Part.{Part}
 use Rattle.datagrams.specs.declared.command.Command.TheVariants.{Nop}
-use Rattle.life_frames.specs.of_link_model.Link.{Halves}
-use Rattle.life_frames.specs.of_link_mails.Body.{Body}
-use Rattle.life_frames.specs.of_segment_model.Slaves.{Datagram, Access}
+use Rattle.frame_view.specs.of_link_model.Link.{Halves}
+use Rattle.frame_view.specs.of_link_mails.Body.{Body}
+use Rattle.frame_view.specs.of_segment_model.Slaves.{Datagram, Access}
 use Rattle.master_side.specs.declared.carried.Carried.{Carried}
 use Rattle.master_side.specs.Carried.{Meant, one}
 

@@ -1,7 +1,6 @@
 //! The return of an access of an opening: the slave is seen in Init, or is open, or the next access is in hand.
 
-ghost use Rattle.std.specs.Prelude.{◌≡◌};
-ghost use Rattle.std.specs.Prelude.{false, if◌then◌else◌, not, ◌&&◌};
+ghost use Rattle.std.specs.Prelude.{◌≡◌, false, if◌then◌else◌, not, ◌&&◌};
 ghost use Rattle.al_state.specs.BringUp.{is_behind_init};
 ghost use Rattle.master_tour.specs.Stands.{turned_by};
 
@@ -42,30 +41,26 @@ fn news_of(is_up: bool, is_cleared: bool) -> Option<Turned>
 }
 
 impl<H: Hand> Stop<H> {
-    ghost use Rattle.std.specs.Prelude.{◌≡◌, ℕ, List, true, false, if◌then◌else◌};
+    ghost use Rattle.std.specs.Prelude.{◌≡◌, ℕ, List, true, false, if◌then◌else◌, None, Bool, Option, Some};
     ghost use Rattle.datagrams.specs.Datagram as Raw;
     ghost use Rattle.datagrams.specs.Frame.{IsFrame};
-    ghost use Rattle.life_frames.specs.of_exchange_model.Exchange.{Speech};
-    ghost use Rattle.life_frames.specs.of_link_mails.Body.{Body};
-    ghost use Rattle.life_frames.specs.of_segment_model.Slaves.{Datagram};
+    ghost use Rattle.frame_view.specs.of_exchange_model.Exchange.{Speech};
+    ghost use Rattle.frame_view.specs.of_link_mails.Body.{Body};
+    ghost use Rattle.frame_view.specs.of_segment_model.Slaves.{Datagram, Found};
     ghost use Rattle.master_tour.specs.Joins.{join_behind};
-    ghost use Rattle.life_frames.specs.of_segment_model.Seats as Seats;
-    ghost use Rattle.life_frames.specs.of_task_model.Accounts.{Account};
-    ghost use Rattle.life_frames.specs.of_frame_view.View.{Lens};
-    ghost use Rattle.life_frames.specs.of_frame_view.Seen.{seen};
+    ghost use Rattle.frame_view.specs.of_segment_model.Seats as Seats;
+    ghost use Rattle.frame_view.specs.of_state_model.Accounts.{Account, new_account};
+    ghost use Rattle.frame_view.specs.View.{Lens};
+    ghost use Rattle.frame_view.specs.Seen.{seen};
     ghost use Rattle.master_side.specs.of_mailbox_master.Any.{in_area_len};
     ghost use Rattle.master_side.specs.of_master_duty.Reply.{Reply};
     ghost use Rattle.master_tour.specs.Made.{IsSized};
     ghost use Rattle.master_tour.specs.Cursor.{IsAtOne};
     ghost use Rattle.master_tour.specs.Stands.{IsMet, came_at};
-    ghost use Rattle.life_frames.specs.of_segment_model.Returned.{Returns};
-    ghost use Rattle.std.specs.Prelude.{None};
-    ghost use Rattle.life_frames.specs.of_life_model.Lives.{Life, Spot, life_back};
-    ghost use Rattle.life_frames.specs.of_segment_model.Record.{News};
-    ghost use Rattle.life_frames.specs.of_segment_model.Slaves.{Found};
-    ghost use Rattle.life_frames.specs.of_task_model.Accounts.{new_account};
+    ghost use Rattle.frame_view.specs.of_segment_model.Returned.{Returns};
+    ghost use Rattle.frame_view.specs.of_life_model.Lives.{Life, Spot, life_back};
+    ghost use Rattle.frame_view.specs.of_segment_model.Record.{News};
     ghost use Rattle.master_side.specs.Shown.{new_side};
-    ghost use Rattle.std.specs.Prelude.{Bool, Option, Some};
     ghost use Rattle.master_tour.specs.declared.stop.Stand.{Stand};
     ghost use Rattle.master_side.specs.Sides.{ShowsOf, LinkStays};
     ghost use Rattle.master_tour.specs.Stops.{StopLived, StopFollows, StopUnder, StopPassing, StopSized};

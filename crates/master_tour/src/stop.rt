@@ -61,50 +61,45 @@ pub(crate) fn body_of(octets: &[u8], part: Part) -> &[u8]
 }
 
 impl<H: Hand> Stop<H> {
-    ghost use Rattle.std.specs.Prelude.{◌≡◌, ◌≤◌, ◌<◌, ◌-◌, ℕ, List, true, false};
+    ghost use Rattle.std.specs.Prelude.{◌≡◌, ◌≤◌, ◌<◌, ◌-◌, ℕ, List, true, false, ◌&&◌, None, ◌%◌, Bool, Option, Some, suc};
     ghost use Rattle.datagrams.specs.Datagram as Raw;
     ghost use Rattle.datagrams.specs.Frame.{IsFrame};
-    ghost use Rattle.life_frames.specs.of_exchange_model.Exchange.{Speech};
-    ghost use Rattle.life_frames.specs.of_link_mails.Body.{Body};
-    ghost use Rattle.life_frames.specs.of_segment_model.Slaves.{Datagram, grams};
-    ghost use Rattle.life_frames.specs.of_link_model.Frames.{all_accepted};
+    ghost use Rattle.frame_view.specs.of_exchange_model.Exchange.{Speech};
+    ghost use Rattle.frame_view.specs.of_link_mails.Body.{Body};
+    ghost use Rattle.frame_view.specs.of_segment_model.Slaves.{Datagram, grams};
+    ghost use Rattle.frame_view.specs.of_link_model.Frames.{all_accepted};
     ghost use Rattle.master_side.specs.Heard.{Brought, HasJoined};
     ghost use Rattle.master_tour.specs.Brings.{accepted_in};
     ghost use Rattle.master_tour.specs.Joins.{Joins};
     ghost use Rattle.master_tour.specs.Replied.{OpenReplies, StopReplies};
-    ghost use Rattle.life_frames.specs.of_segment_model.Seats as Seats;
-    ghost use Rattle.life_frames.specs.of_task_model.Accounts.{Account, duty_access, account_back};
-    ghost use Rattle.life_frames.specs.of_frame_view.View.{Lens};
-    ghost use Rattle.life_frames.specs.of_frame_view.Seen.{seen};
+    ghost use Rattle.frame_view.specs.of_segment_model.Seats as Seats;
+    ghost use Rattle.frame_view.specs.of_state_model.Accounts.{Account, duty_access, account_back};
+    ghost use Rattle.frame_view.specs.View.{Lens};
+    ghost use Rattle.frame_view.specs.Seen.{seen};
     ghost use Rattle.master_side.specs.of_master_duty.Reply.{Reply};
-    ghost use Rattle.master_tour.specs.Under.{Under};
+    ghost use Rattle.master_tour.specs.Under.{Under, mine};
     ghost use Rattle.master_tour.specs.Cursor.{IsAtOne};
     ghost use Rattle.master_tour.specs.Goes.{is_live, is_opened};
     ghost use Rattle.master_tour.specs.Stands.{came_at, given_where};
-    ghost use Rattle.std.specs.Prelude.{◌&&◌};
     ghost use Rattle.master_side.specs.Again.{IsOnWay, Repeats, sent_len};
     ghost use Rattle.master_tour.specs.Rooms.{LosesAgain};
-    ghost use Rattle.life_frames.specs.of_segment_model.Returned.{Returns};
+    ghost use Rattle.frame_view.specs.of_segment_model.Returned.{Returns};
     ghost use Rattle.al_state.specs.declared.bringing.BringStep.{BringStep};
-    ghost use Rattle.std.specs.Prelude.{None, ◌%◌};
-    ghost use Rattle.life_frames.specs.of_life_model.Lives.{Life, Spot, passes, life_back, life_lost, reopens, gives_up};
-    ghost use Rattle.life_frames.specs.of_segment_model.Record.{News, Kept};
-    ghost use Rattle.life_frames.specs.of_segment_model.Ends as Ends;
-    ghost use Rattle.life_frames.specs.of_task_model.Accounts as Accounts;
+    ghost use Rattle.frame_view.specs.of_life_model.Lives.{Life, Spot, passes, life_back, life_lost, reopens, gives_up};
+    ghost use Rattle.frame_view.specs.of_segment_model.Record.{News, Kept};
+    ghost use Rattle.frame_view.specs.of_segment_model.Ends as Ends;
+    ghost use Rattle.frame_view.specs.of_state_model.Accounts as Accounts;
     ghost use Rattle.master_side.specs.Passing.{PassingShows, IsKept, counts_at, news_back, news_lost};
     ghost use Rattle.master_side.specs.declared.passing.Passing.{Passing};
     ghost use Rattle.master_tour.specs.Passing.{StandPassing, StandKept};
-    ghost use Rattle.std.specs.Prelude.{Bool, Option, Some};
     ghost use Rattle.master_tour.specs.declared.stop.Stand.{Stand};
     ghost use Rattle.master_tour.specs.Behind.{SameRecall, StopBack, StopLost, VisitBack};
-    ghost use Rattle.master_tour.specs.Under.{mine};
     ghost use Rattle.master_side.specs.Carried.{one};
     ghost use Rattle.master_side.specs.Due.{EachDue};
     ghost use Rattle.master_side.specs.Sides.{ShowsOf, LinkStays};
     ghost use Rattle.master_tour.specs.Stops.{StopSpot, StopLived, StopFollows, StopUnder, StopPassing, StopSized};
     ghost use Rattle.master_tour.specs.Counting.{StandCounts, CameCounts, LostCounts, ReadStays};
-    ghost use Rattle.news_kept.specs.Counts.{CountsAt, counts_behind};
-    ghost use Rattle.std.specs.Prelude.{suc};
+    ghost use Rattle.master_side.specs.Counts.{CountsAt, counts_behind};
 
     /// Whether it gets datagrams: it was not given up for good.
     pub fn is_live(&self) -> bool

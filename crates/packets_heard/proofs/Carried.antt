@@ -9,7 +9,7 @@ use Rattle.master_node.specs.of_datagrams.Datagram as Raw
 use Rattle.master_node.specs.of_datagrams.declared.command.Command.{Command}
 use Rattle.master_node.specs.of_frame_view.Seen.{seen, datagrams_seen}
 use Rattle.master_node.specs.of_frame_view.View.{Lens, datagram_seen, place_of, address_of}
-use Rattle.master_node.specs.of_life_frames.Frames.{Share, FrameFor, GramFor}
+use Rattle.master_node.specs.of_frame_view.Frames.{Share, FrameFor, GramFor}
 use Rattle.master_node.specs.of_life_model.Lives.{Stand}
 use Rattle.master_node.specs.of_life_runs.Led.{Leads, Turn, AllTurn, IsLedFrame}
 use Rattle.master_node.specs.Toured.{turn_share}

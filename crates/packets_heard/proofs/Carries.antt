@@ -8,9 +8,9 @@ use Rattle.eoe_switch.specs.declared.switching.SwitchEvent.{SwitchEvent}
 use Rattle.frame_view.specs.View.{Lens}
 use Rattle.frame_view.specs.Seen.{seen}
 use Rattle.frame_view.proofs.Octets.{seen_is, seen_chained}
-use Rattle.life_frames.specs.Frames.{FrameFor}
-use Rattle.life_frames.specs.Shares.{Asked}
-use Rattle.life_frames.proofs.Frames.{own_none}
+use Rattle.frame_view.specs.Frames.{FrameFor}
+use Rattle.frame_view.specs.Shares.{Asked}
+use Rattle.frame_view.proofs.Frames.{own_none}
 use Rattle.life_model.specs.Lives.{Stand}
 use Rattle.life_model.specs.Own.{own}
 use Rattle.master_node.specs.of_life_runs.Led.{Exchanged, Leads, Turn, AllTurn}
@@ -38,7 +38,7 @@ use Rattle.segment_model.specs.Slaves.{Datagram, grams}
 use Rattle.segment_ring.specs.declared.wire.Fate.{Fate}
 use Rattle.segment_ring.specs.declared.wire.Fate.TheVariants.{Pass, Lost}
 use Rattle.packets_heard.specs.Listed.{unfinished_of, CarriesAll, packets_by, listed_behind, ListedOn}
-use Rattle.master_node.specs.of_served_runs.Served.{Serves, ServedTurn, AllServedTurn}
+use Rattle.master_node.specs.of_life_runs.Served.{Serves, ServedTurn, AllServedTurn}
 
 -- ---- the places that a frame carries are among those of its visit
 in_first : (k : ℕ) (ps rest : List ℕ) → is_in k ps ≡ true → is_in k (ps ++ rest) ≡ true

@@ -6,8 +6,8 @@ use Rattle.eoe_switch.specs.declared.switching.SwitchEvent.{SwitchEvent}
 use Rattle.master_node.specs.of_life_runs.of_datagrams.Datagram as Raw
 use Rattle.master_node.specs.of_life_runs.of_frame_view.View.{Lens}
 use Rattle.master_node.specs.of_life_runs.of_frame_view.Seen.{seen}
-use Rattle.master_node.specs.of_life_runs.of_life_frames.Shares.{came_at, given_where, lived_back, lived_lost}
-use Rattle.master_node.specs.of_life_runs.of_life_frames.of_life_model.Lives.{Life, Spot, Stand, life_lost}
+use Rattle.master_node.specs.of_life_runs.of_frame_view.Shares.{came_at, given_where, lived_back, lived_lost}
+use Rattle.master_node.specs.of_life_runs.of_frame_view.of_life_model.Lives.{Life, Spot, Stand, life_lost}
 use Rattle.master_node.specs.of_life_runs.First.{first_leads, leads_from}
 use Rattle.master_node.specs.of_life_runs.Led.{Exchanged, Leads, Turn, AllTurn, IsLed, led_behind, life_behind, gives_up_at, is_passed, speech_at}
 use Rattle.master_node.specs.of_life_runs.of_link_mails.Body.{Body}
@@ -34,7 +34,7 @@ use Rattle.packets_heard.specs.Servings.{AreServedBegun, ServedListed, ServedNum
 use Rattle.segment_model.specs.Record.{News}
 use Rattle.segment_ring.specs.declared.wire.Fate.{Fate}
 use Rattle.segment_ring.specs.declared.wire.Fate.TheVariants.{Pass, Lost}
-use Rattle.master_node.specs.of_served_runs.Served.{AllServedTurn, IsServedLed, IsServedTurn, Serves, ServedTurn, all_serve, served_behind, served_life}
+use Rattle.master_node.specs.of_life_runs.Served.{AllServedTurn, IsServedLed, IsServedTurn, Serves, ServedTurn, all_serve, served_behind, served_life}
 
 abbrev SlaveLife : Type 0
 SlaveLife = Life Body Asked Reply

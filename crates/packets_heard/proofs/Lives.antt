@@ -4,8 +4,8 @@ use Rattle.std.specs.Prelude.{◌==◌, ◌&&◌, not}
 use Rattle.datagrams.specs.Datagram as Raw
 use Rattle.frame_view.specs.View.{Lens}
 use Rattle.frame_view.specs.Seen.{seen}
-use Rattle.life_frames.specs.Frames.{FrameFor}
-use Rattle.life_frames.specs.Shares.{came_at, given_where}
+use Rattle.frame_view.specs.Frames.{FrameFor}
+use Rattle.frame_view.specs.Shares.{came_at, given_where}
 use Rattle.life_model.specs.Lives as Lives
 use Rattle.life_model.specs.Lives.{Life, Opening, Stand, life_back, life_lost, opening_back, shows_clear, last_step, is_shown, clears, opens, reopens, reopens_at, returns_to_init, era_back}
 use Rattle.master_node.specs.of_life_runs.Led.{Exchanged, Leads, Turn, AllTurn, speech_at, life_behind, led_behind, is_passed}
@@ -22,8 +22,8 @@ use Rattle.segment_model.specs.Record.{News}
 use Rattle.segment_model.specs.Slaves.{Found}
 use Rattle.segment_ring.specs.declared.wire.Fate.{Fate}
 use Rattle.segment_ring.specs.declared.wire.Fate.TheVariants.{Pass, Lost}
-use Rattle.master_node.specs.of_served_runs.Served.{Serves, ServedTurn, AllServedTurn, served_behind, served_life}
-use Rattle.task_model.specs.Accounts.{Duty, Stage}
+use Rattle.master_node.specs.of_life_runs.Served.{Serves, ServedTurn, AllServedTurn, served_behind, served_life}
+use Rattle.state_model.specs.Accounts.{Duty, Stage}
 
 abbrev SlaveLife : Type 0
 SlaveLife = Life Body Asked Reply

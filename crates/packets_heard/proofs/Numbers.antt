@@ -22,7 +22,7 @@ use Rattle.packets_heard.proofs.Carries.{events_making}
 use Rattle.packets_heard.proofs.Ports.{long_append, making_arrivals}
 use Rattle.packets_heard.proofs.Runs.{packets_more, run_arrivals, serving_arrivals}
 use Rattle.packets_heard.specs.Servings.{AreServedBegun, ServedListed, ServedNumbered, served_begun, served_completed, served_joined, served_packets}
-use Rattle.master_node.specs.of_served_runs.Served.{Serves, IsServedLed}
+use Rattle.master_node.specs.of_life_runs.Served.{Serves, IsServedLed}
 
 -- ---- ONE FRAME MORE, where each event before it has its number
 module _ (listed begun : List SwitchEvent → Type 0) (before : List SwitchEvent → List ℕ → Type 0) (ports : List (Option ℕ)) (many made : ℕ) (us : List Turn) (es : List SwitchEvent) (ns : List ℕ) (x : NumberedOn listed begun before ports many made us es ns)

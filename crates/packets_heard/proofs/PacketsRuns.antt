@@ -8,9 +8,9 @@ use Rattle.eoe_switch.specs.Switch.{Switched, downed_at, first_switch, switched}
 use Rattle.eoe_switch.specs.declared.switching.SwitchEvent.{SwitchEvent}
 use Rattle.eoe_switch.specs.declared.switching.SwitchEvent.TheVariants.{Arrive, Begun, Down}
 use Rattle.master_node.specs.of_life_runs.of_frame_view.View.{Lens}
-use Rattle.master_node.specs.of_life_runs.of_life_frames.of_state_exchange.Stated.{Service}
+use Rattle.master_node.specs.of_life_runs.of_frame_view.of_state_model.Stated.{Service}
 use Rattle.master_node.specs.of_life_runs.Led.{Exchanged, Leads, Turn, IsLed}
-use Rattle.master_node.specs.of_master_hand.of_eoe_model.Client as EoeClient
+use Rattle.master_node.specs.of_master_hand.of_protocol_models.EoeClient as EoeClient
 use Rattle.master_node.specs.of_master_hand.Spoken.{Asked, sdo, file, drive, net, passed}
 use Rattle.master_node.specs.Arrivals.{arrive_where, arrive_at, arrive_by, arrivals_in}
 use Rattle.master_node.specs.Begins as Begins
@@ -28,7 +28,7 @@ use Rattle.packets_heard.specs.Listed.{IsOwn}
 use Rattle.packets_heard.specs.Servings.{AreServedBegun, served_packets}
 use Rattle.segment_ring.specs.declared.wire.Fate.{Fate}
 use Rattle.segment_ring.specs.declared.wire.Fate.TheVariants.{Pass, Lost}
-use Rattle.master_node.specs.of_served_runs.Served.{Serves, IsServedLed}
+use Rattle.master_node.specs.of_life_runs.Served.{Serves, IsServedLed}
 
 -- ---- how many are taken at a port, whether one waits there or not
 abbrev one_for : ℕ → Option ℕ → ℕ

@@ -7,7 +7,7 @@ use Rattle.eoe.specs.declared.joining.Unfinished.{Unfinished}
 use Rattle.eoe.specs.declared.message.Fragment.{Fragment}
 use Rattle.frame_view.specs.View.{Lens}
 use Rattle.frame_view.specs.Seen.{seen}
-use Rattle.life_frames.specs.Shares.{AllBoth}
+use Rattle.frame_view.specs.Shares.{AllBoth}
 use Rattle.life_model.specs.Lives.{Stand}
 use Rattle.master_node.specs.of_life_runs.Led.{Exchanged, Leads, Turn, IsLed}
 use Rattle.link_mails.specs.Body.{Body}
@@ -16,12 +16,12 @@ use Rattle.master_node.specs.of_master_hand.Joins.{fragment_in, unfinished_by, c
 use Rattle.master_node.specs.Serving.{run_lead, run_turn}
 use Rattle.master_side.specs.Heard.{joined_by}
 use Rattle.master_node.specs.of_master_tour.Brings.{accepted_at}
-use Rattle.packet_model.specs.Packets.{wholes, as_part, parts}
+use Rattle.packets_heard.specs.Packets.{wholes, as_part, parts}
 use Rattle.segment_ring.specs.declared.wire.Fate.{Fate}
 use Rattle.segment_ring.specs.declared.wire.Fate.TheVariants.{Pass, Lost}
 use Rattle.packets_heard.specs.Heard.{mails_by, Joined, joined_behind, joined_on, joined_none, joined_in, Times, ended, times_behind, times_on, times_none, times_in, packets_of, IsJoined}
 use Rattle.packets_heard.specs.Servings.{served_joined, served_times}
-use Rattle.master_node.specs.of_served_runs.Served.{Serves, IsServedLed}
+use Rattle.master_node.specs.of_life_runs.Served.{Serves, IsServedLed}
 
 -- as the fragments among the mails are joined
 whole_first : (j : Eoe.Joined) (js : List Eoe.Joined) (ps : List (List ℕ)) → ps ≡ wholes js → as_list (whole_of j) ++ ps ≡ wholes (j ∷ js)

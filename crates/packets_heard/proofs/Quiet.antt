@@ -15,7 +15,7 @@ use Rattle.packets_heard.proofs.Numbers.{numbered_many, serving_numbered}
 use Rattle.packets_heard.specs.Listed.{IsOwn, Listed}
 use Rattle.packets_heard.specs.Over.{AreBegun}
 use Rattle.packets_heard.specs.Servings.{AreServedBegun, ServedListed, ServedNumbered, served_other}
-use Rattle.master_node.specs.of_served_runs.Served.{Serves, IsServedLed}
+use Rattle.master_node.specs.of_life_runs.Served.{Serves, IsServedLed}
 
 -- of each of them
 weaker : (P Q : ℕ → Type 0) → ((j : ℕ) → P j → Q j) → (js : List ℕ) → All P js → All Q js

@@ -27,7 +27,7 @@ use Rattle.packets_heard.proofs.Shut.{down_shut, host_empty, host_first, past_be
 use Rattle.packets_heard.specs.Recalled.{IsLanOf}
 use Rattle.packets_heard.specs.Servings.{ServedListed}
 use Rattle.segment_plan.specs.declared.plan.Scenario.{Scenario}
-use Rattle.master_node.specs.of_served_runs.Served.{Serves, IsServedLed, all_serve}
+use Rattle.master_node.specs.of_life_runs.Served.{Serves, IsServedLed, all_serve}
 
 -- at the port of a live slave that rests none waits
 live_none : (lens : ℕ → Lens) (l : Lan) (place : ℕ) (ms : List Recall) (as' : List Leads) (k : ℕ) → AllRest lens l place ms as' → holds_at is_live_lead as' k ≡ true → forwarded l.switch l.ports.items (place + k) ≡ []

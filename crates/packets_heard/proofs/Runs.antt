@@ -19,7 +19,7 @@ use Rattle.segment_ring.specs.declared.wire.Fate.{Fate}
 use Rattle.segment_ring.specs.declared.wire.Fate.TheVariants.{Pass, Lost}
 use Rattle.packets_heard.specs.Listed.{downs_at, long_ones, packets_at, unfinished_of, IsOwn, packets_by, listed_behind, Listed, ListedOn}
 use Rattle.packets_heard.specs.Servings.{ServedListed, served_joined}
-use Rattle.master_node.specs.of_served_runs.Served.{Serves, IsServedLed, served_behind}
+use Rattle.master_node.specs.of_life_runs.Served.{Serves, IsServedLed, served_behind}
 use Rattle.packets_heard.proofs.Lives.{pass_lives, lost_carried, lost_gone, turn_lives, serving_carried, serving_gone, serving_lives, serving_pass}
 use Rattle.packets_heard.proofs.Ports.{once_if, downs_append, arrivals_append, long_append, making_downs, making_arrivals, downs_bring, arrivals_take, downs_visit, arrivals_visit}
 

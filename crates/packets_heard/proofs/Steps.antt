@@ -22,7 +22,7 @@ use Rattle.master_node.specs.Ports.{ports_behind, ports_of}
 use Rattle.master_node.specs.Shows.{IsLead, MasterShows, side_shows}
 use Rattle.master_node.specs.declared.happened.Happening.{Happening}
 use Rattle.master_node.specs.declared.node.MasterNode.{MasterNode}
-use Rattle.master_node.specs.of_life_frames.Shares.{AllBoth}
+use Rattle.master_node.specs.of_frame_view.Shares.{AllBoth}
 use Rattle.master_node.specs.of_life_model.Lives.{Stand}
 use Rattle.master_node.specs.of_master_duty.declared.duty.Duty.{Duty}
 use Rattle.master_node.specs.of_master_side.of_link_mails.Body.{Body}

@@ -17,7 +17,7 @@ use Rattle.master_node.proofs.Joineds.{three_kept}
 use Rattle.master_node.specs.of_master_tour.Joins.{join_at}
 use Rattle.packets_heard.specs.Heard.{Joined, joined_on, mails_by}
 use Rattle.packets_heard.specs.Listed.{unfinished_of}
-use Rattle.master_node.specs.of_served_runs.Served.{Serves, ServedTurn, AllServedTurn}
+use Rattle.master_node.specs.of_life_runs.Served.{Serves, ServedTurn, AllServedTurn}
 
 -- a frame under way leaves it as it was
 turn_stands : (lens : ℕ → Lens) (made : ℕ) (ds : List Raw.Datagram) (as' : List Leads) (us : List Turn) → AllTurn lens made ds as' us → map stand_under us ≡ map stand_before as'

@@ -9,3 +9,6 @@ pub mod Servings
 pub mod Toured
 pub mod Served
 pub mod Visits
+pub mod Packets
+pub mod Events
+pub mod Turns

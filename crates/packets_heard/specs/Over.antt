@@ -6,11 +6,11 @@ use Rattle.eoe_switch.specs.declared.switching.SwitchEvent.{SwitchEvent}
 use Rattle.eoe_switch.specs.declared.switching.SwitchEvent.TheVariants.{Arrive, Begun, Down}
 use Rattle.master_node.specs.of_life_runs.of_frame_view.View.{Lens}
 use Rattle.master_node.specs.of_life_runs.Led.{Exchanged, Leads, Turn, IsLed}
-use Rattle.master_node.specs.of_master_hand.of_eoe_model.Client as EoeClient
+use Rattle.master_node.specs.of_master_hand.of_protocol_models.EoeClient as EoeClient
 use Rattle.master_node.specs.of_master_hand.Spoken.{Asked, sdo, file, drive, net, passed}
 use Rattle.master_node.specs.Begins.{begins_by, begins_in, begins_other, begun_of, taken_in}
 use Rattle.master_node.specs.Forwards.{port_by, waiting_by}
-use Rattle.master_node.specs.of_life_runs.of_life_frames.of_state_exchange.Stated.{Service}
+use Rattle.master_node.specs.of_life_runs.of_frame_view.of_state_model.Stated.{Service}
 use Rattle.master_node.specs.of_master_tour.Made.{is_in}
 use Rattle.master_node.specs.of_master_tour.Orders.{AreOnce}
 

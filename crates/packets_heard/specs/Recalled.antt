@@ -26,8 +26,8 @@ use Rattle.master_side.specs.Recall.{Recall}
 use Rattle.segment_plan.specs.declared.plan.Scenario.{Scenario}
 use Rattle.segment_ring.specs.Ring.{RingState, ring_behind}
 use Rattle.segment_ring.specs.declared.wire.Fate.TheVariants.{Pass, Lost}
-use Rattle.slave_server.specs.of_slave_node.of_slave_steps.Node.{Node, node_passed, is_settled}
-use Rattle.slave_server.specs.of_slave_node.of_slave_steps.Step.{pdi_step}
+use Rattle.slave_server.specs.of_slave_node.Node.{Node, node_passed, is_settled}
+use Rattle.slave_server.specs.of_slave_node.Step.{pdi_step}
 use Rattle.slave_server.specs.Serving.{Serving, takes, next_mail, rest, cleared}
 use Rattle.slave_server.specs.Spec.{node_of}
 use Rattle.packets_heard.specs.Toured.{IsToured}

@@ -4,7 +4,7 @@ use Rattle.master_node.specs.Serving.{run_lead, run_turn}
 use Rattle.master_node.specs.of_frame_view.View.{Lens}
 use Rattle.master_node.specs.of_life_runs.Led.{Exchanged, gives_up_at}
 use Rattle.master_node.specs.of_master_tour.Toured.{Tour, new_tour}
-use Rattle.master_node.specs.of_served_runs.Served.{Keyed, Serves, ServedTurn, IsServedFrame, MayAsk, asked_at, served_behind}
+use Rattle.master_node.specs.of_life_runs.Served.{Keyed, Serves, ServedTurn, IsServedFrame, MayAsk, asked_at, served_behind}
 use Rattle.packets_heard.specs.Toured.{IsTourFrame, tour_behind}
 
 module _ (lens : ℕ → Lens) (recover retry : ℕ) where

@@ -12,8 +12,8 @@ use Rattle.master_node.specs.of_master_tour.Toured.{Tour}
 use Rattle.segment_plan.specs.declared.plan.Scenario.{Scenario}
 use Rattle.segment_ring.specs.Ring.{ring_behind}
 use Rattle.segment_ring.specs.declared.wire.Fate.TheVariants.{Pass, Lost}
-use Rattle.master_node.specs.of_served_runs.Served.{Serves, ServedTurn, all_serve, served_behind}
-use Rattle.slave_server.specs.of_slave_node.of_slave_steps.Node.{node_passed}
+use Rattle.master_node.specs.of_life_runs.Served.{Serves, ServedTurn, all_serve, served_behind}
+use Rattle.slave_server.specs.of_slave_node.Node.{node_passed}
 use Rattle.packets_heard.specs.Recalled.{AllSettled, AtSwitch, IsFirst, IsLanOf, State, has_entered, stepped}
 use Rattle.packets_heard.specs.Served.{IsTourServed}
 

@@ -10,7 +10,7 @@ use Rattle.packets_heard.specs.Heard.{Joined, Times, joined_none, joined_on, tim
 use Rattle.packets_heard.specs.Listed.{ListedOn, long_ones, packets_by}
 use Rattle.packets_heard.specs.Numbers.{NumberedOn, each_with, frame_where}
 use Rattle.packets_heard.specs.Over.{BegunOn, packet_begun}
-use Rattle.master_node.specs.of_served_runs.Served.{Serves, IsServedLed, served_behind}
+use Rattle.master_node.specs.of_life_runs.Served.{Serves, IsServedLed, served_behind}
 
 module _ {lens : ℕ → Lens} {recover retry : ℕ} {first : List Serves} where
   -- a slave's packets, as its master joins them

@@ -21,7 +21,7 @@ ghost use Rattle.packets_heard.specs.Numbers.{NoneWaits, Numbered, begins, comes
 ghost use Rattle.packets_heard.specs.Over.{AreBegun, begun_at, forwarded_to, packets_begun};
 ghost use Rattle.packets_heard.specs.Listed.{IsOwn, Listed};
 ghost use Rattle.packets_heard.specs.Servings.{AreServedBegun, ServedListed, ServedNumbered, served_begun, served_completed, served_other, served_packets};
-ghost use Rattle.master_node.specs.of_served_runs.Served.{Serves, ServedTurn, IsServedFrame, IsServedLed};
+ghost use Rattle.master_node.specs.of_life_runs.Served.{Serves, ServedTurn, IsServedFrame, IsServedLed};
 ghost use Rattle.segment_ring.specs.declared.wire.Fate.{Fate};
 
 /// WHERE JUST THE PACKETS BEGIN THAT CAME INTO HAND, frame by frame, each the oldest at the port of its slave, over a run: at a port as many packets begin as came

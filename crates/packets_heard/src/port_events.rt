@@ -27,7 +27,7 @@ ghost use Rattle.segment_ring.specs.declared.wire.Fate.{Fate};
 ghost use Rattle.packets_heard.specs.Heard.{Joined, joined_in, joined_on, mails_by};
 ghost use Rattle.packets_heard.specs.Listed.{CarriesAll, IsOwn, Listed, downs_at, long_ones, packets_at, packets_by, unfinished_of};
 ghost use Rattle.packets_heard.specs.Servings.{ServedListed, served_joined};
-ghost use Rattle.master_node.specs.of_served_runs.Served.{Serves, ServedTurn, AllServedTurn, IsServedFrame, IsServedLed, served_behind};
+ghost use Rattle.master_node.specs.of_life_runs.Served.{Serves, ServedTurn, AllServedTurn, IsServedFrame, IsServedLed, served_behind};
 
 /// WHERE A MASTER'S STEPS LIST JUST THIS of the switch, over a run: the port of a slave that was live at its begin went down once if the slave was given
 /// up for good, and else not; and the packets that came in there are just those that the mails accepted of this slave complete, in order, each whole. A frame carries

@@ -15,7 +15,7 @@ ghost use Rattle.packets_heard.specs.Listed.{Listed};
 ghost use Rattle.packets_heard.specs.Recalled.{IsLanOf};
 ghost use Rattle.packets_heard.specs.Servings.{ServedListed};
 ghost use Rattle.segment_plan.specs.declared.plan.Scenario.{Scenario};
-ghost use Rattle.master_node.specs.of_served_runs.Served.{Serves, IsServedLed, all_serve};
+ghost use Rattle.master_node.specs.of_life_runs.Served.{Serves, IsServedLed, all_serve};
 
 /// WHERE THE MASTER WANTS NOTHING of each slave, no packet waits at any port: not at that of a slave that rests, nor at that of one that was given up for
 /// good, which is down; and at the host's none ever does.

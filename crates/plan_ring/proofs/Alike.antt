@@ -9,8 +9,8 @@ use Rattle.segment_model.specs.Ends.{Passing, passing_after}
 use Rattle.segment_model.specs.Record.{News}
 use Rattle.segment_model.specs.Seats.{Side, Choice, is_over, is_none_left, side_begins, side_holds, side_next, side_back, first_left, next_mail}
 use Rattle.segment_model.specs.Slaves.{Datagram, Found, grams}
-use Rattle.state_exchange.specs.Stated.{Service}
-use Rattle.task_model.specs.Accounts.{Pick, Duty, Account, mails_begin, mails_choice, is_free, is_acknowledged, account_begins, account_next, starts, state_begins, Stage}
+use Rattle.state_model.specs.Stated.{Service}
+use Rattle.state_model.specs.Accounts.{Pick, Duty, Account, mails_begin, mails_choice, is_free, is_acknowledged, account_begins, account_next, starts, state_begins, Stage}
 use Rattle.life_model.specs.Lives.{Spot, Life, Era, Stand, granted, passing_begins, era_next, era_back, era_lost, life_next, life_back, life_lost, passes, reopens, reopens_at, reopening, returns_to_init, opens_state, clears, opens, steps_on, shows_clear, last_step, is_shown}
 use Rattle.life_model.specs.Own.{own}
 use Rattle.plan_ring.specs.Alike.{Alike, RowIs, WishIs, InHandIs}

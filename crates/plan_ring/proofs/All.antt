@@ -6,7 +6,7 @@ use Rattle.run_frames.specs.of_life_runs.of_datagrams.Frame.{chained}
 use Rattle.run_frames.specs.of_life_runs.of_frame_view.Seen.{seen, datagrams_seen}
 use Rattle.run_frames.specs.of_life_runs.of_frame_view.View.{Lens}
 use Rattle.run_frames.proofs.of_life_runs.of_frame_view.Octets.{seen_is, seen_chained}
-use Rattle.never_waits.specs.Hears.{HearsFirst}
+use Rattle.slave_model.specs.Hears.{HearsFirst}
 use Rattle.run_frames.specs.of_life_runs.First.{lens_of}
 use Rattle.run_frames.specs.of_life_runs.Led.{Exchanged, Leads, Turn, AllTurn, IsLedFrame}
 use Rattle.run_frames.specs.of_life_runs.of_link_mails.Body.{Body}
@@ -22,7 +22,7 @@ use Rattle.run_frames.specs.of_life_runs.of_segment_ring.declared.wire.Fate.{Fat
 use Rattle.slave_parts.specs.of_slave_model.Profile.{Profile, IsProfile}
 use Rattle.slave_server.specs.Serving.{Serving}
 use Rattle.slave_server.specs.Spec.{profile_of}
-use Rattle.whole_ring.specs.of_slave_steps.Node.{Node}
+use Rattle.whole_ring.specs.of_slave_node.Node.{Node}
 use Rattle.plan_ring.specs.Dues.{AllDue}
 use Rattle.plan_ring.proofs.Slaves.{is_due}
 

@@ -5,7 +5,7 @@ use Rattle.whole_ring.specs.of_frames_seen.Own.{own_seen}
 use Rattle.whole_ring.specs.of_frames_seen.Slaves.{registers_seen, slave_of}
 use Rattle.plan_ring.specs.SlaveAsked.{AllAsk, AllMet, AllRead}
 use Rattle.plan_ring.proofs.Answers.{just_one}
-use Rattle.life_measure.specs.Repairs.{awaits_at, awaited}
+use Rattle.life_model.specs.Repairs.{awaits_at, awaited}
 use Rattle.life_model.specs.Eras.{Clearing}
 use Rattle.life_model.specs.Lives.{Spot, Era, Opening, AsksOpen, Stand, is_shown}
 use Rattle.life_model.specs.Own.{own}
@@ -22,9 +22,9 @@ use Rattle.segment_ring.specs.declared.wire.Fate.TheVariants.{Pass}
 use Rattle.whole_ring.specs.of_slave_lives.Lived.{Behind, RingFrame, LivesEra, fate_of, frame_of}
 use Rattle.whole_ring.specs.of_slave_lives.Opening.{Plan}
 use Rattle.whole_ring.specs.of_slave_lives.Stands.{Closing}
-use Rattle.steps_shown.specs.Shown.{StandsFor}
-use Rattle.steps_shown.proofs.Standing.{access_shows}
-use Rattle.task_model.specs.Accounts.{Pick}
+use Rattle.slave_lives.specs.Shown.{StandsFor}
+use Rattle.slave_lives.proofs.Standing.{access_shows}
+use Rattle.state_model.specs.Accounts.{Pick}
 use Rattle.whole_ring.specs.Turns.{FrameComes, era_before}
 use Rattle.whole_ring.specs.Whole.{IsWhole, OpensAs, OpensBy, plan_to}
 use Rattle.plan_ring.specs.Stands.{Asked, CameFirst}

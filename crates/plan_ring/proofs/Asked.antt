@@ -5,17 +5,17 @@ use Rattle.run_frames.specs.of_life_runs.of_frame_view.View.{Lens}
 use Rattle.run_frames.specs.of_life_runs.of_link_mails.Body.{Body}
 use Rattle.exchange_model.specs.Exchange.{Exchange, IsLawful}
 use Rattle.plan_ring.proofs.Named.{named_law}
-use Rattle.slave_parts.specs.of_exchange_sum.Refusing.{Refusal, gated}
-use Rattle.slave_parts.specs.of_foe_model.Meaning as FoeMeaning
-use Rattle.slave_parts.specs.of_eoe_model.Network.{Station}
+use Rattle.slave_parts.specs.of_exchange_model.Refusing.{Refusal, gated}
+use Rattle.slave_parts.specs.of_protocol_models.FoeMeaning as FoeMeaning
+use Rattle.slave_parts.specs.of_protocol_models.Network.{Station}
 use Rattle.run_frames.specs.of_life_runs.of_master_hand.Spoken.{Asked, sdo, file, drive, net, passed, hand_speech, acknowledged}
-use Rattle.slave_parts.specs.of_state_exchange.Families.{InState, states_of}
+use Rattle.slave_parts.specs.of_state_model.Families.{InState, states_of}
 use Rattle.slave_parts.specs.of_slave_model.Acknowledged as Slave
 use Rattle.slave_parts.specs.of_slave_model.Product.{product, served, refusal, side}
 use Rattle.slave_parts.specs.of_slave_model.Profile.{Protocol, Profile, IsProfile, areas_of, serves}
 use Rattle.slave_parts.specs.Parts.{Core, Server, parts}
 use Rattle.plan_ring.specs.Named.{Agrees, AgreesLast}
-use Rattle.book_model.specs.Chain.{Same}
+use Rattle.life_model.specs.Chain.{Same}
 use Rattle.plan_ring.specs.KeptFirst.{Forgets}
 use Rattle.plan_ring.specs.Real.{real_clearing}
 use Rattle.plan_ring.specs.Alike.{Alike}

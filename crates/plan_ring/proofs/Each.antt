@@ -4,8 +4,8 @@ use Rattle.datagrams.specs.Datagram as Raw
 use Rattle.datagrams.specs.Frame.{IsFrame, chained}
 use Rattle.frame_view.specs.Seen.{seen}
 use Rattle.frame_view.specs.View.{Lens}
-use Rattle.master_tour.specs.of_life_frames.Shares.{came_at, Asked as FrameHas}
-use Rattle.life_measure.specs.Repairs.{way_of}
+use Rattle.master_tour.specs.of_frame_view.Shares.{came_at, Asked as FrameHas}
+use Rattle.life_model.specs.Repairs.{way_of}
 use Rattle.life_model.specs.Lives.{Spot, Life, Era, Opening, Stand, life_next}
 use Rattle.life_model.specs.Own.{own}
 use Rattle.link_mails.specs.Body.{Body}
@@ -22,7 +22,7 @@ use Rattle.whole_ring.specs.of_slave_lives.Lived.{Behind, RingFrame, node_behind
 use Rattle.whole_ring.specs.of_slave_lives.Rings.{come_to, fate_seen, is_met_at, met, turned}
 use Rattle.whole_ring.specs.of_slave_lives.Seats.{AllMeet}
 use Rattle.whole_ring.proofs.of_slave_lives.AllSeats.{all_meet_first}
-use Rattle.whole_ring.specs.of_slave_steps.Node.{Node, node_passed}
+use Rattle.whole_ring.specs.of_slave_node.Node.{Node, node_passed}
 use Rattle.whole_ring.specs.Turns as Whole
 use Rattle.whole_ring.specs.Whole.{StandsAs}
 use Rattle.whole_ring.specs.Members.{Member, MemberIs, AllLived, IsRing}

@@ -13,10 +13,10 @@ use Rattle.whole_ring.specs.of_slave_lives.Lived.{Behind, table_of, node_seen, L
 use Rattle.whole_ring.specs.of_slave_lives.Opening.{Plan}
 use Rattle.whole_ring.specs.of_slave_lives.Stands.{opening_again}
 use Rattle.whole_ring.proofs.of_slave_lives.EraEnds as Ends
-use Rattle.whole_ring.specs.of_slave_steps.Node.{Node}
-use Rattle.state_exchange.specs.Stated.{mails, with_states}
-use Rattle.task_model.specs.Promise.{TasksPromised, TasksAnswered, TasksRestIf, services_in}
-use Rattle.task_model.proofs.Sessions.{of_slaves, tasks_promised, tasks_rest, tasks_answered}
+use Rattle.whole_ring.specs.of_slave_node.Node.{Node}
+use Rattle.state_model.specs.Stated.{mails, with_states}
+use Rattle.state_model.specs.Promise.{TasksPromised, TasksAnswered, TasksRestIf, services_in}
+use Rattle.state_model.proofs.Sessions.{of_slaves, tasks_promised, tasks_rest, tasks_answered}
 use Rattle.whole_ring.specs.Whole.{OwesLaws, OpensAs, OpensBy, StandsAs, IsLived}
 use Rattle.plan_ring.proofs.Owns.{owned}
 use Rattle.plan_ring.proofs.Settled.{settled_seen}

@@ -2,7 +2,7 @@
 use Rattle.std.proofs.Common.{◌≡◌, inl, inr, ℕ, Bool, true, false, List, [], ◌∷◌, ◌++◌, refl, sym, ap, ◌∙◌, append_assoc}
 use Rattle.exchange_model.specs.Exchange.{Exchange, IsLawful}
 use Rattle.exchange_model.specs.Prefix.{IsPrefixOf}
-use Rattle.never_waits.specs.Hears.{HearsFirst}
+use Rattle.slave_model.specs.Hears.{HearsFirst}
 use Rattle.life_model.specs.Eras.{EraIs, era_frames, planned}
 use Rattle.life_model.specs.Lives.{Spot, Era}
 use Rattle.link_model.specs.Frames.{IsFrameFor, all_accepted}
@@ -13,15 +13,15 @@ use Rattle.segment_model.specs.Record.{Frame}
 use Rattle.segment_model.specs.Seats.{Seat, link_of, seat_next, seat_back}
 use Rattle.segment_model.specs.Slaves.{Datagram, Processor, Registers, Slave, grams, frame_after}
 use Rattle.segment_model.proofs.Sounds.{SeatAgrees, frame_agrees, next_agrees}
-use Rattle.state_exchange.specs.Stated.{Stated, IsStated}
+use Rattle.state_model.specs.Stated.{Stated, IsStated}
 use Rattle.state_model.specs.Promises.{IsTable}
 use Rattle.state_model.specs.States.{Table}
-use Rattle.task_model.specs.Accounts.{Account, Pick, account_next, mails_choice}
-use Rattle.task_model.proofs.Begins.{carried_next}
-use Rattle.task_model.proofs.Ghosts.{Carried}
-use Rattle.task_model.proofs.Newest.{Holds}
-use Rattle.task_model.proofs.Sessions.{of_slaves}
-use Rattle.task_model.proofs.Stately.{state_over, free_state}
+use Rattle.state_model.specs.Accounts.{Account, Pick, account_next, mails_choice}
+use Rattle.state_model.proofs.Begins.{carried_next}
+use Rattle.state_model.proofs.Ghosts.{Carried}
+use Rattle.state_model.proofs.Newest.{Holds}
+use Rattle.state_model.proofs.Sessions.{of_slaves}
+use Rattle.state_model.proofs.Stately.{state_over, free_state}
 use Rattle.plan_ring.specs.Brings.{BringsDue}
 use Rattle.plan_ring.proofs.Seats.{awaited}
 

@@ -4,7 +4,7 @@ use Rattle.std.proofs.lemmas.List.{length-map, map-append}
 use Rattle.datagrams.specs.Frame.{chained}
 use Rattle.frame_view.specs.Seen.{seen}
 use Rattle.frame_view.specs.View.{Lens}
-use Rattle.master_tour.specs.of_life_frames.Shares.{Lived}
+use Rattle.master_tour.specs.of_frame_view.Shares.{Lived}
 use Rattle.life_model.specs.Lives.{Stand}
 use Rattle.life_model.specs.Own.{own}
 use Rattle.run_frames.specs.of_life_runs.First.{lens_of}
@@ -36,7 +36,7 @@ use Rattle.segment_ring.specs.declared.wire.Fate.{Fate}
 use Rattle.segment_ring.specs.declared.wire.Fate.TheVariants.{Pass, Lost}
 use Rattle.whole_ring.specs.of_slave_lives.Rings.{fate_seen}
 use Rattle.slave_server.specs.Serving.{Serving}
-use Rattle.whole_ring.specs.of_slave_steps.Node.{Node, node_passed}
+use Rattle.whole_ring.specs.of_slave_node.Node.{Node, node_passed}
 use Rattle.whole_ring.specs.Members.{IsRing}
 use Rattle.whole_ring.specs.Turning as Whole
 use Rattle.whole_ring.specs.Turning.{frame_at, behind_frame, given_up, next_life}

@@ -6,7 +6,7 @@ use Rattle.datagrams.specs.declared.command.Command.TheVariants.{Aprd, Apwr, Apr
 use Rattle.esc_registers.specs.Access.{is_by_station}
 use Rattle.esc_registers.specs.declared.registers.Registers as Esc
 use Rattle.exchange_model.specs.Exchange.{Speech}
-use Rattle.frame_pass.specs.Passing.{registers_after, datagrams_after}
+use Rattle.slave_node.specs.Passing.{registers_after, datagrams_after}
 use Rattle.frame_view.specs.Seen.{seen, datagrams_seen}
 use Rattle.frame_view.specs.View.{Lens, station_of}
 use Rattle.whole_ring.specs.of_frames_seen.Own.{own_of, own_seen, is_to, IsAlone}
@@ -41,8 +41,8 @@ use Rattle.whole_ring.specs.of_slave_lives.Rings.{registers_of, come_to, come_ba
 use Rattle.whole_ring.proofs.of_slave_lives.Owned.{own_is}
 use Rattle.whole_ring.proofs.of_slave_lives.RingFrames.{met_runs}
 use Rattle.whole_ring.proofs.of_slave_lives.RingLives.{sent_is, back_is}
-use Rattle.steps_shown.proofs.Asking.{acknowledges}
-use Rattle.task_model.specs.Accounts.{Pick, mails_choice}
+use Rattle.slave_lives.proofs.Asking.{acknowledges}
+use Rattle.state_model.specs.Accounts.{Pick, mails_choice}
 use Rattle.whole_ring.specs.Turns.{FrameComes, era_before, era_behind}
 use Rattle.whole_ring.specs.Whole.{IsWhole}
 use Rattle.whole_ring.proofs.Still.{own_comes}

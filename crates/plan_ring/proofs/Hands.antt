@@ -8,8 +8,8 @@ use Rattle.run_frames.specs.Clocks.{Clocked, duty_reopens, goes_to_init}
 use Rattle.run_frames.specs.Goes.{Under, HandAt, IsUnder, AllUnder, given_if, all_back, all_lost}
 use Rattle.segment_model.specs.Record.{News}
 use Rattle.segment_model.specs.Slaves.{Datagram, Found}
-use Rattle.state_exchange.specs.Stated.{Service}
-use Rattle.task_model.specs.Accounts.{Duty, Stage, Pick, account_begins, starts, state_begins, is_free, is_acknowledged}
+use Rattle.state_model.specs.Stated.{Service}
+use Rattle.state_model.specs.Accounts.{Duty, Stage, Pick, account_begins, starts, state_begins, is_free, is_acknowledged}
 use Rattle.plan_ring.specs.Hands.{AllHand}
 
 module _ {M Q R : Type 0} (x : Speech M Q R) (acknowledged : Q → Bool) (more : M → Bool) (passed : Q → Bool) (frame : ℕ) where

@@ -3,20 +3,20 @@ use Rattle.std.proofs.Common.{◌≡◌, ℕ, ◌-◌, Bool, List, [], ◌∷◌
 use Rattle.std.specs.Prelude.{Option, Some, None, is_some, if◌then◌else◌}
 use Rattle.link_mails.specs.Body.{Body}
 use Rattle.segment_model.specs.Record.{Frame}
-use Rattle.whole_ring.specs.of_slave_steps.Node.{Node}
+use Rattle.whole_ring.specs.of_slave_node.Node.{Node}
 use Rattle.life_model.specs.Book.{SlaveBook}
 use Rattle.life_model.specs.Eras.{Clearing}
 use Rattle.life_model.specs.Lives.{Spot, Life, Era, Stand}
-use Rattle.book_model.specs.Chain.{Epoch, booked, behind_clear, Written, Chained, AreLeft, AllBegin}
-use Rattle.book_model.specs.Answers.{between}
-use Rattle.book_model.specs.Open.{Setting, Begun, IsOpenLife, IsIdle}
+use Rattle.life_model.specs.Chain.{Epoch, booked, behind_clear, Written, Chained, AreLeft, AllBegin}
+use Rattle.life_model.specs.Answers.{between}
+use Rattle.life_model.specs.Open.{Setting, Begun, IsOpenLife, IsIdle}
 use Rattle.whole_ring.specs.of_slave_lives.Ends.{LeftEras}
 use Rattle.whole_ring.specs.of_slave_lives.Lived.{Behind, LivesEra, node_seen}
 use Rattle.whole_ring.specs.of_slave_lives.Opening.{Plan}
 use Rattle.whole_ring.specs.Whole.{OwesLaws, LivesOpen, StandsAs, IsLived}
 use Rattle.segment_model.specs.Laws.{IsSettled, WantsNothing}
-use Rattle.book_model.proofs.Opens.{open_answers, open_epochs, open_state, open_rests, open_each}
-use Rattle.book_model.proofs.Scripts.{open_rows}
+use Rattle.life_model.proofs.Opens.{open_answers, open_epochs, open_state, open_rests, open_each}
+use Rattle.life_model.proofs.Scripts.{open_rows}
 use Rattle.plan_ring.specs.KeptFirst.{Forgets, setting_of, FirstBook}
 use Rattle.plan_ring.specs.Rows.{IsFirst, StandsFirst}
 

@@ -20,7 +20,7 @@ use Rattle.run_frames.specs.of_life_runs.of_segment_ring.Ring.{RingState}
 use Rattle.run_frames.specs.of_life_runs.of_segment_ring.Schedule.{fate_at}
 use Rattle.whole_ring.specs.of_slave_lives.Rings.{fate_seen}
 use Rattle.slave_server.specs.Serving.{Serving}
-use Rattle.whole_ring.specs.of_slave_steps.Node.{Node}
+use Rattle.whole_ring.specs.of_slave_node.Node.{Node}
 use Rattle.whole_ring.specs.Members.{IsRing, first_ring}
 use Rattle.whole_ring.specs.Turning.{frame_at}
 use Rattle.plan_ring.specs.Lives.{IsKnown, AllShown, AreLived}

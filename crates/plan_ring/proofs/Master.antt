@@ -4,7 +4,7 @@ use Rattle.std.specs.Prelude.{if◌then◌else◌}
 use Rattle.std.proofs.lemmas.List.Elements.{All-head, All-tail}
 use Rattle.run_frames.specs.of_life_runs.of_datagrams.Datagram as Raw
 use Rattle.run_frames.specs.of_life_runs.of_datagrams.Frame.{IsFrame, chained}
-use Rattle.frame_pass.specs.Passing.{datagrams_after}
+use Rattle.slave_node.specs.Passing.{datagrams_after}
 use Rattle.run_frames.specs.of_life_runs.of_frame_view.View.{Lens}
 use Rattle.run_frames.specs.of_life_runs.of_link_mails.Body.{Body}
 use Rattle.slave_parts.specs.of_segment_model.Record.{Frame}
@@ -17,12 +17,12 @@ use Rattle.run_frames.specs.of_life_runs.of_segment_ring.declared.wire.Fate.TheV
 use Rattle.run_frames.specs.of_life_runs.of_segment_ring.Ring.{RingState, ring_behind}
 use Rattle.run_frames.specs.of_life_runs.of_segment_ring.Schedule.{fate_at}
 use Rattle.slave_server.specs.Serving.{Serving}
-use Rattle.whole_ring.specs.of_slave_steps.Node.{Node, node_passed}
+use Rattle.whole_ring.specs.of_slave_node.Node.{Node, node_passed}
 use Rattle.run_frames.specs.of_life_runs.of_master_duty.Reply as Master
 use Rattle.run_frames.specs.of_life_runs.of_master_hand.Spoken.{Asked, acknowledged}
 use Rattle.life_model.specs.Lives.{Spot, Life, life_next, life_back, life_lost, gives_up}
-use Rattle.run_frames.specs.of_life_runs.of_life_frames.Shares as Shares
-use Rattle.run_frames.specs.of_life_runs.of_life_frames.Shares.{Lived, came_at, given_where}
+use Rattle.run_frames.specs.of_life_runs.of_frame_view.Shares as Shares
+use Rattle.run_frames.specs.of_life_runs.of_frame_view.Shares.{Lived, came_at, given_where}
 use Rattle.plan_ring.specs.Alike.{InHandIs}
 use Rattle.plan_ring.proofs.Alike as Alike
 use Rattle.whole_ring.specs.of_slave_lives.Rings.{fate_seen, is_met_at, met, turned}

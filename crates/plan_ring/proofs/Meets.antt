@@ -4,7 +4,7 @@ use Rattle.std.proofs.lemmas.List.{length-map}
 use Rattle.datagrams.specs.Frame.{chained}
 use Rattle.frame_view.specs.Seen.{seen}
 use Rattle.frame_view.specs.View.{Lens}
-use Rattle.master_tour.specs.of_life_frames.Shares.{Lived}
+use Rattle.master_tour.specs.of_frame_view.Shares.{Lived}
 use Rattle.life_model.specs.Lives.{Spot}
 use Rattle.life_model.specs.Own.{own}
 use Rattle.run_frames.specs.of_life_runs.First.{lens_of}
@@ -34,11 +34,11 @@ use Rattle.segment_ring.specs.Schedule.{fate_at}
 use Rattle.segment_ring.specs.declared.wire.Fate.TheVariants.{Pass}
 use Rattle.whole_ring.specs.of_slave_lives.Lived.{Behind, node_seen}
 use Rattle.slave_parts.specs.Parts.{Core, Server}
-use Rattle.slave_parts.specs.of_eoe_model.Network.{Station}
+use Rattle.slave_parts.specs.of_protocol_models.Network.{Station}
 use Rattle.slave_server.specs.Serving.{Serving}
 use Rattle.slave_server.specs.Spec.{profile_of}
-use Rattle.whole_ring.specs.of_slave_steps.Node.{Node, node_passed}
-use Rattle.state_exchange.specs.Families.{InState}
+use Rattle.whole_ring.specs.of_slave_node.Node.{Node, node_passed}
+use Rattle.state_model.specs.Families.{InState}
 use Rattle.whole_ring.specs.Turning as Whole
 use Rattle.whole_ring.specs.Turning.{frame_at, behind_frame}
 use Rattle.whole_ring.proofs.Members as Members

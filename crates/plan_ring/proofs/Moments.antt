@@ -8,8 +8,8 @@ use Rattle.exchange_model.specs.Laws.{Moment}
 use Rattle.exchange_model.proofs.Nows.{Reached, reached_or_waits}
 use Rattle.exchange_model.proofs.Settles.{settled_ready}
 use Rattle.exchange_model.proofs.Words.{plain-append, plain_given-append}
-use Rattle.never_waits.specs.Hears.{HearsFirst}
-use Rattle.never_waits.proofs.HearsDialogues.{drop_none, not_none}
+use Rattle.slave_model.specs.Hears.{HearsFirst}
+use Rattle.slave_model.proofs.HearsDialogues.{drop_none, not_none}
 use Rattle.master_tour.specs.of_master_side.Due.{IsReply}
 
 -- nothing is left further on either

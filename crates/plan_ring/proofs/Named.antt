@@ -3,7 +3,7 @@ use Rattle.std.proofs.Common.{◌≡◌, ◌⊎◌, inl, inr, ◌&&◌, Bool, tr
 use Rattle.std.specs.Prelude.{if◌then◌else◌, Option, Some, None, option_map}
 use Rattle.exchange_model.specs.Exchange.{Exchange, Speech, IsLawful, Before, Behind}
 use Rattle.exchange_model.specs.Prefix.{IsPrefixOf}
-use Rattle.state_exchange.specs.Stated.{Stated, IsStated}
+use Rattle.state_model.specs.Stated.{Stated, IsStated}
 use Rattle.plan_ring.specs.Named.{Naming, named, named_states, Agrees, AgreesLast}
 
 left_of : (a b : Bool) → (a && b) ≡ true → a ≡ true

@@ -3,7 +3,7 @@ use Rattle.std.proofs.Common.{◌≡◌, ◌&&◌, Bool, true, false, refl, sym,
 use Rattle.std.specs.Prelude.{drop, length}
 use Rattle.exchange_model.specs.Exchange.{Exchange, Speech, given, plain}
 use Rattle.plan_ring.specs.Named.{Naming, Agrees, named}
-use Rattle.never_waits.specs.Waits.{NeverWaits}
+use Rattle.slave_model.specs.Waits.{NeverWaits}
 
 both_parts : (a b : Bool) → (a && b) ≡ true → (a ≡ true) × (b ≡ true)
 both_parts true b e = (refl, e)

@@ -3,7 +3,7 @@ use Rattle.std.proofs.Common.{◌≡◌, ◌&&◌, Bool, true, false, Option, So
 use Rattle.std.specs.Prelude.{drop, length}
 use Rattle.exchange_model.specs.Exchange.{Exchange, Speech, plain}
 use Rattle.exchange_model.specs.Rows.{Row}
-use Rattle.never_waits.specs.Hears.{HearsFirst}
+use Rattle.slave_model.specs.Hears.{HearsFirst}
 use Rattle.run_frames.specs.of_life_runs.of_master_side.Due.{IsReply, IsAwaited, IsDue, EachDue}
 use Rattle.plan_ring.specs.Alike.{Alike, RowIs}
 use Rattle.plan_ring.specs.Named.{Naming, Agrees, named}

@@ -3,7 +3,7 @@ use Rattle.std.proofs.Common.{◌≡◌, ℕ, zero, suc, Bool, true, false, List
 use Rattle.datagrams.specs.Datagram as Raw
 use Rattle.ec_fields.specs.Fields.{bits_of}
 use Rattle.esc_registers.specs.declared.registers.Registers as Esc
-use Rattle.frame_pass.specs.Passing.{registers_after, datagrams_after}
+use Rattle.slave_node.specs.Passing.{registers_after, datagrams_after}
 use Rattle.frame_view.specs.Seen.{seen}
 use Rattle.whole_ring.specs.of_frames_seen.Kept.{FrameKeeps}
 use Rattle.whole_ring.specs.of_frames_seen.Own.{own_of, own_seen, IsAlone}
@@ -31,10 +31,10 @@ use Rattle.whole_ring.proofs.of_slave_lives.NodeSteps.{steps_on}
 use Rattle.whole_ring.proofs.of_slave_lives.RingFrames.{after_keeps, met_runs}
 use Rattle.whole_ring.proofs.of_slave_lives.RingLives.{sent_is}
 use Rattle.whole_ring.proofs.of_slave_lives.Stepping.{step_view}
-use Rattle.whole_ring.specs.of_slave_steps.Node.{Node}
-use Rattle.state_law.specs.Shows.{slave_table}
+use Rattle.whole_ring.specs.of_slave_node.Node.{Node}
+use Rattle.frames_seen.specs.Shows.{slave_table}
 use Rattle.state_model.specs.States as States
-use Rattle.task_model.specs.Accounts.{Pick}
+use Rattle.state_model.specs.Accounts.{Pick}
 use Rattle.whole_ring.specs.Turns.{FrameComes, era_before}
 use Rattle.whole_ring.specs.Whole.{IsWhole, LivesOpen}
 use Rattle.whole_ring.proofs.Open.{steady_of, over_begins, hand_begins}

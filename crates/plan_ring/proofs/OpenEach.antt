@@ -4,7 +4,7 @@ use Rattle.datagrams.specs.Datagram as Raw
 use Rattle.datagrams.specs.Frame.{IsFrame, chained}
 use Rattle.frame_view.specs.Seen.{seen}
 use Rattle.frame_view.specs.View.{Lens}
-use Rattle.master_tour.specs.of_life_frames.Shares.{came_at, Asked as FrameHas}
+use Rattle.master_tour.specs.of_frame_view.Shares.{came_at, Asked as FrameHas}
 use Rattle.life_model.specs.Lives.{Spot, Stand}
 use Rattle.life_model.specs.Own.{own}
 use Rattle.link_mails.specs.Body.{Body}
@@ -15,7 +15,7 @@ use Rattle.segment_ring.specs.declared.wire.Fate.TheVariants.{Pass}
 use Rattle.whole_ring.specs.of_slave_lives.Lived.{Behind, RingFrame, node_behind, frame_of}
 use Rattle.whole_ring.specs.of_slave_lives.Rings.{come_to, is_met_at, met, turned}
 use Rattle.whole_ring.specs.of_slave_lives.Seats.{AllMeet}
-use Rattle.whole_ring.specs.of_slave_steps.Node.{Node, node_passed}
+use Rattle.whole_ring.specs.of_slave_node.Node.{Node, node_passed}
 use Rattle.whole_ring.specs.Turns as Whole
 use Rattle.whole_ring.specs.Whole.{StandsAs}
 use Rattle.whole_ring.specs.Members.{Member, MemberIs, AllLived, IsRing}

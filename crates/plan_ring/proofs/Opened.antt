@@ -6,7 +6,7 @@ use Rattle.ec_fields.specs.Fields.{bits_of}
 use Rattle.esc_registers.specs.declared.registers.Registers as Esc
 use Rattle.al_state.specs.Request.{is_state}
 use Rattle.whole_ring.specs.of_frames_seen.Slaves.{registers_seen}
-use Rattle.life_measure.specs.Repairs.{awaits_at}
+use Rattle.life_model.specs.Repairs.{awaits_at}
 use Rattle.life_model.specs.Eras.{Clearing}
 use Rattle.life_model.specs.Lives.{Spot, Era, Opening, Stand, shows_clear, last_step}
 use Rattle.link_mails.specs.Body.{Body}
@@ -24,9 +24,9 @@ use Rattle.whole_ring.proofs.of_slave_lives.Arrives as Arrived
 use Rattle.whole_ring.proofs.of_slave_lives.Closing as Closed
 use Rattle.whole_ring.proofs.of_slave_lives.RingFrames.{met_runs}
 use Rattle.whole_ring.proofs.of_slave_lives.Words.{state_in}
-use Rattle.steps_shown.specs.Shown.{StandsFor}
-use Rattle.steps_shown.proofs.Going.{stays_on, goes_on, step_on}
-use Rattle.steps_shown.proofs.Standing.{watch_stands}
+use Rattle.slave_lives.specs.Shown.{StandsFor}
+use Rattle.slave_lives.proofs.Going.{stays_on, goes_on, step_on}
+use Rattle.slave_lives.proofs.Standing.{watch_stands}
 use Rattle.whole_ring.specs.Turns.{FrameComes, Came}
 use Rattle.whole_ring.specs.Whole.{IsWhole, LivesStill, OpensAs, OpensBy, plan_to}
 use Rattle.whole_ring.proofs.Kept.{met_boot}

@@ -1,7 +1,7 @@
 -- An open slave, by a frame: it is open yet, or its reopening begins.
 use Rattle.std.proofs.Common.{◌≡◌, ℕ, Bool, true, false, Option, Some, None, List, refl, sym, ap, ap₂, ◌∙◌, subst, if◌then◌else◌}
 use Rattle.plan_ring.specs.SlaveAsked.{IsAsked, GoesOn}
-use Rattle.life_measure.specs.Repairs.{way_of, stand_way}
+use Rattle.life_model.specs.Repairs.{way_of, stand_way}
 use Rattle.life_model.specs.Eras.{Clearing}
 use Rattle.life_model.specs.Lives.{Spot, Era, Life, Stand, reopens, reopens_at, reopening, returns_to_init, opens_state}
 use Rattle.link_mails.specs.Body.{Body}
@@ -13,7 +13,7 @@ use Rattle.segment_model.specs.Record.{Frame, News}
 use Rattle.segment_model.specs.Slaves.{Found}
 use Rattle.whole_ring.specs.of_slave_lives.Lived.{Behind, RingFrame, LivesEra, fate_of, node_met, node_behind, frame_of}
 use Rattle.whole_ring.specs.of_slave_lives.Opening.{Plan}
-use Rattle.task_model.specs.Accounts.{Pick, Duty, Stage}
+use Rattle.state_model.specs.Accounts.{Pick, Duty, Stage}
 use Rattle.whole_ring.specs.Turns.{FrameComes, AsksFor, era_before, era_behind, life_by}
 use Rattle.whole_ring.specs.Whole.{IsWhole}
 use Rattle.plan_ring.specs.Stands.{Asked, StandsTo}

@@ -14,15 +14,15 @@ use Rattle.segment_model.specs.Record.{Frame, heard}
 use Rattle.segment_model.specs.Seats.{Seat, link_of}
 use Rattle.state_model.specs.Promises.{IsTable}
 use Rattle.state_model.specs.States.{Table}
-use Rattle.state_exchange.specs.Stated.{Stated, IsStated, Act, Service, Counting, acts, mails, with_states}
-use Rattle.state_exchange.proofs.Acts.{acts_same, mails_acts, mails_append, plain_acts}
-use Rattle.task_model.specs.Accounts.{Account}
-use Rattle.task_model.specs.Promise.{services_in}
-use Rattle.task_model.proofs.Begins.{accepted_begin}
-use Rattle.task_model.proofs.Dones.{services_same}
-use Rattle.task_model.proofs.Ghosts.{counting, Rowed, Untouched}
-use Rattle.task_model.proofs.Newest.{Holds}
-use Rattle.task_model.proofs.Stately.{state_over}
+use Rattle.state_model.specs.Stated.{Stated, IsStated, Act, Service, Counting, acts, mails, with_states}
+use Rattle.state_model.proofs.Acts.{acts_same, mails_acts, mails_append, plain_acts}
+use Rattle.state_model.specs.Accounts.{Account}
+use Rattle.state_model.specs.Promise.{services_in}
+use Rattle.state_model.proofs.Begins.{accepted_begin}
+use Rattle.state_model.proofs.Dones.{services_same}
+use Rattle.state_model.proofs.Ghosts.{counting, Rowed, Untouched}
+use Rattle.state_model.proofs.Newest.{Holds}
+use Rattle.state_model.proofs.Stately.{state_over}
 use Rattle.plan_ring.specs.Epochs.{replies_all}
 
 -- ---- rows of one exchange

@@ -2,8 +2,8 @@
 use Rattle.std.proofs.Common.{◌≡◌, ℕ, suc, Bool, true, false, List, [], ◌∷◌, map, length, refl, sym, ap, ◌∙◌, subst, if◌then◌else◌}
 use Rattle.std.specs.Prelude.{⊤}
 use Rattle.exchange_model.specs.Exchange.{Speech}
-use Rattle.master_tour.specs.of_life_frames.Shares.{Lived}
-use Rattle.life_measure.specs.Repairs.{way_of}
+use Rattle.master_tour.specs.of_frame_view.Shares.{Lived}
+use Rattle.life_model.specs.Repairs.{way_of}
 use Rattle.life_model.specs.Lives.{Spot, Life, gives_up}
 use Rattle.run_frames.specs.of_life_runs.First.{leads_from}
 use Rattle.run_frames.specs.of_life_runs.Led.{Leads}

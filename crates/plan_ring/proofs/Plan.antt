@@ -15,7 +15,7 @@ use Rattle.slave_parts.specs.of_slave_model.Profile.{Profile, IsProfile}
 use Rattle.whole_ring.specs.of_slave_lives.Opening.{Plan, IsPlan}
 use Rattle.slave_server.specs.Serving.{Serving}
 use Rattle.slave_server.specs.Spec.{profile_of, server_of, node_of}
-use Rattle.whole_ring.specs.of_slave_steps.Node.{Node}
+use Rattle.whole_ring.specs.of_slave_node.Node.{Node}
 use Rattle.plan_ring.specs.Real.{real, running_as, real_clearing, StepsAs}
 use Rattle.plan_ring.specs.Rooms.{IsSound}
 use Rattle.whole_ring.specs.of_slave_lives.Nodes.{GivesPlaced}

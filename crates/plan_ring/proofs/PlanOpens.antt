@@ -2,7 +2,7 @@
 use Rattle.std.proofs.Common.{◌≡◌, ℕ, suc, List, [], ◌∷◌, map, sym, ap, ◌∙◌, subst}
 use Rattle.exchange_model.specs.Exchange.{Speech, IsLawful}
 use Rattle.frame_view.specs.View.{Lens}
-use Rattle.master_tour.specs.of_life_frames.Shares.{Lived}
+use Rattle.master_tour.specs.of_frame_view.Shares.{Lived}
 use Rattle.life_model.specs.Lives.{Spot, Stand, Life}
 use Rattle.run_frames.specs.of_life_runs.First.{lens_of, spot_of}
 use Rattle.run_frames.specs.of_life_runs.Led.{Exchanged, Leads, speech_at}
@@ -20,11 +20,11 @@ use Rattle.scenario.specs.of_segment_plan.declared.plan.Scenario.{Scenario}
 use Rattle.scenario.specs.of_segment_plan.declared.slave.SlaveSpec.{SlaveSpec}
 use Rattle.whole_ring.specs.of_slave_lives.Lived.{Behind, IsBehind}
 use Rattle.slave_parts.specs.Parts.{Core, Server}
-use Rattle.slave_parts.specs.of_eoe_model.Network.{Station}
+use Rattle.slave_parts.specs.of_protocol_models.Network.{Station}
 use Rattle.slave_server.specs.Serving.{Serving}
 use Rattle.slave_server.specs.Spec.{profile_of}
-use Rattle.state_exchange.specs.Families.{InState}
-use Rattle.state_exchange.specs.Stated.{IsStated}
+use Rattle.state_model.specs.Families.{InState}
+use Rattle.state_model.specs.Stated.{IsStated}
 use Rattle.whole_ring.specs.Whole.{StandsAs, LivesOpen}
 use Rattle.whole_ring.specs.Members.{MemberIs, AllLived}
 use Rattle.plan_ring.specs.PlanMet.{IsOpenAt, IsAt, AllOpenAt}

@@ -2,8 +2,8 @@
 use Rattle.std.proofs.Common.{◌≡◌, ◌≤◌, ℕ, suc, ◌+◌, Bool, true, false, Option, Some, None, List, [], ◌∷◌, length, refl, sym, ap, ◌∙◌, arith, if◌then◌else◌}
 use Rattle.std.specs.Prelude.{nat_le, nat_lt, map}
 use Rattle.std.proofs.lemmas.Bool.{le-leb, leb-true, le-ltb}
-use Rattle.life_measure.specs.Deadlines.{Standing, deadline, deadline_of, is_vain, repair}
-use Rattle.life_measure.specs.Repairs.{Way, way_of, stand_way}
+use Rattle.life_model.specs.Deadlines.{Standing, deadline, deadline_of, is_vain, repair}
+use Rattle.life_model.specs.Repairs.{Way, way_of, stand_way}
 use Rattle.life_model.specs.Lives.{Stand}
 use Rattle.link_model.specs.Master.{InState}
 use Rattle.run_frames.specs.Clocks.{Clocked, standing, in_round, ahead_at, repair_of, alone, one_by_one}

@@ -6,13 +6,13 @@ use Rattle.segment_model.specs.Ends.{Passing}
 use Rattle.segment_model.specs.Record.{News, is_for}
 use Rattle.segment_model.specs.Seats.{Side}
 use Rattle.segment_model.specs.Slaves.{Datagram, Found}
-use Rattle.state_exchange.specs.Stated.{Service}
-use Rattle.task_model.specs.Accounts.{Pick, Duty, Account, Started, Stage, Progress, starts, is_free, is_acknowledged, state_begins, account_begins, account_met, account_by, account_back, access_done}
-use Rattle.task_model.specs.Promise.{services_in}
+use Rattle.state_model.specs.Stated.{Service}
+use Rattle.state_model.specs.Accounts.{Pick, Duty, Account, Started, Stage, Progress, starts, is_free, is_acknowledged, state_begins, account_begins, account_met, account_by, account_back, access_done}
+use Rattle.state_model.specs.Promise.{services_in}
 use Rattle.life_model.specs.Book.{NoInits}
 use Rattle.life_model.specs.Lives.{Spot, Life, Era, Opening, Stand, granted, era_next, era_back, returns_to_init, reopens, reopens_at, reopening, opens_state, life_next, life_back, life_lost, opening_back, clears, opens, steps_on, shows_clear, last_step, is_shown, new_life}
 use Rattle.life_model.specs.Own.{own}
-use Rattle.book_model.specs.Chain.{AllBegin}
+use Rattle.life_model.specs.Chain.{AllBegin}
 use Rattle.plan_ring.specs.Rows.{HandStays, WishStays, StandsFirst, IsFirst}
 
 -- one row more

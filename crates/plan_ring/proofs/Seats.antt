@@ -3,18 +3,18 @@ use Rattle.std.proofs.Common.{◌≡◌, inl, inr, ℕ, true, false, Option, Som
 use Rattle.exchange_model.specs.Exchange.{Exchange, IsLawful, given, plain}
 use Rattle.exchange_model.specs.Prefix.{IsPrefixOf}
 use Rattle.exchange_model.specs.Rows.{Row, left}
-use Rattle.never_waits.specs.Hears.{HearsFirst}
-use Rattle.never_waits.proofs.HearsStates.{states_hears}
+use Rattle.slave_model.specs.Hears.{HearsFirst}
+use Rattle.slave_model.proofs.HearsStates.{states_hears}
 use Rattle.master_tour.specs.of_master_side.Due.{IsReply, IsAwaited}
 use Rattle.segment_model.specs.Ends.{Outcome}
 use Rattle.segment_model.specs.Laws.{as_outcome}
 use Rattle.segment_model.specs.Seats.{Seat}
-use Rattle.state_exchange.specs.Stated.{Stated, IsStated, Act, Service, Counting, acts, mails, all_mails, ends_by, service_ends, with_states}
-use Rattle.state_exchange.proofs.Acts.{acts_append, acts_same, acts_all, cut_mails, left_mails, plain_acts, mails_acts}
-use Rattle.state_exchange.proofs.StatedLaw.{stated_law}
+use Rattle.state_model.specs.Stated.{Stated, IsStated, Act, Service, Counting, acts, mails, all_mails, ends_by, service_ends, with_states}
+use Rattle.state_model.proofs.Acts.{acts_append, acts_same, acts_all, cut_mails, left_mails, plain_acts, mails_acts}
+use Rattle.state_model.proofs.StatedLaw.{stated_law}
 use Rattle.state_model.specs.States.{Table}
-use Rattle.task_model.specs.Accounts.{Account}
-use Rattle.task_model.proofs.Ghosts.{Carried, GhostRow, Rowed, Shows, counting}
+use Rattle.state_model.specs.Accounts.{Account}
+use Rattle.state_model.proofs.Ghosts.{Carried, GhostRow, Rowed, Shows, counting}
 use Rattle.plan_ring.proofs.Moments.{next_due}
 
 -- no answer as an outcome is none

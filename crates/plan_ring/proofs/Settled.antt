@@ -13,7 +13,7 @@ use Rattle.segment_model.specs.Laws.{IsSettled}
 use Rattle.segment_model.specs.Slaves.{first_waiting}
 use Rattle.whole_ring.specs.of_slave_lives.Lived.{Behind, IsBehind, node_seen}
 use Rattle.whole_ring.specs.of_slave_lives.Steps.{Stands}
-use Rattle.whole_ring.specs.of_slave_steps.Node.{Node, is_settled}
+use Rattle.whole_ring.specs.of_slave_node.Node.{Node, is_settled}
 
 first_of : (a b : Bool) → (a && b) ≡ true → a ≡ true
 first_of true b e = refl

@@ -2,7 +2,7 @@
 use Rattle.std.proofs.Common.{◌≡◌, ◌⊎◌, inl, inr, ℕ, suc, ◌==◌, ◌&&◌, Bool, true, false, Option, Some, None, List, [], ◌∷◌, ◌++◌, refl, sym, ap, ap₂, ◌∙◌, subst, if◌then◌else◌, length}
 use Rattle.std.specs.Prelude.{nat_lt}
 use Rattle.esc_registers.specs.declared.registers.Registers as Esc
-use Rattle.life_measure.specs.Repairs.{way_of, stand_way, opening_way, awaits_at}
+use Rattle.life_model.specs.Repairs.{way_of, stand_way, opening_way, awaits_at}
 use Rattle.life_model.specs.Eras.{Clearing}
 use Rattle.life_model.specs.Lives.{Spot, Era, Life, Opening, Stand, shows_clear, last_step, is_shown, clears, opens, steps_on, opening_back, gives_up, reopening}
 use Rattle.link_mails.specs.Body.{Body}
@@ -13,8 +13,8 @@ use Rattle.segment_model.specs.Record.{Frame, News}
 use Rattle.segment_model.specs.Slaves.{Found}
 use Rattle.whole_ring.specs.of_slave_lives.Lived.{Behind, RingFrame, node_behind, frame_of}
 use Rattle.whole_ring.specs.of_slave_lives.Opening.{Plan}
-use Rattle.steps_shown.specs.Shown.{StandsFor}
-use Rattle.task_model.specs.Accounts.{Pick}
+use Rattle.slave_lives.specs.Shown.{StandsFor}
+use Rattle.state_model.specs.Accounts.{Pick}
 use Rattle.whole_ring.specs.Turns.{FrameComes, TurnsAs, CameAs, Came, life_by}
 use Rattle.whole_ring.specs.Whole.{IsWhole, IsLived, OpensAs, OpensBy, StandsAs}
 use Rattle.plan_ring.specs.Stands.{StandsTo}

@@ -5,13 +5,13 @@ use Rattle.plan_ring.proofs.Eras.{era_due}
 use Rattle.exchange_model.specs.Exchange.{Exchange, Speech}
 use Rattle.run_frames.specs.of_life_runs.of_frame_view.Seen.{datagrams_seen}
 use Rattle.run_frames.specs.of_life_runs.of_frame_view.View.{Lens}
-use Rattle.never_waits.specs.Hears.{HearsFirst}
-use Rattle.run_frames.specs.of_life_runs.of_life_frames.of_life_model.Lives.{Life, Spot, Stand, AsksOpen, life_next, granted}
-use Rattle.run_frames.specs.of_life_runs.of_life_frames.of_life_model.Own.{own}
+use Rattle.slave_model.specs.Hears.{HearsFirst}
+use Rattle.run_frames.specs.of_life_runs.of_frame_view.of_life_model.Lives.{Life, Spot, Stand, AsksOpen, life_next, granted}
+use Rattle.run_frames.specs.of_life_runs.of_frame_view.of_life_model.Own.{own}
 use Rattle.run_frames.specs.of_life_runs.First.{lens_of, spot_of}
 use Rattle.run_frames.specs.of_life_runs.Led.{Exchanged, Leads, Turn, IsTurn, speech_at, is_passed}
 use Rattle.run_frames.specs.of_life_runs.of_link_mails.Body.{Body}
-use Rattle.run_frames.specs.of_life_runs.of_life_frames.of_link_model.Frames.{IsFrameFor, all_accepted}
+use Rattle.run_frames.specs.of_life_runs.of_frame_view.of_link_model.Frames.{IsFrameFor, all_accepted}
 use Rattle.run_frames.specs.of_life_runs.of_master_duty.Reply.{Reply}
 use Rattle.run_frames.specs.of_life_runs.of_master_hand.Spoken.{Asked, acknowledged, is_followed}
 use Rattle.run_frames.specs.of_life_runs.of_master_side.Due.{EachDue}
@@ -27,13 +27,13 @@ use Rattle.run_frames.specs.of_life_runs.of_segment_plan.declared.plan.Scenario.
 use Rattle.run_frames.specs.of_life_runs.of_segment_plan.declared.slave.SlaveSpec.{SlaveSpec}
 use Rattle.whole_ring.specs.of_slave_lives.Lived.{table_of}
 use Rattle.slave_parts.specs.Parts.{Core, Server}
-use Rattle.slave_parts.specs.of_eoe_model.Network.{Station}
+use Rattle.slave_parts.specs.of_protocol_models.Network.{Station}
 use Rattle.slave_server.specs.Serving.{Serving}
 use Rattle.slave_server.specs.Spec.{profile_of}
-use Rattle.whole_ring.specs.of_slave_steps.Node.{Node}
-use Rattle.slave_parts.specs.of_state_exchange.Families.{InState}
-use Rattle.slave_parts.specs.of_state_exchange.Stated.{Service}
-use Rattle.task_model.specs.Accounts.{Pick}
+use Rattle.whole_ring.specs.of_slave_node.Node.{Node}
+use Rattle.slave_parts.specs.of_state_model.Families.{InState}
+use Rattle.slave_parts.specs.of_state_model.Stated.{Service}
+use Rattle.state_model.specs.Accounts.{Pick}
 use Rattle.plan_ring.proofs.Names.{due_alike}
 
 -- a choice leaves how the master stands to a slave

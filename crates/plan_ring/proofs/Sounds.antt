@@ -9,20 +9,20 @@ use Rattle.slave_server.specs.of_eoe.declared.message.Eoe.TheVariants.{Fragment 
 use Rattle.slave_server.specs.of_eoe.declared.message.Fragment.{Fragment}
 use Rattle.slave_server.specs.of_eoe.Cutting.{fragments_of}
 use Rattle.slave_server.specs.of_eoe.Message.{eoe_text}
-use Rattle.slave_parts.specs.of_exchange_sum.Refusing.{gated}
-use Rattle.slave_parts.specs.of_coe_model.Mails.{fragment}
-use Rattle.slave_parts.specs.of_coe_model.Mails as CoeMails
-use Rattle.slave_parts.specs.of_coe_model.Octets as CoeOctets
-use Rattle.slave_parts.specs.of_coe_model.Octets.{coe_mail_written}
-use Rattle.slave_parts.specs.of_coe_model.Server as Coe
-use Rattle.slave_parts.specs.of_foe_model.Mails as FoeMails
-use Rattle.slave_parts.specs.of_foe_model.Octets as FoeOctets
-use Rattle.slave_parts.specs.of_foe_model.Server as Foe
-use Rattle.slave_parts.specs.of_soe_model.Mails as SoeMails
-use Rattle.slave_parts.specs.of_soe_model.Octets as SoeOctets
-use Rattle.slave_parts.specs.of_eoe_model.Mails as EoeMails
-use Rattle.slave_parts.specs.of_eoe_model.Octets as EoeOctets
-use Rattle.slave_parts.specs.of_eoe_model.Network.{Station}
+use Rattle.slave_parts.specs.of_exchange_model.Refusing.{gated}
+use Rattle.slave_parts.specs.of_protocol_models.CoeMails.{fragment}
+use Rattle.slave_parts.specs.of_protocol_models.CoeMails as CoeMails
+use Rattle.slave_parts.specs.of_protocol_models.CoeOctets as CoeOctets
+use Rattle.slave_parts.specs.of_protocol_models.CoeOctets.{coe_mail_written}
+use Rattle.slave_parts.specs.of_protocol_models.CoeServer as Coe
+use Rattle.slave_parts.specs.of_protocol_models.FoeMails as FoeMails
+use Rattle.slave_parts.specs.of_protocol_models.FoeOctets as FoeOctets
+use Rattle.slave_parts.specs.of_protocol_models.FoeServer as Foe
+use Rattle.slave_parts.specs.of_protocol_models.SoeMails as SoeMails
+use Rattle.slave_parts.specs.of_protocol_models.SoeOctets as SoeOctets
+use Rattle.slave_parts.specs.of_protocol_models.EoeMails as EoeMails
+use Rattle.slave_parts.specs.of_protocol_models.EoeOctets as EoeOctets
+use Rattle.slave_parts.specs.of_protocol_models.Network.{Station}
 use Rattle.slave_server.specs.of_object_dictionary.Dictionary as Objects
 use Rattle.slave_server.specs.of_file_store.Files as Store
 use Rattle.slave_parts.specs.of_idn_table.Idns as Idns

@@ -3,7 +3,7 @@ use Rattle.std.proofs.Common.{◌≡◌, ℕ, zero, suc, ◌+◌, ◌≤◌, ◌
 use Rattle.std.specs.Prelude.{IfSome, slice_get, nat_lt}
 use Rattle.std.proofs.lemmas.Bool.{eqb-true}
 use Rattle.std.proofs.lemmas.List.Elements.{All-nil, All-cons, All-head, All-tail}
-use Rattle.eoe_model.specs.Client as EoeClient
+use Rattle.protocol_models.specs.EoeClient as EoeClient
 use Rattle.run_frames.specs.of_life_runs.First.{script_for}
 use Rattle.run_frames.specs.of_master_hand.Spoken.{net}
 use Rattle.scenario.specs.of_scenario_services.Suited.{Suits}

@@ -4,7 +4,7 @@ use Rattle.std.specs.Prelude.{if◌then◌else◌, nat_lt, All}
 use Rattle.run_frames.specs.of_life_runs.of_datagrams.Datagram as Raw
 use Rattle.run_frames.specs.of_life_runs.of_frame_view.View.{Lens}
 use Rattle.run_frames.specs.of_life_runs.of_frame_view.Seen.{seen}
-use Rattle.run_frames.specs.of_life_runs.of_life_frames.Shares.{Lived, lived_back, lived_lost}
+use Rattle.run_frames.specs.of_life_runs.of_frame_view.Shares.{Lived, lived_back, lived_lost}
 use Rattle.life_model.specs.Lives.{Spot, life_next}
 use Rattle.run_frames.specs.of_life_runs.First.{lens_of}
 use Rattle.run_frames.specs.of_life_runs.Led as Led
@@ -27,8 +27,8 @@ use Rattle.run_frames.specs.of_life_runs.of_segment_ring.declared.wire.Fate.TheV
 use Rattle.run_frames.specs.of_life_runs.of_segment_ring.Ring.{RingState}
 use Rattle.run_frames.specs.of_life_runs.of_segment_ring.Schedule.{fate_at}
 use Rattle.slave_server.specs.Serving.{Serving}
-use Rattle.whole_ring.specs.of_slave_steps.Node.{Node}
-use Rattle.slave_parts.specs.of_state_exchange.Stated.{Service}
+use Rattle.whole_ring.specs.of_slave_node.Node.{Node}
+use Rattle.slave_parts.specs.of_state_model.Stated.{Service}
 use Rattle.whole_ring.specs.Members.{MemberIs, AllLived}
 use Rattle.whole_ring.specs.Turning.{BeginBoots, frame_at}
 use Rattle.plan_ring.specs.Lives.{IsShown, AllShown}
@@ -40,7 +40,7 @@ abbrev served : Option Asked → Bool
 served None = true
 served (Some q) = is_service q
 
-room_served : (b : Bool) (block : List ℕ) → served (if b then None else Some (net (Rattle.slave_parts.specs.of_eoe_model.Client.set_ip block))) ≡ true
+room_served : (b : Bool) (block : List ℕ) → served (if b then None else Some (net (Rattle.slave_parts.specs.of_protocol_models.EoeClient.set_ip block))) ≡ true
 room_served true block = refl
 room_served false block = refl
 

@@ -1,7 +1,7 @@
 -- Whether the access in hand is the same, behind a frame.
 use Rattle.std.proofs.Common.{◌≡◌, inl, inr, ℕ, suc, ◌==◌, ◌&&◌, not, Bool, true, false, Option, Some, None, refl, ap, subst, if◌then◌else◌, arith, eq-eqb}
 use Rattle.std.proofs.lemmas.Bool.{eqb-true, or_cases}
-use Rattle.life_measure.specs.Repairs.{Way, awaits_at, opening_way, half_way}
+use Rattle.life_model.specs.Repairs.{Way, awaits_at, opening_way, half_way}
 use Rattle.life_model.specs.Lives.{Opening}
 use Rattle.link_model.specs.Master.{InState}
 use Rattle.run_frames.specs.Goes.{is_same, stepped_behind}

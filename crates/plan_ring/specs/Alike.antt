@@ -2,7 +2,7 @@
 use Rattle.std.specs.Prelude.{◌≡◌, Bool, true, List, Option, Some, None, ⊤}
 use Rattle.exchange_model.specs.Exchange.{Speech}
 use Rattle.exchange_model.specs.Rows.{Row}
-use Rattle.state_exchange.specs.Stated.{Service}
+use Rattle.state_model.specs.Stated.{Service}
 use Rattle.life_model.specs.Lives.{Life}
 
 -- of the services that the test picks, both say the same: which are valid, their mails, and how they end

@@ -5,7 +5,7 @@ use Rattle.link_model.specs.Frames.{IsFrameFor, all_accepted}
 use Rattle.master_tour.specs.of_master_side.Due.{EachDue}
 use Rattle.segment_model.specs.Seats.{Side, side_next}
 use Rattle.segment_model.specs.Slaves.{Datagram, Slave, grams, frame_after}
-use Rattle.task_model.specs.Accounts.{Account, Pick, mails_choice}
+use Rattle.state_model.specs.Accounts.{Account, Pick, mails_choice}
 
 -- WHAT A FRAME BRINGS IS DUE, by the row of the service in hand as the frame finds it: whatever the master chooses before, where the frame has each half's
 -- datagram at most once

@@ -1,8 +1,8 @@
 -- THE CLOCKS OF ALL SLAVES OF A RING, and what each answers by a frame that came back.
 use Rattle.std.specs.Prelude.{◌≡◌, ℕ, Bool, List, [], ◌∷◌, ⊤}
-use Rattle.master_tour.specs.of_life_frames.Frames.{Share}
-use Rattle.master_tour.specs.of_life_frames.Shares.{came_at}
-use Rattle.life_measure.specs.Repairs.{way_of}
+use Rattle.master_tour.specs.of_frame_view.Frames.{Share}
+use Rattle.master_tour.specs.of_frame_view.Shares.{came_at}
+use Rattle.life_model.specs.Repairs.{way_of}
 use Rattle.life_model.specs.Lives.{Spot, Life, Stand}
 use Rattle.life_model.specs.Own.{own}
 use Rattle.link_mails.specs.Body.{Body}

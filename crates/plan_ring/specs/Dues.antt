@@ -4,7 +4,7 @@ use Rattle.run_frames.specs.of_life_runs.First.{lens_of, first_leads}
 use Rattle.run_frames.specs.of_life_runs.Led.{Exchanged, Leads, Turn, IsLed, IsLedFrame, speech_at}
 use Rattle.run_frames.specs.of_life_runs.of_frame_view.Seen.{seen}
 use Rattle.run_frames.specs.of_life_runs.of_frame_view.View.{Lens}
-use Rattle.run_frames.specs.of_life_runs.of_life_frames.of_life_model.Lives.{Stand}
+use Rattle.run_frames.specs.of_life_runs.of_frame_view.of_life_model.Lives.{Stand}
 use Rattle.run_frames.specs.of_life_runs.of_link_mails.Body.{Body}
 use Rattle.run_frames.specs.of_life_runs.of_master_side.Due.{EachDue}
 use Rattle.run_frames.specs.of_life_runs.of_segment_plan.declared.plan.Scenario.{Scenario}

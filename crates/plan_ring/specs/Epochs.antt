@@ -10,10 +10,10 @@ use Rattle.segment_model.specs.Laws.{AllAnswered, WantsNothing}
 use Rattle.segment_model.specs.Record.{Frame, heard}
 use Rattle.segment_model.specs.Seats.{rows_of}
 use Rattle.whole_ring.specs.of_slave_lives.Lived.{Behind, table_of, node_seen}
-use Rattle.whole_ring.specs.of_slave_steps.Node.{Node, is_settled}
-use Rattle.state_exchange.specs.Stated.{Service, with_states, mails}
-use Rattle.task_model.specs.Accounts.{Started}
-use Rattle.task_model.specs.Promise.{services_in, mails_started, rows_started, states_started, changes_in, duty_in, AllReplied, AllDone, AllFound, IsOpenYet, AllEnded, but_last}
+use Rattle.whole_ring.specs.of_slave_node.Node.{Node, is_settled}
+use Rattle.state_model.specs.Stated.{Service, with_states, mails}
+use Rattle.state_model.specs.Accounts.{Started}
+use Rattle.state_model.specs.Promise.{services_in, mails_started, rows_started, states_started, changes_in, duty_in, AllReplied, AllDone, AllFound, IsOpenYet, AllEnded, but_last}
 
 -- ALL THAT A SERVER REPLIES to these services, one after the other, each by all its mails; what it sends of itself isn't among it
 abbrev pub replies_all : {V A M Q R : Type 0} → Exchange V A M Q R → V → List Q → List M

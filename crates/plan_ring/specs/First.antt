@@ -1,7 +1,7 @@
 -- A RUN IN WHICH NO SLAVE IS GIVEN UP OR RETURNED TO INIT: each slave stays in its first epoch, and the books of all of them.
 use Rattle.std.specs.Prelude.{◌≡◌, ℕ, suc, ◌&&◌, Bool, false, None, List, [], ◌∷◌, ⊤}
 use Rattle.run_frames.specs.of_life_runs.of_datagrams.Datagram as Raw
-use Rattle.slave_parts.specs.of_eoe_model.Network.{Station}
+use Rattle.slave_parts.specs.of_protocol_models.Network.{Station}
 use Rattle.run_frames.specs.of_life_runs.of_frame_view.View.{Lens}
 use Rattle.run_frames.specs.of_life_runs.of_link_mails.Body.{Body}
 use Rattle.slave_parts.specs.of_segment_model.Laws.{IsSettled, WantsNothing}
@@ -9,12 +9,12 @@ use Rattle.slave_parts.specs.of_segment_model.Record.{Frame}
 use Rattle.run_frames.specs.of_life_runs.of_segment_plan.declared.slave.SlaveSpec.{SlaveSpec}
 use Rattle.run_frames.specs.of_life_runs.of_segment_ring.declared.wire.Fate.{Fate}
 use Rattle.run_frames.specs.of_life_runs.of_segment_ring.declared.wire.Fate.TheVariants.{Pass, Lost}
-use Rattle.slave_parts.specs.of_state_exchange.Families.{InState}
-use Rattle.task_model.specs.Promise.{services_in}
+use Rattle.slave_parts.specs.of_state_model.Families.{InState}
+use Rattle.state_model.specs.Promise.{services_in}
 use Rattle.life_model.specs.Lives.{Stand}
 use Rattle.run_frames.specs.of_life_runs.of_master_duty.Reply as Master
 use Rattle.run_frames.specs.of_life_runs.of_master_hand.Spoken as Spoken
-use Rattle.book_model.specs.Script.{Addressed, HaveBegun, SlaveRun, RunRests, RunDone}
+use Rattle.life_model.specs.Script.{Addressed, HaveBegun, SlaveRun, RunRests, RunDone}
 use Rattle.plan_ring.specs.Rows.{WishStays, IsFirst}
 use Rattle.plan_ring.specs.KeptFirst.{setting_of, FirstBook}
 use Rattle.whole_ring.specs.of_slave_lives.Lived.{node_seen}

@@ -3,14 +3,14 @@ use Rattle.std.specs.Prelude.{◌≡◌, ℕ, Bool, None, List, [], length}
 use Rattle.link_mails.specs.Body.{Body}
 use Rattle.segment_model.specs.Laws.{IsSettled, WantsNothing}
 use Rattle.segment_model.specs.Record.{Frame}
-use Rattle.whole_ring.specs.of_slave_steps.Node.{Node}
-use Rattle.task_model.specs.Promise.{services_in}
+use Rattle.whole_ring.specs.of_slave_node.Node.{Node}
+use Rattle.state_model.specs.Promise.{services_in}
 use Rattle.life_model.specs.Book.{SlaveBook, IsForgetful}
 use Rattle.life_model.specs.Eras.{Clearing}
 use Rattle.life_model.specs.Lives.{Spot, Life}
-use Rattle.book_model.specs.Chain.{KeepsSame}
-use Rattle.book_model.specs.Open.{Setting, IsOpenLife, BookAnswers, BookFits, BookRests, BookDone}
-use Rattle.book_model.specs.Script.{services_of}
+use Rattle.life_model.specs.Chain.{KeepsSame}
+use Rattle.life_model.specs.Open.{Setting, IsOpenLife, BookAnswers, BookFits, BookRests, BookDone}
+use Rattle.life_model.specs.Script.{services_of}
 use Rattle.whole_ring.specs.of_slave_lives.Lived.{Behind, table_of, node_seen}
 use Rattle.whole_ring.specs.of_slave_lives.Opening.{Plan}
 use Rattle.whole_ring.specs.Whole.{OwesLaws}

@@ -1,17 +1,15 @@
 pub use Rattle.run_frames.specs.of_master_hand as of_master_hand
 pub use Rattle.run_frames.specs.of_life_runs as of_life_runs
 pub use Rattle.run_frames.specs as of_run_frames
-pub use Rattle.book_model.specs as of_book_model
-pub use Rattle.exchange_model.specs as of_exchange_model
 pub use Rattle.life_model.specs as of_life_model
+pub use Rattle.exchange_model.specs as of_exchange_model
 pub use Rattle.mailbox_slave.specs as of_mailbox_slave
-pub use Rattle.never_waits.specs as of_never_waits
+pub use Rattle.slave_model.specs as of_slave_model
 pub use Rattle.whole_ring.specs.of_slave_lives as of_slave_lives
 pub use Rattle.slave_parts.specs as of_slave_parts
 pub use Rattle.slave_server.specs as of_slave_server
-pub use Rattle.whole_ring.specs.of_slave_steps as of_slave_steps
-pub use Rattle.whole_ring.specs.of_slave_steps.of_frame_pass as of_frame_pass
-pub use Rattle.task_model.specs as of_task_model
+pub use Rattle.whole_ring.specs.of_slave_node as of_slave_node
+pub use Rattle.state_model.specs as of_state_model
 pub use Rattle.whole_ring.specs as of_whole_ring
 pub mod Alike
 pub mod Asked

@@ -11,12 +11,12 @@ use Rattle.run_frames.specs.of_life_runs.of_segment_ring.declared.wire.Fate.TheV
 use Rattle.run_frames.specs.of_life_runs.of_segment_ring.Ring.{RingState, ring_behind}
 use Rattle.run_frames.specs.of_life_runs.of_segment_ring.Schedule.{fate_at}
 use Rattle.slave_server.specs.Serving.{Serving}
-use Rattle.whole_ring.specs.of_slave_steps.Node.{Node, node_passed}
+use Rattle.whole_ring.specs.of_slave_node.Node.{Node, node_passed}
 use Rattle.run_frames.specs.of_life_runs.of_master_duty.Reply as Master
 use Rattle.run_frames.specs.of_life_runs.of_master_hand.Spoken.{Asked, hand_speech, acknowledged}
-use Rattle.run_frames.specs.of_life_runs.of_life_frames.Frames.{Share}
-use Rattle.run_frames.specs.of_life_runs.of_life_frames.Shares as Shares
-use Rattle.run_frames.specs.of_life_runs.of_life_frames.Shares.{Lived, IsNext, lived_back, lived_lost}
+use Rattle.run_frames.specs.of_life_runs.of_frame_view.Frames.{Share}
+use Rattle.run_frames.specs.of_life_runs.of_frame_view.Shares as Shares
+use Rattle.run_frames.specs.of_life_runs.of_frame_view.Shares.{Lived, IsNext, lived_back, lived_lost}
 use Rattle.plan_ring.specs.KeptFirst.{Forgets}
 use Rattle.plan_ring.specs.Alike.{Alike, WishIs, InHandIs}
 use Rattle.whole_ring.specs.Whole.{IsWhole, OwesLaws}

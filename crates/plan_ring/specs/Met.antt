@@ -6,7 +6,7 @@ use Rattle.link_mails.specs.Body.{Body}
 use Rattle.segment_model.specs.Slaves.{Datagram, Slave, slave_after, slave_steps, frame_after}
 use Rattle.segment_ring.specs.Ring.{is_in_pace}
 use Rattle.whole_ring.specs.of_slave_lives.Lived.{node_seen}
-use Rattle.whole_ring.specs.of_slave_steps.Node.{Node}
+use Rattle.whole_ring.specs.of_slave_node.Node.{Node}
 use Rattle.whole_ring.specs.Members.{Member}
 
 -- the slave as its session has it

@@ -1,8 +1,8 @@
 -- THE RING OF A PLAN: its slaves as they are switched on, with their lives before the first frame.
 use Rattle.std.specs.Prelude.{◌≡◌, ℕ, suc, Some, List, [], ◌∷◌, length, ⊤}
 use Rattle.run_frames.specs.of_life_runs.of_frame_view.View.{Lens}
-use Rattle.slave_parts.specs.of_eoe_model.Network.{Station}
-use Rattle.slave_parts.specs.of_state_exchange.Families.{InState}
+use Rattle.slave_parts.specs.of_protocol_models.Network.{Station}
+use Rattle.slave_parts.specs.of_state_model.Families.{InState}
 use Rattle.run_frames.specs.of_life_runs.of_master_duty.Reply as Master
 use Rattle.run_frames.specs.of_life_runs.of_master_hand.Spoken.{Asked}
 use Rattle.life_model.specs.Lives.{Spot, new_life}
@@ -15,8 +15,8 @@ use Rattle.whole_ring.specs.of_slave_lives.Opening as Opening
 use Rattle.slave_parts.specs.Parts.{Core, Server}
 use Rattle.slave_server.specs.Serving.{Serving, takes, next_mail, rest, cleared}
 use Rattle.slave_server.specs.Spec.{profile_of, server_of, node_of}
-use Rattle.whole_ring.specs.of_slave_steps.Node.{Node}
-use Rattle.whole_ring.specs.of_slave_steps.Step.{pdi_step}
+use Rattle.whole_ring.specs.of_slave_node.Node.{Node}
+use Rattle.whole_ring.specs.of_slave_node.Step.{pdi_step}
 use Rattle.plan_ring.specs.Real.{real_clearing}
 use Rattle.plan_ring.specs.Rooms.{IsSound}
 use Rattle.whole_ring.specs.Members.{Member}

@@ -17,12 +17,12 @@ use Rattle.scenario.specs.of_segment_plan.declared.slave.SlaveSpec.{SlaveSpec}
 use Rattle.segment_ring.specs.Ring.{is_in_pace}
 use Rattle.whole_ring.specs.of_slave_lives.Lived.{IsBehind, node_seen}
 use Rattle.slave_parts.specs.Parts.{Core, Server}
-use Rattle.slave_parts.specs.of_eoe_model.Network.{Station}
+use Rattle.slave_parts.specs.of_protocol_models.Network.{Station}
 use Rattle.slave_server.specs.Serving.{Serving}
 use Rattle.slave_server.specs.Spec.{profile_of}
-use Rattle.whole_ring.specs.of_slave_steps.Node.{Node}
-use Rattle.state_exchange.specs.Families.{InState}
-use Rattle.state_exchange.specs.Stated.{IsStated}
+use Rattle.whole_ring.specs.of_slave_node.Node.{Node}
+use Rattle.state_model.specs.Families.{InState}
+use Rattle.state_model.specs.Stated.{IsStated}
 use Rattle.whole_ring.specs.Whole.{LivesOpen}
 
 -- a slave's node as its session has it

@@ -1,7 +1,7 @@
 -- WHAT ALWAYS HOLDS OF A SLAVE'S SERVER as it runs: each mail that waits has room, and what its services act on are such as their laws speak of.
 use Rattle.std.specs.Prelude.{◌≡◌, ℕ, ◌+◌, ◌≤◌, true, List, [], ◌∷◌, length, None, ⊤}
 use Rattle.slave_server.specs.of_file_store.Files as Store
-use Rattle.slave_parts.specs.of_foe_model.Server.{Transfer, idle, reading, writing, closing}
+use Rattle.slave_parts.specs.of_protocol_models.FoeServer.{Transfer, idle, reading, writing, closing}
 use Rattle.slave_server.specs.of_mailbox_mail.declared.mail.Mail.{Mail}
 use Rattle.whole_ring.specs.of_slave_lives.Nodes.{IsPlaced}
 use Rattle.slave_parts.specs.of_slave_model.Application.{station_valid}

@@ -12,7 +12,7 @@ use Rattle.run_frames.specs.of_life_runs.of_segment_ring.Schedule.{fate_at}
 use Rattle.whole_ring.specs.of_slave_lives.Rings.{fate_seen}
 use Rattle.slave_server.specs.Serving.{Serving}
 use Rattle.slave_server.specs.Spec.{node_of}
-use Rattle.whole_ring.specs.of_slave_steps.Node.{Node, node_passed}
+use Rattle.whole_ring.specs.of_slave_node.Node.{Node, node_passed}
 
 -- the slaves of a plan as they are switched on, in their ring before its first frame
 abbrev pub ring_of : Scenario → RingState (Node Serving)

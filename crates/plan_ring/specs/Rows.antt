@@ -1,11 +1,11 @@
 -- A LIFE IN ITS FIRST EPOCH: it was opened at most once, and never given up or returned to Init.
 use Rattle.std.specs.Prelude.{◌≡◌, ℕ, ◌<◌, false, Option, Some, None, [], ⊤}
-use Rattle.state_exchange.specs.Stated.{Service}
-use Rattle.task_model.specs.Accounts.{Duty}
-use Rattle.task_model.specs.Promise.{services_in}
+use Rattle.state_model.specs.Stated.{Service}
+use Rattle.state_model.specs.Accounts.{Duty}
+use Rattle.state_model.specs.Promise.{services_in}
 use Rattle.life_model.specs.Book.{NoInits}
 use Rattle.life_model.specs.Lives.{Life, Stand, returns_to_init}
-use Rattle.book_model.specs.Chain.{AllBegin}
+use Rattle.life_model.specs.Chain.{AllBegin}
 
 -- a state service in hand doesn't return its slave to Init
 abbrev pub HandStays : Option Duty → Type 0

@@ -9,7 +9,7 @@ use Rattle.mailbox_slave.specs.Registers.{request_of, acknowledge_of}
 use Rattle.segment_model.specs.Slaves.{Found}
 use Rattle.whole_ring.specs.of_slave_lives.Lived.{Behind, RingFrame, AccessBack}
 use Rattle.whole_ring.specs.of_slave_lives.Opening.{Plan}
-use Rattle.steps_shown.specs.Shown.{StandsFor}
+use Rattle.slave_lives.specs.Shown.{StandsFor}
 use Rattle.whole_ring.specs.Whole.{plan_to}
 
 -- where its acknowledge is awaited the repeat request stands, and once the slave made a step its acknowledge

@@ -2,7 +2,7 @@
 //! running code: the function here does nothing, and its contract states the law.
 
 ghost use Rattle.plan_ring.specs.Brings.{BringsDue};
-ghost use Rattle.never_waits.specs.Hears.{HearsFirst};
+ghost use Rattle.slave_model.specs.Hears.{HearsFirst};
 ghost use Rattle.life_model.specs.Eras.{OpenEra};
 
 /// EACH MAIL THAT A FRAME MORE BRINGS OF AN OPEN EPOCH IS DUE, where the client hears first.

@@ -7,7 +7,7 @@ ghost use Rattle.link_mails.specs.Body.{Body};
 ghost use Rattle.segment_model.specs.Record.{Frame};
 ghost use Rattle.whole_ring.specs.of_slave_lives.Lived.{Behind};
 ghost use Rattle.whole_ring.specs.of_slave_lives.Opening.{Plan};
-ghost use Rattle.whole_ring.specs.of_slave_steps.Node.{Node};
+ghost use Rattle.whole_ring.specs.of_slave_node.Node.{Node};
 ghost use Rattle.std.specs.Prelude.{◌≡◌, true, Bool, List};
 ghost use Rattle.whole_ring.specs.Whole.{OwesLaws, IsLived};
 

@@ -2,7 +2,7 @@
 //! of its slaves. No running code: each function here does nothing, and its contract states a law.
 #![tactic(auto)]
 
-ghost use Rattle.book_model.specs.Script.{Addressed, AnyLive};
+ghost use Rattle.life_model.specs.Script.{Addressed, AnyLive};
 ghost use Rattle.life_model.specs.Lives.{Spot, Stand};
 ghost use Rattle.run_frames.specs.of_life_runs.First.{lens_of, first_leads};
 ghost use Rattle.run_frames.specs.of_life_runs.Led.{Exchanged, Leads, IsLed};
@@ -33,7 +33,7 @@ ghost use Rattle.slave_parts.specs.of_segment_model.Record.{Frame};
 ghost use Rattle.slave_parts.specs.of_slave_model.Profile.{Profile, IsProfile, areas_of};
 ghost use Rattle.slave_server.specs.Serving.{Serving};
 ghost use Rattle.slave_server.specs.Spec.{node_of};
-ghost use Rattle.whole_ring.specs.of_slave_steps.Node.{Node, node_passed};
+ghost use Rattle.whole_ring.specs.of_slave_node.Node.{Node, node_passed};
 ghost use Rattle.std.specs.Prelude.{◌≡◌, ◌<◌, ◌∷◌, ◌++◌, ℕ, suc, Bool, List, [], map, length};
 ghost use Rattle.whole_ring.specs.Members.{MemberIs, IsRing, first_ring};
 ghost use Rattle.whole_ring.specs.Turning.{Turn, AllTurn, frame_at, behind_frame, given_up};

@@ -7,9 +7,9 @@ ghost use Rattle.plan_ring.specs.Alike.{Alike, WishIs, InHandIs};
 ghost use Rattle.plan_ring.specs.Named.{Naming, named, named_states, Agrees, AgreesLast};
 ghost use Rattle.segment_model.specs.Record.{News};
 ghost use Rattle.segment_model.specs.Slaves.{Datagram, Found};
-ghost use Rattle.state_exchange.specs.Stated.{Stated, IsStated};
+ghost use Rattle.state_model.specs.Stated.{Stated, IsStated};
 ghost use Rattle.std.specs.Prelude.{◌≡◌, ℕ, Bool, List, Option};
-ghost use Rattle.task_model.specs.Accounts.{Pick};
+ghost use Rattle.state_model.specs.Accounts.{Pick};
 
 /// An exchange owes its laws by its client's names too, and its AL state is a part of its application.
 pub fn named_law<V, A, M, Q, R, P, T>()

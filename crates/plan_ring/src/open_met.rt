@@ -12,7 +12,7 @@ ghost use Rattle.segment_model.specs.Record.{Frame};
 ghost use Rattle.segment_ring.specs.Ring.{RingState, ring_returned};
 ghost use Rattle.segment_ring.specs.Schedule.{fate_at};
 ghost use Rattle.segment_ring.specs.declared.wire.Fate.{Fate};
-ghost use Rattle.whole_ring.specs.of_slave_steps.Node.{Node, node_passed};
+ghost use Rattle.whole_ring.specs.of_slave_node.Node.{Node, node_passed};
 ghost use Rattle.whole_ring.specs.Members.{Member, IsRing, Passes};
 ghost use Rattle.whole_ring.specs.Turning.{Turn, AllTurn, frame_at, behind_frame};
 ghost use Rattle.plan_ring.specs.Met.{AllOpenMet};

@@ -2,7 +2,7 @@
 //! contracts state the laws.
 
 ghost use Rattle.std.specs.Prelude.{ℕ, Bool};
-ghost use Rattle.never_waits.specs.Hears.{HearsFirst};
+ghost use Rattle.slave_model.specs.Hears.{HearsFirst};
 ghost use Rattle.run_frames.specs.of_life_runs.of_frame_view.View.{Lens};
 ghost use Rattle.run_frames.specs.of_life_runs.of_segment_plan.Sound.{IsPlan};
 ghost use Rattle.run_frames.specs.of_life_runs.of_segment_plan.declared.plan.Scenario.{Scenario};

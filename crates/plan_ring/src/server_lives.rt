@@ -14,7 +14,7 @@ ghost use Rattle.slave_parts.specs.of_slave_model.Application.{station_valid};
 ghost use Rattle.slave_parts.specs.Parts.{Core, parts};
 ghost use Rattle.whole_ring.specs.Whole.{OwesLaws};
 ghost use Rattle.slave_server.specs.Serving.{Serving, fresh};
-ghost use Rattle.whole_ring.specs.of_slave_steps.Node.{Node};
+ghost use Rattle.whole_ring.specs.of_slave_node.Node.{Node};
 ghost use Rattle.plan_ring.specs.Real.{running_as, real, real_clearing, StepsAs};
 ghost use Rattle.plan_ring.specs.Rooms.{IsSound};
 

@@ -2,7 +2,7 @@
 //! here does nothing, and its contract states the laws.
 
 ghost use Rattle.esc_registers.specs.declared.registers.Registers.{Registers};
-ghost use Rattle.life_measure.specs.Repairs.{way_of};
+ghost use Rattle.life_model.specs.Repairs.{way_of};
 ghost use Rattle.life_model.specs.Eras.{Clearing};
 ghost use Rattle.life_model.specs.Lives.{Spot, Life, Stand, gives_up};
 ghost use Rattle.link_mails.specs.Body.{Body};
@@ -13,7 +13,7 @@ ghost use Rattle.plan_ring.specs.Stands.{StandsTo};
 ghost use Rattle.whole_ring.specs.of_slave_lives.Lived.{Behind, RingFrame, node_behind, frame_of};
 ghost use Rattle.whole_ring.specs.of_slave_lives.Opening.{Plan};
 ghost use Rattle.std.specs.Prelude.{◌≡◌, ℕ, Bool, List, Option};
-ghost use Rattle.task_model.specs.Accounts.{Pick};
+ghost use Rattle.state_model.specs.Accounts.{Pick};
 ghost use Rattle.whole_ring.specs.Turns.{FrameComes, TurnsAs, life_by};
 ghost use Rattle.whole_ring.specs.Whole.{IsWhole, IsLived};
 

@@ -6,7 +6,7 @@ use Rattle.datagrams.specs.Datagram as Raw
 use Rattle.exchange_model.specs.Exchange.{Speech}
 use Rattle.frame_view.specs.Seen.{seen}
 use Rattle.frame_view.specs.View.{Lens}
-use Rattle.life_frames.specs.Shares.{came_at, given_where}
+use Rattle.frame_view.specs.Shares.{came_at, given_where}
 use Rattle.life_model.specs.Lives.{Spot, Stand, Life, life_next, life_back, life_lost}
 use Rattle.life_runs.specs.Led.{Exchanged, Leads, Turn, IsTurn, AllTurn, speech_at, is_passed, led_behind, life_behind}
 use Rattle.link_mails.specs.Body.{Body}

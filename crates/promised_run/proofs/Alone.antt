@@ -13,8 +13,8 @@ use Rattle.run_record.specs.Ran.{HasFrames}
 use Rattle.run_record.specs.Replay.{first_ring}
 use Rattle.segment_plan.specs.Sound.{IsPlan}
 use Rattle.segment_plan.specs.declared.plan.Scenario.{Scenario}
-use Rattle.sent_packets.proofs.Accepted.{all_unpassed}
-use Rattle.served_runs.specs.Served.{IsRunOf, IsServedLed, Serves, all_serve}
+use Rattle.run_promises.proofs.Accepted.{all_unpassed}
+use Rattle.life_runs.specs.Served.{IsRunOf, IsServedLed, Serves, all_serve}
 
 -- each run of a plan is a serving
 abbrev pub RunsServe : Scenario → Type 0

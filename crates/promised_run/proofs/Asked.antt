@@ -15,7 +15,7 @@ use Rattle.run_record.specs.Session.{SessionState, asked_mail, asked_more}
 use Rattle.run_work.specs.Fair.{AsksFair, IsFairGram}
 use Rattle.run_work.specs.ServedGained.{asked_in}
 use Rattle.segment_plan.specs.declared.plan.Scenario.{Scenario}
-use Rattle.served_runs.specs.Served.{Keyed, Serves}
+use Rattle.life_runs.specs.Served.{Keyed, Serves}
 
 -- ---- how many, and how they are
 abbrev pub many : List (List AskedMail) → ℕ

@@ -17,9 +17,9 @@ use Rattle.run_record.specs.Served.{as_asked}
 use Rattle.run_record.specs.Session.{SessionState, asked_mail, asked_more}
 use Rattle.run_work.specs.Fair.{AsksFair}
 use Rattle.segment_plan.specs.declared.plan.Scenario.{Scenario}
-use Rattle.sent_packets.specs.Sends.{is_network, of_network}
-use Rattle.sent_packets.specs.Quiet.{AsksQuiet, is_quiet}
-use Rattle.served_runs.specs.Served.{Keyed, Serves}
+use Rattle.run_promises.specs.Sends.{is_network, of_network}
+use Rattle.run_promises.specs.Quiet.{AsksQuiet, is_quiet}
+use Rattle.life_runs.specs.Served.{Keyed, Serves}
 use Rattle.slab.specs.Slab.{Slab}
 
 -- one that was judged so is of such a protocol

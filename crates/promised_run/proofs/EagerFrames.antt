@@ -34,10 +34,10 @@ use Rattle.run_record.specs.of_packets_heard.Recalled.{IsLanOf}
 use Rattle.segment_model.specs.Slaves.{Datagram}
 use Rattle.segment_plan.specs.declared.plan.Scenario.{Scenario}
 use Rattle.segment_plan.specs.declared.service.Service as Plan
-use Rattle.served_runs.specs.Served.{Keyed, Serves, ServedTurn, ServedComes, IsServedTurn, AllServedTurn, gives_it, served_behind}
-use Rattle.served_runs.specs.Told.{Passed}
+use Rattle.life_runs.specs.Served.{Keyed, Serves, ServedTurn, ServedComes, IsServedTurn, AllServedTurn, gives_it, served_behind}
+use Rattle.life_runs.specs.Told.{Passed}
 use Rattle.seen_slaves.specs.Eager.{AllStill, leads_of, turns_of}
-use Rattle.state_exchange.specs.Stated.{Service}
+use Rattle.state_model.specs.Stated.{Service}
 
 module _ (plan : Scenario) where
   abbrev lens : ℕ → Lens

@@ -16,7 +16,7 @@ use Rattle.run_book.specs.of_master_node.ServedEager.{mail_visit, visit_next}
 use Rattle.master_side.specs.Recall.{Recall}
 use Rattle.segment_model.specs.Ends.{Passing}
 use Rattle.segment_model.specs.Slaves.{Datagram}
-use Rattle.task_model.specs.Accounts.{Duty, Pick, account_begins}
+use Rattle.state_model.specs.Accounts.{Duty, Pick, account_begins}
 
 -- ---- what its datagram asks
 mail_is : (p : Option Passing) (m : Recall) (holding : Bool) → mail_visit p m holding ≡ visit_for None p (memory m) holding

@@ -19,12 +19,12 @@ use Rattle.plan_ring.specs.Asked.{asked}
 use Rattle.plan_ring.specs.Plan.{FitsPlan, new_members, step}
 use Rattle.segment_plan.specs.declared.plan.Scenario.{Scenario}
 use Rattle.segment_plan.specs.declared.slave.SlaveSpec.{SlaveSpec}
-use Rattle.served_runs.specs.Served.{Keyed, Serves}
+use Rattle.life_runs.specs.Served.{Keyed, Serves}
 use Rattle.seen_slaves.specs.Eager.{leads_of}
 use Rattle.slave_lives.specs.Lived.{IsBehind}
 use Rattle.slave_server.specs.Serving.{Serving, next_mail}
 use Rattle.slave_server.specs.Spec.{profile_of}
-use Rattle.slave_steps.specs.Node.{Node, is_settled}
+use Rattle.slave_node.specs.Node.{Node, is_settled}
 use Rattle.whole_ring.specs.Members.{AllLived}
 
 no_mail : (ks : List Keyed) → has_mail ks ≡ false → ks ≡ []

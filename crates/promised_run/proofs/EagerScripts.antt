@@ -9,10 +9,10 @@ use Rattle.segment_plan.specs.declared.plan.Scenario.{Scenario}
 use Rattle.segment_plan.specs.declared.service.Service as Plan
 use Rattle.segment_plan.specs.declared.slave.SlaveSpec.{SlaveSpec}
 use Rattle.served_rings.specs.Rings.{AllServedAt, IsServedAt}
-use Rattle.served_runs.specs.Served.{Serves}
+use Rattle.life_runs.specs.Served.{Serves}
 use Rattle.seen_slaves.specs.Eager.{leads_of}
 use Rattle.slave_server.specs.Serving.{Serving}
-use Rattle.slave_steps.specs.Node.{Node}
+use Rattle.slave_node.specs.Node.{Node}
 
 module _ (plan : Scenario) (apart : AreApart plan.slaves) (law : (place : ℕ) (s : SlaveSpec) → slice_get plan.slaves place ≡ Some s → (k : ℕ) (service : Plan.Service) → slice_get (script_for place plan.services) k ≡ Some service → MayBegin s.out_len service) where
   may_one : (place : ℕ) (s : SlaveSpec) (w : Serves) → IsServedAt plan place s w → slice_get plan.slaves place ≡ Some s → MayAll (lens_of plan.slaves) w.lead

@@ -46,10 +46,10 @@ use Rattle.segment_ring.specs.declared.wire.Fate.TheVariants.{Pass, Lost}
 use Rattle.run_record.specs.of_served_places.Answered.{ServedAsks}
 use Rattle.run_record.specs.of_served_places.Toured.{IsServedToured, back_under, first_served, serves_on, still_served, waits_served}
 use Rattle.served_rings.specs.Rings.{AreServedLived}
-use Rattle.served_runs.specs.Served.{Keyed, MayAsk, Serves, ServedTurn, IsServedFrame, IsServedLed, all_serve, asked_at, served_behind}
+use Rattle.life_runs.specs.Served.{Keyed, MayAsk, Serves, ServedTurn, IsServedFrame, IsServedLed, all_serve, asked_at, served_behind}
 use Rattle.seen_slaves.specs.Eager.{AllStaySo, AllStill, IsServedEager, ServedEagerIn, leads_of, turns_of}
 use Rattle.slave_server.specs.Serving.{Serving}
-use Rattle.slave_steps.specs.Node.{Node}
+use Rattle.slave_node.specs.Node.{Node}
 use Rattle.promised_run.proofs.TouredTours.{FramesIn, Stays}
 
 abbrev Slave : Type 0

@@ -1,7 +1,7 @@
 -- THE EPOCHS OF A BOOK have their causes, and open their states, by the give-ups of the book.
 use Rattle.std.proofs.Common.{◌≡◌, ℕ, None, List, [], ◌∷◌, ◌++◌, map, sym, subst}
 use Rattle.life_runs.proofs.Causes.{all_end}
-use Rattle.life_runs.specs.of_life_frames.Shares.{AllBoth}
+use Rattle.life_runs.specs.of_frame_view.Shares.{AllBoth}
 use Rattle.life_runs.specs.Led.{Leads}
 use Rattle.life_runs.specs.Opened.{AllOpenIn, AllOpenTheirs}
 use Rattle.run_book.specs.of_master_node.Wants.{gave_of}

@@ -14,7 +14,7 @@ use Rattle.gateway_run.specs.Replies.{AllDesk, Fares, Fares.dropped, Fares.repli
 use Rattle.gateway_run.specs.Rooms.{AreRising, begun_of, grams_of, owed_for, waiting_of}
 use Rattle.gateway_run.specs.Served.{HasAccount}
 use Rattle.gateway_run.specs.declared.desk.Request.{Request}
-use Rattle.life_frames.specs.Shares.{AllBoth}
+use Rattle.frame_view.specs.Shares.{AllBoth}
 use Rattle.life_model.specs.Lives.{Life}
 use Rattle.life_runs.specs.First.{first_leads, lens_of}
 use Rattle.life_runs.specs.Led.{Exchanged}
@@ -47,10 +47,10 @@ use Rattle.segment_ring.specs.Ring.{RingState}
 use Rattle.run_record.specs.of_served_places.Rows.{HearsNoMore, passed_rows, passings, replies_of}
 use Rattle.served_rings.specs.Given.{AllGiven, Given, IsGiven as IsGivenRow, given}
 use Rattle.served_rings.specs.Served.{AllServeSo, IsServedLife, replies_to}
-use Rattle.served_runs.specs.Served.{IsServedFrame, IsServedLed, ServedTurn, Serves, all_serve}
+use Rattle.life_runs.specs.Served.{IsServedFrame, IsServedLed, ServedTurn, Serves, all_serve}
 use Rattle.slave_server.specs.Serving.{Serving}
 use Rattle.slave_server.specs.Spec.{profile_of}
-use Rattle.slave_steps.specs.Node.{Node}
+use Rattle.slave_node.specs.Node.{Node}
 
 -- the laws
 abbrev pub StaysLaw : Type 0

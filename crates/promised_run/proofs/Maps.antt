@@ -4,7 +4,7 @@ use Rattle.idle_slaves.specs.Eager as Eager
 use Rattle.idle_slaves.specs.Eager.{IsDraining, IsInVain}
 use Rattle.idle_slaves.specs.Visited.{memory_of, memory_next, visit_for}
 use Rattle.idle_slaves.specs.Waiting.{Memory, memory_behind}
-use Rattle.life_measure.specs.Visits.{Visit, mails_visit, drain_visit}
+use Rattle.life_model.specs.Visits.{Visit, mails_visit, drain_visit}
 use Rattle.life_model.specs.Lives.{Life}
 use Rattle.link_mails.specs.Body.{Body}
 use Rattle.link_model.specs.Link.{Halves}
@@ -16,7 +16,7 @@ use Rattle.run_book.specs.of_master_node.Recalled.{IsFull, paused_behind, turn_b
 use Rattle.master_side.specs.Recall.{Recall}
 use Rattle.segment_model.specs.Ends.{Passing}
 use Rattle.segment_model.specs.Slaves.{Datagram}
-use Rattle.task_model.specs.Accounts.{Duty, Stage}
+use Rattle.state_model.specs.Accounts.{Duty, Stage}
 
 abbrev pub memory : Recall → Memory
 memory m = record { paused = m.paused; turn = m.turn }

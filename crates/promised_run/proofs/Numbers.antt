@@ -5,7 +5,7 @@ use Rattle.std.proofs.lemmas.List.{map-append}
 use Rattle.std.proofs.lemmas.List.Elements.{All-head, All-tail}
 use Rattle.life_runs.specs.First.{lens_of}
 use Rattle.life_runs.specs.Led.{Exchanged, Leads}
-use Rattle.life_runs.specs.of_life_frames.Shares.{AllBoth}
+use Rattle.life_runs.specs.of_frame_view.Shares.{AllBoth}
 use Rattle.life_runs.specs.of_link_mails.Body.{Body}
 use Rattle.life_runs.specs.of_master_duty.Reply.{Reply}
 use Rattle.life_runs.specs.of_master_hand.Spoken.{Asked}
@@ -33,11 +33,11 @@ use Rattle.run_record.specs.of_run_notes.Packets.{AreNumbered, begun_in, numbere
 use Rattle.run_record.specs.Ran.{EndsAs, HasRows, IsGivenUp}
 use Rattle.run_record.specs.of_run_notes.Reports.{IsBooked, noted_in, noted_of, reply_in}
 use Rattle.run_record.specs.of_packets_heard.Numbers.{NoneWaits, events_up_to, frames_begun, given_up_at, number_behind}
-use Rattle.run_record.specs.of_script_runs.Answers.{AllNoted, Noted, Scripted, changes_behind, era_scripted, eras_scripted, life_scripted, next_opened, opened_anew, scripted_by, scripted_in, scripted_mails, side_answers}
-use Rattle.script_runs.specs.Came.{is_beside}
-use Rattle.script_runs.specs.of_life_model.Lives.{Era, Life}
-use Rattle.script_runs.specs.of_state_exchange.Stated.{Service}
-use Rattle.script_runs.specs.of_task_model.Accounts.{Change, Started}
+use Rattle.run_record.specs.of_run_frames.ScriptAnswers.{AllNoted, Noted, Scripted, changes_behind, era_scripted, eras_scripted, life_scripted, next_opened, opened_anew, scripted_by, scripted_in, scripted_mails, side_answers}
+use Rattle.run_frames.specs.Came.{is_beside}
+use Rattle.run_frames.specs.of_life_model.Lives.{Era, Life}
+use Rattle.run_frames.specs.of_state_model.Stated.{Service}
+use Rattle.run_frames.specs.of_state_model.Accounts.{Change, Started}
 use Rattle.segment_plan.specs.declared.plan.Scenario.{Scenario}
 
 -- ---- the rows of the script: by a life, as they are noted, and in a book

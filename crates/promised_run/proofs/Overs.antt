@@ -3,7 +3,7 @@ use Rattle.std.proofs.Common.{◌≡◌, ◌≢◌, inl, inr, ℕ, List, [], ◌
 use Rattle.std.proofs.lemmas.List.{append-nil}
 use Rattle.life_runs.specs.of_frame_view.View.{Lens}
 use Rattle.life_runs.specs.Opened.{AllOpenTheirs}
-use Rattle.life_runs.specs.of_life_frames.Shares.{AllBoth}
+use Rattle.life_runs.specs.of_frame_view.Shares.{AllBoth}
 use Rattle.run_record.specs.AcceptedMails.{heard_in}
 use Rattle.life_runs.specs.First.{lens_of, first_leads}
 use Rattle.life_runs.specs.Led.{Exchanged, Leads, IsLed}
@@ -20,7 +20,7 @@ use Rattle.promised_run.proofs.Ports.{all_ports}
 use Rattle.promised_run.proofs.Reported.{all_reported}
 use Rattle.promised_run.proofs.Rounds.{all_round, same_ring}
 use Rattle.promised_run.proofs.SentWhole.{run_sends}
-use Rattle.sent_packets.specs.Laws.{PacketsAreLong, RunsHear, SlavesSendWhole}
+use Rattle.run_promises.specs.Laws.{PacketsAreLong, RunsHear, SlavesSendWhole}
 use Rattle.promised_run.proofs.Through.{RepliesLaw}
 use Rattle.promised_run.proofs.Unopened.{all_opened}
 use Rattle.promised_run.proofs.Unsent.{all_unsent, come_of}
@@ -36,12 +36,12 @@ use Rattle.run_promises.specs.Round.{ring_of, AllRound}
 use Rattle.run_record.specs.Led.{exchanged, RestsSo, DoneSo, RestBy, LedBook}
 use Rattle.run_record.specs.Ran.{HasFrames, HasRows, EndsAs}
 use Rattle.run_record.specs.Replay.{first_ring, ring_after}
-use Rattle.script_runs.specs.Slaves.{AllCome}
+use Rattle.run_frames.specs.Slaves.{AllCome}
 use Rattle.segment_plan.specs.Sound.{IsPlan}
 use Rattle.segment_plan.specs.declared.plan.Scenario.{Scenario}
 use Rattle.life_runs.specs.of_segment_ring.Ring.{RingState}
 use Rattle.run_book.specs.of_slave_server.Serving.{Serving}
-use Rattle.run_book.specs.of_slave_steps.Node.{Node}
+use Rattle.run_book.specs.of_slave_node.Node.{Node}
 
 -- what this crate's law says, for one plan
 abbrev pub Promises : Scenario → Type 0

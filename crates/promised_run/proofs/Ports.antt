@@ -3,7 +3,7 @@ use Rattle.std.proofs.Common.{◌≡◌, ◌≤◌, ◌<◌, ℕ, zero, suc, ◌
 use Rattle.std.specs.Prelude.{cond, fold, slice_get}
 use Rattle.life_runs.specs.First.{lens_of, leads_from}
 use Rattle.life_runs.specs.Led.{Exchanged, Leads}
-use Rattle.life_runs.specs.of_life_frames.Shares.{AllBoth}
+use Rattle.life_runs.specs.of_frame_view.Shares.{AllBoth}
 use Rattle.promised_run.specs.Ports.{accepted_at, HasBegunAt, AllHavePorts}
 use Rattle.run_book.specs.declared.book.Book.{Book}
 use Rattle.run_book.specs.of_master_node.Forwards.{port_by}

@@ -3,8 +3,8 @@ use Rattle.std.proofs.Common.{◌≡◌, ◌&&◌, Bool, true, false, Ok, List, 
 use Rattle.std.proofs.lemmas.List.Elements.{All-weaker}
 use Rattle.few_replies.specs.Packets.{is_fair}
 use Rattle.run_work.specs.Fair.{AsksFair}
-use Rattle.sent_packets.specs.Quiet.{AsksQuiet, is_quiet}
-use Rattle.served_runs.specs.Served.{Keyed, Serves}
+use Rattle.run_promises.specs.Quiet.{AsksQuiet, is_quiet}
+use Rattle.life_runs.specs.Served.{Keyed, Serves}
 
 left_of : (a b : Bool) → (a && b) ≡ true → a ≡ true
 left_of true b e = refl

@@ -25,7 +25,7 @@ use Rattle.segment_plan.specs.Bound.{bound_of}
 use Rattle.segment_plan.specs.declared.plan.Scenario.{Scenario}
 use Rattle.segment_ring.specs.Ring.{RingState}
 use Rattle.slave_server.specs.Serving.{Serving}
-use Rattle.slave_steps.specs.Node.{Node}
+use Rattle.slave_node.specs.Node.{Node}
 use Rattle.run_record.specs.of_packets_heard.Toured.{IsToured}
 
 -- its frames went round the ring

@@ -4,9 +4,9 @@ use Rattle.std.proofs.Common.{◌≡◌, ℕ, suc, Bool, true, false, Option, So
 use Rattle.segment_plan.specs.of_exchange_model.Exchange.{Exchange, Speech, plain}
 use Rattle.segment_plan.specs.of_exchange_model.Rows.{Row}
 use Rattle.run_promises.specs.of_plan_ring.Epochs.{IsKept, AreKept, IsNewest, IsKeptLife}
-use Rattle.life_runs.specs.of_life_frames.Shares.{AllBoth}
-use Rattle.script_runs.specs.of_life_model.Eras.{era_frames}
-use Rattle.script_runs.specs.of_life_model.Lives.{Spot, Era, Life, returns_to_init}
+use Rattle.life_runs.specs.of_frame_view.Shares.{AllBoth}
+use Rattle.run_frames.specs.of_life_model.Eras.{era_frames}
+use Rattle.run_frames.specs.of_life_model.Lives.{Spot, Era, Life, returns_to_init}
 use Rattle.life_runs.specs.First.{lens_of, spot_of}
 use Rattle.life_runs.specs.Led.{Exchanged, Leads}
 use Rattle.life_runs.specs.of_link_mails.Body.{Body}
@@ -20,24 +20,24 @@ use Rattle.run_book.specs.declared.book.SlaveBook.{SlaveBook}
 use Rattle.run_promises.specs.Round.{all_seen}
 use Rattle.run_promises.specs.Slaves.{services_of}
 use Rattle.run_record.specs.of_run_notes.Reports.{noted_in, IsBooked}
-use Rattle.run_record.specs.of_script_runs.Answers.{Came, Scripted, Noted, AllNoted, answers_in, side_answers, first_change, changes_behind, change_outcome, opened_anew, scripted_by, scripted_in, scripted_mails, era_scripted, eras_scripted, life_scripted, reply_by, outcome_reply}
-use Rattle.run_record.proofs.of_script_runs.Lists.{eras_more}
-use Rattle.script_runs.specs.Came.{is_beside}
-use Rattle.script_runs.specs.of_link_model.Mails.{first_of}
-use Rattle.script_runs.specs.of_segment_model.Ends.{Outcome, mails_end, state_ends}
-use Rattle.script_runs.specs.of_segment_model.Laws.{IsAnswered, AllAnswered, as_outcome}
-use Rattle.script_runs.specs.of_segment_model.Record.{Frame, News, first_end, mails_heard, or_later, news_from}
-use Rattle.script_runs.specs.of_segment_model.Seats.{rows_of}
+use Rattle.run_record.specs.of_run_frames.ScriptAnswers.{Came, Scripted, Noted, AllNoted, answers_in, side_answers, first_change, changes_behind, change_outcome, opened_anew, scripted_by, scripted_in, scripted_mails, era_scripted, eras_scripted, life_scripted, reply_by, outcome_reply}
+use Rattle.run_record.proofs.of_run_frames.Lists.{eras_more}
+use Rattle.run_frames.specs.Came.{is_beside}
+use Rattle.run_frames.specs.of_link_model.Mails.{first_of}
+use Rattle.run_frames.specs.of_segment_model.Ends.{Outcome, mails_end, state_ends}
+use Rattle.run_frames.specs.of_segment_model.Laws.{IsAnswered, AllAnswered, as_outcome}
+use Rattle.run_frames.specs.of_segment_model.Record.{Frame, News, first_end, mails_heard, or_later, news_from}
+use Rattle.run_frames.specs.of_segment_model.Seats.{rows_of}
 use Rattle.segment_plan.specs.declared.plan.Scenario.{Scenario}
 use Rattle.segment_plan.specs.declared.slave.SlaveSpec.{SlaveSpec}
 use Rattle.run_promises.specs.of_plan_ring.Real.{real_clearing}
 use Rattle.run_promises.specs.of_slave_lives.Lived.{Behind, table_of}
 use Rattle.run_book.specs.of_slave_server.Serving.{Serving}
-use Rattle.run_book.specs.of_slave_steps.Node.{Node}
-use Rattle.script_runs.specs.of_state_exchange.Stated.{Stated, Service, with_states}
+use Rattle.run_book.specs.of_slave_node.Node.{Node}
+use Rattle.run_frames.specs.of_state_model.Stated.{Stated, Service, with_states}
 use Rattle.life_runs.specs.of_state_model.States.{Table}
-use Rattle.script_runs.specs.of_task_model.Accounts.{Started, Duty, Change}
-use Rattle.script_runs.specs.of_task_model.Promise.{AllReplied, AllFound, IsOpenYet, IsReply, mail_of, state_of, mails_started, states_started, rows_started, changes_in, duty_in, outcome_of}
+use Rattle.run_frames.specs.of_state_model.Accounts.{Started, Duty, Change}
+use Rattle.run_frames.specs.of_state_model.Promise.{AllReplied, AllFound, IsOpenYet, IsReply, mail_of, state_of, mails_started, states_started, rows_started, changes_in, duty_in, outcome_of}
 
 abbrev Held : Type 0
 Held = Row Body Asked Reply

@@ -3,7 +3,7 @@ use Rattle.std.proofs.Common.{◌≡◌, ◌⊎◌, ℕ, suc, true, List, [], �
 use Rattle.gateway_run.specs.Done.{ServedRestsSo}
 use Rattle.gateway_run.specs.Served.{HasAccount, IsServed}
 use Rattle.gateway_run.specs.Serving.{Told}
-use Rattle.life_frames.specs.Shares.{AllBoth}
+use Rattle.frame_view.specs.Shares.{AllBoth}
 use Rattle.life_model.specs.Lives.{Stand}
 use Rattle.life_runs.proofs.Opened.{IsOpened}
 use Rattle.life_runs.specs.First.{first_leads, lens_of}
@@ -32,9 +32,9 @@ use Rattle.segment_ring.specs.Ring.{RingState}
 use Rattle.served_rings.specs.Rests.{AllServedDoneIf, IsServedDone, IsServedIdle}
 use Rattle.served_rings.specs.Rings.{nodes_behind}
 use Rattle.served_rings.specs.StoodLives.{IsFirst, others}
-use Rattle.served_runs.specs.Served.{IsServedLed, Serves, all_serve}
+use Rattle.life_runs.specs.Served.{IsServedLed, Serves, all_serve}
 use Rattle.slave_server.specs.Serving.{Serving, next_mail}
-use Rattle.slave_steps.specs.Node.{Node, is_settled}
+use Rattle.slave_node.specs.Node.{Node, is_settled}
 
 -- the law
 abbrev pub RestsLaw : Type 0

@@ -18,7 +18,7 @@ use Rattle.segment_plan.specs.declared.plan.Scenario.{Scenario}
 use Rattle.segment_plan.specs.declared.slave.SlaveSpec.{SlaveSpec}
 use Rattle.slave_server.specs.Serving.{Serving, next_mail}
 use Rattle.slave_server.specs.Spec.{profile_of}
-use Rattle.slave_steps.specs.Node.{Node, is_settled}
+use Rattle.slave_node.specs.Node.{Node, is_settled}
 use Rattle.idle_slaves.specs.WaitEager.{AllRest, IsResting}
 use Rattle.promised_run.specs.Runs.{is_waiting, remembered, waiting_at}
 use Rattle.promised_run.proofs.Settled.{settled_back}

@@ -7,7 +7,7 @@ use Rattle.run_record.specs.Led.{exchanged}
 use Rattle.run_record.specs.Replay.{AreRecorded, ring_after, behind}
 use Rattle.life_runs.specs.of_segment_ring.Ring.{RingState}
 use Rattle.run_book.specs.of_slave_server.Serving.{Serving}
-use Rattle.run_book.specs.of_slave_steps.Node.{Node}
+use Rattle.run_book.specs.of_slave_node.Node.{Node}
 
 pub all_round : (ring : RingState (Node Serving)) (fs : List SentFrame) → AreRecorded ring fs → AllRound ring (map exchanged fs)
 all_round ring [] recorded = tt

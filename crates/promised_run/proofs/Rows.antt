@@ -5,10 +5,10 @@ use Rattle.std.proofs.lemmas.List.Elements.{All-append, All-cons, All-head, All-
 use Rattle.life_runs.specs.First.{leads_from, first_leads}
 use Rattle.life_runs.specs.Led.{Exchanged, Leads, Turn, Took, AllTurn, IsLed, is_passed, speech_at, life_behind, led_behind, gives_up_at}
 use Rattle.life_runs.specs.of_datagrams.Datagram as Raw
-use Rattle.life_runs.specs.of_eoe_model.Client as EoeClient
+use Rattle.life_runs.specs.of_protocol_models.EoeClient as EoeClient
 use Rattle.life_runs.specs.of_frame_view.View.{Lens}
 use Rattle.life_runs.specs.of_frame_view.Seen.{seen}
-use Rattle.life_runs.specs.of_life_frames.Shares.{IsNext, came_at, given_where, lived_back, lived_lost}
+use Rattle.life_runs.specs.of_frame_view.Shares.{IsNext, came_at, given_where, lived_back, lived_lost}
 use Rattle.life_runs.specs.of_link_mails.Body.{Body}
 use Rattle.life_runs.specs.of_master_duty.Reply.{Reply}
 use Rattle.life_runs.specs.of_master_hand.Spoken.{Asked, sdo, file, drive, net, passed, acknowledged, is_followed}
@@ -21,22 +21,22 @@ use Rattle.run_book.specs.of_master_node.Serving.{run_lead, run_turn}
 use Rattle.run_record.specs.of_packets_heard.Numbers.{each_with, frame_where, frames_begun, frames_other}
 use Rattle.run_record.specs.of_packets_heard.Over.{packet_begun}
 use Rattle.run_record.specs.of_packets_heard.Servings.{served_begun, served_other}
-use Rattle.script_runs.proofs.of_task_model.Completed.{started_back}
-use Rattle.script_runs.specs.Came.{is_beside, is_packet}
-use Rattle.script_runs.specs.of_exchange_model.Exchange.{Speech}
-use Rattle.script_runs.specs.of_life_model.Lives.{Spot, Era, Life, Stand, Opening, granted, life_next, life_back, life_lost, era_back, opening_back, shows_clear, is_shown, last_step, clears, opens, steps_on, reopens, reopens_at, reopening, opens_state, returns_to_init}
-use Rattle.script_runs.specs.of_life_model.Own.{own}
-use Rattle.script_runs.specs.of_segment_model.Ends.{Passing}
-use Rattle.script_runs.specs.of_segment_model.Record.{News}
-use Rattle.script_runs.specs.of_segment_model.Seats.{Side}
-use Rattle.script_runs.specs.of_segment_model.Slaves.{Datagram, Found}
-use Rattle.script_runs.specs.of_state_exchange.Stated.{Service}
-use Rattle.script_runs.specs.of_task_model.Accounts.{Account, Duty, Stage, Pick, Started, account_begins}
+use Rattle.run_frames.proofs.of_state_model.Completed.{started_back}
+use Rattle.run_frames.specs.Came.{is_beside, is_packet}
+use Rattle.run_frames.specs.of_exchange_model.Exchange.{Speech}
+use Rattle.run_frames.specs.of_life_model.Lives.{Spot, Era, Life, Stand, Opening, granted, life_next, life_back, life_lost, era_back, opening_back, shows_clear, is_shown, last_step, clears, opens, steps_on, reopens, reopens_at, reopening, opens_state, returns_to_init}
+use Rattle.run_frames.specs.of_life_model.Own.{own}
+use Rattle.run_frames.specs.of_segment_model.Ends.{Passing}
+use Rattle.run_frames.specs.of_segment_model.Record.{News}
+use Rattle.run_frames.specs.of_segment_model.Seats.{Side}
+use Rattle.run_frames.specs.of_segment_model.Slaves.{Datagram, Found}
+use Rattle.run_frames.specs.of_state_model.Stated.{Service}
+use Rattle.run_frames.specs.of_state_model.Accounts.{Account, Duty, Stage, Pick, Started, account_begins}
 use Rattle.segment_plan.specs.declared.plan.Scenario.{Scenario}
 use Rattle.segment_plan.specs.declared.service.Service as Plan
 use Rattle.segment_plan.specs.declared.slave.SlaveSpec.{SlaveSpec}
-use Rattle.served_runs.proofs.Quiet.{comes_own}
-use Rattle.served_runs.specs.Served.{AllServedTurn, IsServedLed, Keyed, Serves, ServedTurn, all_serve, asked_at, served_behind, served_life}
+use Rattle.life_runs.proofs.Quiet.{comes_own}
+use Rattle.life_runs.specs.Served.{AllServedTurn, IsServedLed, Keyed, Serves, ServedTurn, all_serve, asked_at, served_behind, served_life}
 use Rattle.life_runs.specs.of_segment_ring.declared.wire.Fate.{Fate}
 use Rattle.life_runs.specs.of_segment_ring.declared.wire.Fate.TheVariants.{Pass, Lost}
 

@@ -25,9 +25,9 @@ use Rattle.run_record.specs.of_packets_heard.Listed.{long_ones, long_where}
 use Rattle.run_record.specs.of_packets_heard.Servings.{served_times}
 use Rattle.segment_plan.specs.Sound.{IsPlan}
 use Rattle.segment_plan.specs.declared.plan.Scenario.{Scenario}
-use Rattle.sent_packets.specs.Laws.{PacketsAreLong, RunsHear, ServingsHear, SlavesSendWhole}
-use Rattle.sent_packets.specs.Whole.{AllAreHeard, AreLong, heard_at}
-use Rattle.served_runs.specs.Served.{Serves}
+use Rattle.run_promises.specs.Laws.{PacketsAreLong, RunsHear, ServingsHear, SlavesSendWhole}
+use Rattle.run_promises.specs.Whole.{AllAreHeard, AreLong, heard_at}
+use Rattle.life_runs.specs.Served.{Serves}
 
 -- packets of at least 14 octets all come in
 long_all : (ps : List (List ℕ)) → AreLong ps → long_ones ps ≡ map packet_of ps

@@ -14,7 +14,7 @@ use Rattle.run_book.specs.declared.book.Book.{Book}
 use Rattle.run_record.specs.Served.{ServeTo}
 use Rattle.segment_plan.specs.declared.plan.Scenario.{Scenario}
 use Rattle.segment_plan.specs.declared.slave.SlaveSpec.{SlaveSpec}
-use Rattle.served_runs.specs.Served.{Keyed, Serves, ServedTurn, IsServedLed, AllServedTurn, all_serve, asked_at, served_behind}
+use Rattle.life_runs.specs.Served.{Keyed, Serves, ServedTurn, IsServedLed, AllServedTurn, all_serve, asked_at, served_behind}
 
 -- ---- the script of each slave stays the plan's
 

@@ -13,7 +13,7 @@ use Rattle.life_runs.specs.Led.{Exchanged, Leads, gives_up_at, speech_at}
 use Rattle.life_runs.specs.of_datagrams.Datagram as Raw
 use Rattle.life_runs.specs.of_frame_view.Seen.{seen}
 use Rattle.life_runs.specs.of_frame_view.View.{Lens}
-use Rattle.life_runs.specs.of_life_frames.Shares.{came_at}
+use Rattle.life_runs.specs.of_frame_view.Shares.{came_at}
 use Rattle.life_runs.specs.of_master_side.Passing.{news_back, news_lost}
 use Rattle.life_runs.specs.of_segment_ring.declared.wire.Fate.{Fate}
 use Rattle.life_runs.specs.of_segment_ring.declared.wire.Fate.TheVariants.{Pass, Lost}
@@ -36,8 +36,8 @@ use Rattle.run_record.specs.of_run_notes.Slaves.{gaves_noted, slave_rows}
 use Rattle.run_record.specs.of_run_notes.declared.notes.Notes.{Notes}
 use Rattle.segment_plan.specs.Bound.{bound_of}
 use Rattle.segment_plan.specs.declared.plan.Scenario.{Scenario}
-use Rattle.served_runs.specs.Served.{AllServedTurn, IsServedLed, Keyed, Serves, ServedTurn, all_serve, asked_at, served_behind, served_life}
-use Rattle.slave_node.specs.of_slave_steps.Node.{Node}
+use Rattle.life_runs.specs.Served.{AllServedTurn, IsServedLed, Keyed, Serves, ServedTurn, all_serve, asked_at, served_behind, served_life}
+use Rattle.slave_node.specs.Node.{Node}
 use Rattle.slave_server.specs.declared.server.SlaveServer.{SlaveServer}
 
 -- ---- no slave is given up

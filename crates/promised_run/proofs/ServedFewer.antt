@@ -23,8 +23,8 @@ use Rattle.run_record.specs.Served.{ServeTo, ServedTouredTo}
 use Rattle.run_work.specs.ServedGained.{asked_in}
 use Rattle.segment_plan.specs.Bound.{bound_of}
 use Rattle.segment_plan.specs.declared.plan.Scenario.{Scenario}
-use Rattle.sent_packets.specs.Quiet.{AsksQuiet}
-use Rattle.served_runs.specs.Served.{Serves}
+use Rattle.run_promises.specs.Quiet.{AsksQuiet}
+use Rattle.life_runs.specs.Served.{Serves}
 
 -- what the laws say
 pub record Laws (plan : Scenario) (count : ℕ) : Type 0 where

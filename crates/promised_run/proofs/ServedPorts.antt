@@ -5,7 +5,7 @@ use Rattle.gateway_run.specs.Served.{HasAccount, IsServed}
 use Rattle.gateway_run.specs.Serving.{Told}
 use Rattle.life_runs.specs.First.{first_leads, lens_of}
 use Rattle.life_runs.specs.Led.{Exchanged, Leads}
-use Rattle.life_runs.specs.of_life_frames.Shares.{AllBoth}
+use Rattle.life_runs.specs.of_frame_view.Shares.{AllBoth}
 use Rattle.gateway_run.proofs.of_master_node.Servings.{run_all}
 use Rattle.promised_run.proofs.Numbers.{given_are, scripts_are}
 use Rattle.promised_run.proofs.Ports.{by_times, few_ports, first_live}
@@ -40,8 +40,8 @@ use Rattle.run_record.specs.of_run_notes.Reports.{IsBooked}
 use Rattle.run_record.specs.of_run_notes.Slaves.{gaves_in, gaves_noted, slave_rows}
 use Rattle.run_record.specs.of_run_notes.declared.notes.Notes.{Notes}
 use Rattle.segment_plan.specs.declared.plan.Scenario.{Scenario}
-use Rattle.served_runs.specs.Served.{Serves}
-use Rattle.slave_node.specs.of_slave_steps.Node.{Node}
+use Rattle.life_runs.specs.Served.{Serves}
+use Rattle.slave_node.specs.Node.{Node}
 use Rattle.slave_server.specs.declared.server.SlaveServer.{SlaveServer}
 
 module _ (plan : Scenario) {fs : List Exchanged} {missed : ℕ} {ws : List Serves} (lives : ServeTo plan fs missed ws) where

@@ -2,9 +2,9 @@
 use Rattle.std.proofs.Common.{◌≡◌, ℕ, suc, Bool, true, false, Option, Some, None, option_map, List, [], ◌∷◌, ◌++◌, map, refl, ap, ap₂, sym, ◌∙◌, subst}
 use Rattle.std.proofs.lemmas.List.{map-append}
 use Rattle.exchange_model.specs.Rows.{Row}
-use Rattle.life_frames.specs.Shares.{AllBoth}
+use Rattle.frame_view.specs.Shares.{AllBoth}
 use Rattle.life_model.specs.Eras.{era_frames}
-use Rattle.life_model.specs.Lives.{Spot, Era, Life, Stand}
+use Rattle.life_model.specs.Lives.{Spot, Era, Life, Stand, returns_to_init}
 use Rattle.life_runs.specs.First.{first_leads, lens_of, spot_of}
 use Rattle.life_runs.specs.Led.{Exchanged}
 use Rattle.link_mails.specs.Body.{Body}
@@ -25,8 +25,8 @@ use Rattle.run_record.specs.Ran.{HasSent}
 use Rattle.run_record.specs.Replay.{first_ring}
 use Rattle.run_record.specs.of_run_notes.Reports.{IsBooked, noted_in}
 use Rattle.scenario.specs.Told.{IsTold}
-use Rattle.script_runs.specs.Answers.{AllNoted, Came, Noted, Scripted, answers_in, change_outcome, changes_behind, era_scripted, eras_scripted, first_change, life_scripted, next_opened, opened_anew, scripted_by, scripted_in, scripted_mails}
-use Rattle.script_runs.specs.Came.{is_beside}
+use Rattle.run_frames.specs.ScriptAnswers.{AllNoted, Came, Noted, Scripted, answers_in, change_outcome, changes_behind, era_scripted, eras_scripted, first_change, life_scripted, next_opened, opened_anew, scripted_by, scripted_in, scripted_mails}
+use Rattle.run_frames.specs.Came.{is_beside}
 use Rattle.segment_model.specs.Record.{Frame}
 use Rattle.segment_model.specs.Seats.{Side, newest, rows_of}
 use Rattle.segment_plan.specs.Sound.{IsPlan}
@@ -34,12 +34,11 @@ use Rattle.segment_plan.specs.declared.plan.Scenario.{Scenario}
 use Rattle.segment_plan.specs.declared.slave.SlaveSpec.{SlaveSpec}
 use Rattle.served_rings.specs.ToldEras.{AllToldEras, AllToldLives, IsToldEra, IsToldLife, IsToldNewest, WasToldEra, next_cleared, unpassed_answer, unpassed_row, unpassed_side}
 use Rattle.served_rings.proofs.Unpassed.{rows_keys}
-use Rattle.served_runs.specs.Served.{IsServedLed, Serves, all_serve}
+use Rattle.life_runs.specs.Served.{IsServedLed, Serves, all_serve}
 use Rattle.slave_lives.specs.Lived.{Behind}
-use Rattle.state_exchange.specs.Stated.{Service}
-use Rattle.life_model.specs.Lives.{returns_to_init}
-use Rattle.task_model.specs.Accounts.{Change, Started}
-use Rattle.task_model.specs.Promise.{mail_of, mails_started, rows_started}
+use Rattle.state_model.specs.Stated.{Service}
+use Rattle.state_model.specs.Accounts.{Change, Started}
+use Rattle.state_model.specs.Promise.{mail_of, mails_started, rows_started}
 
 -- the law
 abbrev pub ErasLaw : Type 0

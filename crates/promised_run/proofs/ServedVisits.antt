@@ -3,7 +3,7 @@ use Rattle.std.proofs.Common.{◌≡◌, ℕ, zero, suc, Bool, false, Option, So
 use Rattle.std.proofs.lemmas.List.{length-map}
 use Rattle.frame_view.specs.Seen.{seen}
 use Rattle.frame_view.specs.View.{Lens}
-use Rattle.life_frames.specs.Frames.{Share}
+use Rattle.frame_view.specs.Frames.{Share}
 use Rattle.life_model.specs.Lives.{Era, Life, Stand, granted, life_next, passing_begins}
 use Rattle.life_runs.specs.First.{lens_of, first_leads, leads_from}
 use Rattle.life_runs.specs.Led.{Comes, Exchanged, IsLedFrame, IsTurn, AllTurn, Turn, gives_up_at, is_passed, speech_at}
@@ -34,8 +34,8 @@ use Rattle.segment_plan.specs.declared.slave.SlaveSpec.{SlaveSpec}
 use Rattle.segment_ring.specs.declared.wire.Fate.{Fate}
 use Rattle.segment_ring.specs.declared.wire.Fate.TheVariants.{Pass, Lost}
 use Rattle.run_record.proofs.of_served_places.Slaves.{first_leads_in}
-use Rattle.served_runs.specs.Served.{AllServedTurn, IsServedFrame, IsServedTurn, Serves, ServedTurn, served_life}
-use Rattle.task_model.specs.Accounts.{Pick, account_next, mails_choice}
+use Rattle.life_runs.specs.Served.{AllServedTurn, IsServedFrame, IsServedTurn, Serves, ServedTurn, served_life}
+use Rattle.state_model.specs.Accounts.{Pick, account_next, mails_choice}
 use Rattle.exchange_model.specs.Exchange.{Speech}
 
 -- WHERE NOTHING COMES INTO HAND and no mail is taken up a life stays as it is

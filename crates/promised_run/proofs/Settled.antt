@@ -7,7 +7,7 @@ use Rattle.mailbox_slave.specs.Kept.{offered}
 use Rattle.segment_model.specs.Laws.{IsSettled}
 use Rattle.segment_model.specs.Slaves.{first_waiting}
 use Rattle.slave_lives.specs.Lived.{Behind, IsBehind, node_seen}
-use Rattle.slave_steps.specs.Node.{Node, is_settled}
+use Rattle.slave_node.specs.Node.{Node, is_settled}
 
 mapped_none : {X Y : Type 0} (f : X → Y) (o : Option X) → option_map f o ≡ None → o ≡ None
 mapped_none f None e = refl

@@ -20,9 +20,9 @@ use Rattle.segment_ring.specs.Ring.{RingState}
 use Rattle.served_rings.specs.Rings.{nodes_behind}
 use Rattle.served_rings.specs.Stood.{ServeSo, ServeStood}
 use Rattle.run_work.proofs.Placed.{all_fresh}
-use Rattle.served_runs.specs.Came.{HasServed, IsFresh}
-use Rattle.served_runs.specs.Served.{Serves, IsServedLed, TellsSo, all_serve}
-use Rattle.slave_node.specs.of_slave_steps.Node.{Node}
+use Rattle.life_runs.specs.Came.{HasServed, IsFresh}
+use Rattle.life_runs.specs.Served.{Serves, IsServedLed, TellsSo, all_serve}
+use Rattle.slave_node.specs.Node.{Node}
 use Rattle.slave_server.specs.declared.server.SlaveServer.{SlaveServer}
 use Rattle.promised_run.specs.Stood.{StoodBehind, nodes_through}
 use Rattle.promised_run.specs.Through.{IsServedThrough}

@@ -4,7 +4,7 @@ use Rattle.datagrams.specs.Datagram as Raw
 use Rattle.exchange_model.specs.Exchange.{Speech}
 use Rattle.frame_view.specs.Seen.{seen}
 use Rattle.frame_view.specs.View.{Lens}
-use Rattle.life_frames.specs.Shares.{came_at, given_where}
+use Rattle.frame_view.specs.Shares.{came_at, given_where}
 use Rattle.life_model.specs.Lives.{Spot, Stand, Life, life_next, life_back, life_lost}
 use Rattle.life_runs.specs.Led.{Exchanged, speech_at, is_passed}
 use Rattle.link_mails.specs.Body.{Body}
@@ -19,7 +19,7 @@ use Rattle.segment_model.specs.Record.{News}
 use Rattle.segment_model.specs.Slaves.{Datagram}
 use Rattle.segment_ring.specs.declared.wire.Fate.{Fate}
 use Rattle.segment_ring.specs.declared.wire.Fate.TheVariants.{Pass, Lost}
-use Rattle.served_runs.specs.Served.{Serves, ServedTurn, IsServedTurn, AllServedTurn, served_behind, served_life}
+use Rattle.life_runs.specs.Served.{Serves, ServedTurn, IsServedTurn, AllServedTurn, served_behind, served_life}
 
 abbrev MyLife : Type 0
 MyLife = Life Body Asked Reply

@@ -31,7 +31,7 @@ use Rattle.segment_ring.specs.declared.wire.Fate.TheVariants.{Pass, Lost}
 use Rattle.run_record.specs.of_served_places.Answered.{ServedAsks}
 use Rattle.run_record.specs.of_served_places.Toured.{IsServedToured, back_under, first_served, lost_under, served_back, served_lost, serves_on, still_served, waits_served}
 use Rattle.run_record.proofs.of_served_places.Slaves.{all_led_back, all_led_lost}
-use Rattle.served_runs.specs.Served.{Keyed, Serves, ServedTurn, AllServedTurn, IsServedFrame, MayAsk, asked_at}
+use Rattle.life_runs.specs.Served.{Keyed, Serves, ServedTurn, AllServedTurn, IsServedFrame, MayAsk, asked_at}
 use Rattle.promised_run.proofs.Asks.{asks_same}
 use Rattle.promised_run.proofs.Ahead.{alone, not_in}
 use Rattle.promised_run.proofs.Places.{Slave, lives_same, long_same, opened_same, places_are, comes_again, shares_are, under_same, last_round, last_first, opened_kept, last_kept}

@@ -13,7 +13,7 @@ use Rattle.master_tour.proofs.Unpassed.{unpassed_next, unpassed_back, unpassed_l
 use Rattle.segment_ring.specs.declared.wire.Fate.{Fate}
 use Rattle.segment_ring.specs.declared.wire.Fate.TheVariants.{Pass, Lost}
 use Rattle.idle_slaves.specs.WaitEager.{AllUnpassed}
-use Rattle.served_runs.proofs.Quiet.{comes_own}
+use Rattle.life_runs.proofs.Quiet.{comes_own}
 
 -- of slaves before a frame
 abbrev pub TurnsUnpassed : List Turn → Type 0

@@ -2,12 +2,12 @@
 use Rattle.std.proofs.Common.{◌≡◌, ℕ, suc, List, [], ◌∷◌}
 use Rattle.std.specs.Prelude.{⊤}
 use Rattle.life_runs.specs.First.{script_for}
-use Rattle.life_runs.specs.of_life_frames.Shares.{AllBoth}
+use Rattle.life_runs.specs.of_frame_view.Shares.{AllBoth}
 use Rattle.life_runs.specs.Led.{Leads}
 use Rattle.promised_run.specs.Unsent.{AllUnsent}
 use Rattle.run_book.specs.declared.book.SlaveBook.{SlaveBook}
 use Rattle.run_record.specs.of_run_notes.Unsent.{IsSpent}
-use Rattle.script_runs.specs.Slaves.{AllCome}
+use Rattle.run_frames.specs.Slaves.{AllCome}
 use Rattle.segment_plan.specs.declared.plan.Scenario.{Scenario}
 use Rattle.segment_plan.specs.declared.slave.SlaveSpec.{SlaveSpec}
 

@@ -4,12 +4,12 @@ use Rattle.std.specs.Prelude.{nat_lt, if◌then◌else◌, All, ⊤}
 use Rattle.std.proofs.lemmas.Bool.{eq-eqb, ne_eqb}
 use Rattle.std.proofs.lemmas.List.{length-map}
 use Rattle.std.proofs.lemmas.List.Elements.{All-head, All-tail}
-use Rattle.life_frames.specs.Shares.{AllFrom}
+use Rattle.frame_view.specs.Shares.{AllFrom}
 use Rattle.life_runs.specs.of_datagrams.Datagram as Raw
 use Rattle.life_runs.specs.of_frame_view.View.{Lens}
 use Rattle.life_runs.specs.of_frame_view.Seen.{seen}
-use Rattle.script_runs.specs.of_life_model.Lives.{Spot}
-use Rattle.script_runs.specs.of_life_model.Tours.{Member, is_live_in}
+use Rattle.run_frames.specs.of_life_model.Lives.{Spot}
+use Rattle.run_frames.specs.of_life_model.Tours.{Member, is_live_in}
 use Rattle.life_runs.proofs.First.{apart_from, have_lens}
 use Rattle.life_runs.specs.First.{lens_of, first_leads, spot_of, IsElsewhere, AreApart, HaveLens}
 use Rattle.life_runs.specs.Led.{Exchanged, Leads, Turn, AllTurn, IsLed, IsLedFrame}
@@ -22,8 +22,8 @@ use Rattle.run_book.specs.of_master_tour.Sizes.{frame_size}
 use Rattle.run_book.specs.of_master_tour.Orders.{last_place, last_behind}
 use Rattle.run_book.specs.of_master_tour.Toured.{Tour, IsOfTour, HaveFrom, new_tour, visit_on, goes_on, has_number}
 use Rattle.promised_run.specs.Visits.{stop_of, stops_of, members_of, IsVisit, AllVisit}
-use Rattle.script_runs.specs.Slaves.{AllCome}
-use Rattle.script_runs.specs.of_segment_model.Visits.{Stop, station_at}
+use Rattle.run_frames.specs.Slaves.{AllCome}
+use Rattle.run_frames.specs.of_segment_model.Visits.{Stop, station_at}
 use Rattle.segment_plan.specs.Sound.{IsPlan, IsSlave}
 use Rattle.segment_plan.specs.declared.plan.Scenario.{Scenario}
 use Rattle.segment_plan.specs.declared.slave.SlaveSpec.{SlaveSpec}

@@ -27,7 +27,7 @@ use Rattle.segment_plan.specs.declared.plan.Scenario.{Scenario}
 use Rattle.segment_ring.specs.Ring.{RingState}
 use Rattle.segment_ring.specs.declared.wire.Fate.TheVariants.{Pass, Lost}
 use Rattle.slave_server.specs.Serving.{Serving}
-use Rattle.slave_steps.specs.Node.{Node}
+use Rattle.slave_node.specs.Node.{Node}
 use Rattle.run_record.specs.of_packets_heard.Toured as Visits
 use Rattle.idle_slaves.specs.WaitEager.{AllRest, AllUnpassed, IsEagerFrame}
 use Rattle.plan_ring.specs.Dues.{MailsAreDue}

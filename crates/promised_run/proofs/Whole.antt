@@ -4,7 +4,7 @@ use Rattle.std.specs.Prelude.{◌&&◌, if◌then◌else◌, All}
 use Rattle.std.proofs.lemmas.List.Elements.{All-head, All-tail}
 use Rattle.exchange_model.specs.Exchange.{Speech}
 use Rattle.exchange_model.specs.Rows.{Row}
-use Rattle.life_frames.specs.Shares.{AllBoth, came_at, given_where}
+use Rattle.frame_view.specs.Shares.{AllBoth, came_at, given_where}
 use Rattle.life_model.specs.Lives.{Life, Era, Spot, Stand, era_back, era_lost, life_back, life_lost, passes}
 use Rattle.life_runs.specs.First.{first_leads, lens_of}
 use Rattle.life_runs.specs.Led.{Exchanged, gives_up_at, speech_at}
@@ -26,9 +26,9 @@ use Rattle.segment_ring.specs.declared.wire.Fate.{Fate}
 use Rattle.segment_ring.specs.declared.wire.Fate.TheVariants.{Pass, Lost}
 use Rattle.run_record.proofs.of_served_places.Behind.{reopens_keeps}
 use Rattle.run_record.proofs.of_served_places.Held.{all_has, next_has}
-use Rattle.served_runs.specs.Served.{Serves, ServedTurn, AllServedTurn, accepted_by, gives_it, served_behind, served_life}
-use Rattle.served_runs.specs.Told.{Passed, TellsOwn, replies_in, told_on}
-use Rattle.served_runs.proofs.Tells.{HasPassed, back_has, lost_has}
+use Rattle.life_runs.specs.Served.{Serves, ServedTurn, AllServedTurn, accepted_by, gives_it, served_behind, served_life}
+use Rattle.life_runs.specs.Told.{Passed, TellsOwn, replies_in, told_on}
+use Rattle.life_runs.proofs.Tells.{HasPassed, back_has, lost_has}
 use Rattle.promised_run.specs.Through.{IsServedWhole, TellsWhole}
 
 -- all that was heard was told

@@ -17,7 +17,7 @@ use Rattle.run_record.specs.Ran.{HasFrames, HasSent}
 use Rattle.run_record.specs.Served.{ServeTo}
 use Rattle.run_record.specs.Written.{WereDue, WereServedDue}
 use Rattle.segment_plan.specs.declared.plan.Scenario.{Scenario}
-use Rattle.served_runs.specs.Served.{IsServedLed, Serves}
+use Rattle.life_runs.specs.Served.{IsServedLed, Serves}
 
 module _ (plan : Scenario) (due : MailsAreDue plan) where
   -- over the frames of a run that went round the plan's ring

@@ -3,7 +3,7 @@ use Rattle.std.specs.Prelude.{List}
 use Rattle.life_runs.specs.Led.{Leads}
 use Rattle.run_book.specs.declared.book.Book.{Book}
 use Rattle.segment_plan.specs.declared.plan.Scenario.{Scenario}
-use Rattle.served_runs.specs.Served.{IsRunOf, Serves}
+use Rattle.life_runs.specs.Served.{IsRunOf, Serves}
 use Rattle.promised_run.specs.Stood.{StoodBehind}
 
 -- BY ITS SERVER each slave of the ring behind all frames has carried out, epoch by epoch, just the first of what came into hand, and counts just the services by

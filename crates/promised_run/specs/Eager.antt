@@ -17,7 +17,7 @@ use Rattle.segment_plan.specs.Bound.{slowest}
 use Rattle.segment_plan.specs.declared.plan.Scenario.{Scenario}
 use Rattle.run_record.specs.of_served_places.Answered.{ServedAsks}
 use Rattle.run_record.specs.of_served_places.Toured.{IsServedToured}
-use Rattle.served_runs.specs.Served.{Keyed, Serves, all_serve}
+use Rattle.life_runs.specs.Served.{Keyed, Serves, all_serve}
 pub use Rattle.seen_slaves.specs.Dues.{ServedMailsAreDue}
 use Rattle.seen_slaves.specs.Eager.{ServedEagerIn}
 

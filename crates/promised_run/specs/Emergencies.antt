@@ -1,6 +1,6 @@
 -- THE EMERGENCIES OF A SLAVE, as a book has them.
 use Rattle.std.specs.Prelude.{◌≡◌, List}
-use Rattle.life_runs.specs.of_life_frames.Shares.{AllBoth}
+use Rattle.life_runs.specs.of_frame_view.Shares.{AllBoth}
 use Rattle.run_record.specs.AcceptedMails.{Accepted, emergencies_of}
 use Rattle.run_book.specs.declared.book.SlaveBook.{SlaveBook}
 

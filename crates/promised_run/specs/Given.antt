@@ -21,10 +21,10 @@ use Rattle.segment_plan.specs.declared.slave.SlaveSpec.{SlaveSpec}
 use Rattle.run_record.specs.of_served_places.Rows.{passings}
 use Rattle.served_rings.specs.Given.{Given, given}
 use Rattle.served_rings.specs.Served.{AllServeSo, replies_to}
-use Rattle.served_runs.specs.Served.{Serves}
+use Rattle.life_runs.specs.Served.{Serves}
 use Rattle.slave_server.specs.Serving.{Serving}
 use Rattle.slave_server.specs.Spec.{profile_of}
-use Rattle.slave_steps.specs.Node.{Node}
+use Rattle.slave_node.specs.Node.{Node}
 use Rattle.promised_run.specs.Stood.{StoodBehind}
 
 -- the mails that a slave's server gives for a mail in its one step, as they are told

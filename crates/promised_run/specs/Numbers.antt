@@ -13,9 +13,9 @@ use Rattle.run_book.specs.of_master_node.declared.event.Origin.{Origin}
 use Rattle.run_book.specs.of_master_node.declared.event.Origin.TheVariants.{Script, Forward, Gateway}
 use Rattle.run_record.specs.Led.{LeadTo}
 use Rattle.run_record.specs.of_packets_heard.Numbers.{NoneWaits, begins, comes_in, events_up_to, frames_heard, goes, number_behind, numbers_where}
-use Rattle.script_runs.specs.Came.{is_packet}
-use Rattle.script_runs.specs.of_life_model.Lives.{Era, Life}
-use Rattle.script_runs.specs.of_task_model.Accounts.{Started}
+use Rattle.run_frames.specs.Came.{is_packet}
+use Rattle.run_frames.specs.of_life_model.Lives.{Era, Life}
+use Rattle.run_frames.specs.of_state_model.Accounts.{Started}
 use Rattle.segment_plan.specs.declared.plan.Scenario.{Scenario}
 
 -- the rows of epochs, in order: each service that came into hand, with the frame before which it did

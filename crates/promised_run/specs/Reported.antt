@@ -2,8 +2,8 @@
 use Rattle.std.specs.Prelude.{◌≡◌, ℕ, suc, not, Bool, true, false, Option, Some, None, List, [], ◌∷◌, ◌++◌, length, ⊤}
 use Rattle.segment_plan.specs.of_exchange_model.Exchange.{Exchange, Speech}
 use Rattle.run_promises.specs.of_plan_ring.Epochs.{IsKept, app_of}
-use Rattle.script_runs.specs.of_life_model.Eras.{era_frames}
-use Rattle.script_runs.specs.of_life_model.Lives.{Spot, Era, Life, returns_to_init}
+use Rattle.run_frames.specs.of_life_model.Eras.{era_frames}
+use Rattle.run_frames.specs.of_life_model.Lives.{Spot, Era, Life, returns_to_init}
 use Rattle.life_runs.specs.First.{lens_of, spot_of}
 use Rattle.life_runs.specs.Led.{Exchanged, Leads}
 use Rattle.life_runs.specs.of_link_mails.Body.{Body}
@@ -14,20 +14,20 @@ use Rattle.run_book.specs.declared.book.SlaveBook.{SlaveBook}
 use Rattle.run_promises.specs.Round.{all_seen}
 use Rattle.run_promises.specs.Slaves.{services_of}
 use Rattle.run_record.specs.of_run_notes.Reports.{noted_in}
-use Rattle.run_record.specs.of_script_runs.Answers.{Noted, reply_by, outcome_reply, change_outcome, opened_anew}
-use Rattle.script_runs.specs.Came.{is_beside}
-use Rattle.script_runs.specs.of_segment_model.Ends.{Outcome}
-use Rattle.script_runs.specs.of_segment_model.Record.{Frame}
+use Rattle.run_record.specs.of_run_frames.ScriptAnswers.{Noted, reply_by, outcome_reply, change_outcome, opened_anew}
+use Rattle.run_frames.specs.Came.{is_beside}
+use Rattle.run_frames.specs.of_segment_model.Ends.{Outcome}
+use Rattle.run_frames.specs.of_segment_model.Record.{Frame}
 use Rattle.segment_plan.specs.declared.plan.Scenario.{Scenario}
 use Rattle.segment_plan.specs.declared.slave.SlaveSpec.{SlaveSpec}
 use Rattle.run_promises.specs.of_plan_ring.Real.{real_clearing}
 use Rattle.run_promises.specs.of_slave_lives.Lived.{Behind, table_of}
 use Rattle.run_book.specs.of_slave_server.Serving.{Serving}
-use Rattle.run_book.specs.of_slave_steps.Node.{Node}
-use Rattle.script_runs.specs.of_state_exchange.Stated.{Stated, Service, with_states}
+use Rattle.run_book.specs.of_slave_node.Node.{Node}
+use Rattle.run_frames.specs.of_state_model.Stated.{Stated, Service, with_states}
 use Rattle.life_runs.specs.of_state_model.States.{Table}
-use Rattle.script_runs.specs.of_task_model.Accounts.{Started}
-use Rattle.script_runs.specs.of_task_model.Promise.{outcome_of}
+use Rattle.run_frames.specs.of_state_model.Accounts.{Started}
+use Rattle.run_frames.specs.of_state_model.Promise.{outcome_of}
 
 -- a service has a reply of its own, by mails or as a change of state: no packet, no mail that is passed on
 abbrev pub has_reply : {M R : Type 0} → Speech M Asked R → Service Asked → Bool

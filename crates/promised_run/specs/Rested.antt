@@ -13,9 +13,9 @@ use Rattle.segment_plan.specs.declared.plan.Scenario.{Scenario}
 use Rattle.segment_plan.specs.declared.slave.SlaveSpec.{SlaveSpec}
 use Rattle.served_rings.specs.Rests.{IsServedDone, IsServedIdle}
 use Rattle.served_rings.specs.StoodLives.{IsFirst, others}
-use Rattle.served_runs.specs.Served.{Serves}
+use Rattle.life_runs.specs.Served.{Serves}
 use Rattle.slave_server.specs.Serving.{Serving, next_mail}
-use Rattle.slave_steps.specs.Node.{Node, is_settled}
+use Rattle.slave_node.specs.Node.{Node, is_settled}
 use Rattle.promised_run.specs.Stood.{nodes_through}
 
 -- NOTHING IS LEFT OF A SLAVE: its master wants nothing of it, and no mail waits; it is settled; it wasn't given up since its newest epoch began, so no mail that

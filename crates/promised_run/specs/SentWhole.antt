@@ -14,8 +14,8 @@ use Rattle.run_record.specs.of_arrayvec.ArrayVec.{ArrayVec}
 use Rattle.run_record.specs.of_packets_heard.Heard.{Times, packets_of}
 use Rattle.run_record.specs.of_packets_heard.Servings.{served_times}
 use Rattle.segment_plan.specs.declared.plan.Scenario.{Scenario}
-use Rattle.sent_packets.specs.Whole.{AllSendWhole, heard_at}
-use Rattle.served_runs.specs.Served.{Serves}
+use Rattle.run_promises.specs.Whole.{AllSendWhole, heard_at}
+use Rattle.life_runs.specs.Served.{Serves}
 
 -- BEHIND THESE FRAMES each epoch of each slave sent whole packets, by what the slave carried out of it: of these the first came in of the mails that were heard in
 -- its rows, each whole, and no fragment was dropped; and the mails accepted each time that the slave was open are those of its epochs, in order

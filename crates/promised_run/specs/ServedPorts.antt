@@ -14,10 +14,10 @@ use Rattle.run_book.specs.of_master_node.Shows.{is_live_lead}
 use Rattle.run_book.specs.of_master_tour.Goes.{holds_at}
 use Rattle.run_record.specs.Served.{ServeTo}
 use Rattle.run_record.specs.of_packets_heard.Servings.{served_completed, served_packets, served_times}
-use Rattle.script_runs.specs.of_state_exchange.Stated.{Service}
-use Rattle.script_runs.specs.of_task_model.Accounts.{Started}
+use Rattle.run_frames.specs.of_state_model.Stated.{Service}
+use Rattle.run_frames.specs.of_state_model.Accounts.{Started}
 use Rattle.segment_plan.specs.declared.plan.Scenario.{Scenario}
-use Rattle.served_runs.specs.Served.{Serves}
+use Rattle.life_runs.specs.Served.{Serves}
 
 -- a mail that is passed on
 abbrev pub is_mail : Service Asked → Bool

@@ -16,14 +16,14 @@ use Rattle.run_book.specs.declared.book.SlaveBook.{SlaveBook}
 use Rattle.run_promises.specs.Slaves.{services_of}
 use Rattle.run_record.specs.Led.{exchanged}
 use Rattle.run_record.specs.of_run_notes.Reports.{noted_in}
-use Rattle.script_runs.specs.Answers.{Noted, next_opened, opened_anew}
+use Rattle.run_frames.specs.ScriptAnswers.{Noted, next_opened, opened_anew}
 use Rattle.segment_model.specs.Record.{Frame, heard}
 use Rattle.segment_model.specs.Seats.{rows_of}
 use Rattle.segment_plan.specs.declared.plan.Scenario.{Scenario}
 use Rattle.segment_plan.specs.declared.slave.SlaveSpec.{SlaveSpec}
 use Rattle.segment_plan.specs.of_exchange_model.Exchange.{Speech}
 use Rattle.served_rings.specs.ToldEras.{next_cleared}
-use Rattle.served_runs.specs.Served.{Serves}
+use Rattle.life_runs.specs.Served.{Serves}
 
 module _ (x : Speech Body Asked Reply) (spot : Spot) (fs : List (Frame Body)) where
   -- OF AN EPOCH from the frame that opened it to another, with the frame that opened its slave anew behind it: each service of the script that came into hand of it

@@ -4,9 +4,9 @@ use Rattle.run_book.specs.declared.book.SentFrame.{SentFrame}
 use Rattle.run_record.specs.Replay.{first_ring, ring_after}
 use Rattle.segment_plan.specs.declared.plan.Scenario.{Scenario}
 use Rattle.served_rings.specs.Stood.{ServeStood}
-use Rattle.served_runs.specs.Served.{Serves}
+use Rattle.life_runs.specs.Served.{Serves}
 use Rattle.slave_server.specs.Serving.{Serving}
-use Rattle.slave_steps.specs.Node.{Node}
+use Rattle.slave_node.specs.Node.{Node}
 
 -- the nodes of that ring behind each number of these frames
 abbrev pub nodes_through : Scenario → List SentFrame → ℕ → List (Node Serving)

@@ -1,6 +1,6 @@
 -- WHAT A SERVING PROMISES OF ITS SLAVES, at each moment of it.
 use Rattle.std.specs.Prelude.{◌≡◌, ℕ, Some, List, [], ◌∷◌, ◌++◌, length, map, All}
-use Rattle.life_frames.specs.Shares.{AllBoth}
+use Rattle.frame_view.specs.Shares.{AllBoth}
 use Rattle.life_runs.specs.First.{lens_of}
 use Rattle.life_runs.specs.Led.{gives_up_at}
 use Rattle.run_book.specs.declared.book.Book.{Book}
@@ -8,10 +8,10 @@ use Rattle.run_book.specs.declared.book.SentFrame.{SentFrame}
 use Rattle.run_record.specs.Led.{exchanged}
 use Rattle.run_record.specs.Served.{ServeTo}
 use Rattle.segment_plan.specs.declared.plan.Scenario.{Scenario}
-use Rattle.served_runs.specs.Came.{HasServed}
+use Rattle.life_runs.specs.Came.{HasServed}
 use Rattle.segment_model.specs.Ends.{Passing}
-use Rattle.served_runs.specs.Served.{Serves, ServedTurn, IsServedFrame, TellsSo, served_behind}
-use Rattle.served_runs.specs.Told.{Passed, TellsOwn}
+use Rattle.life_runs.specs.Served.{Serves, ServedTurn, IsServedFrame, TellsSo, served_behind}
+use Rattle.life_runs.specs.Told.{Passed, TellsOwn}
 use Rattle.promised_run.specs.Stood.{StoodBehind}
 
 -- BEHIND THESE FRAMES, of each slave as its master leads it: the slave of the ring that replays them has carried out, epoch by epoch, just the first of the rows

@@ -14,7 +14,7 @@ use Rattle.segment_plan.specs.Bound.{slowest}
 use Rattle.segment_plan.specs.declared.plan.Scenario.{Scenario}
 use Rattle.run_record.specs.of_served_places.Answered.{ServedAsks}
 use Rattle.run_record.specs.of_served_places.Toured.{IsServedToured}
-use Rattle.served_runs.specs.Served.{Serves, all_serve}
+use Rattle.life_runs.specs.Served.{Serves, all_serve}
 
 -- how far the serving has come, and its slaves with the clocks of their processors: its frames are visits of one tour, which stands where the master's does,
 -- and ask by the inward half first

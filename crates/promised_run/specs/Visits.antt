@@ -2,7 +2,7 @@
 use Rattle.std.specs.Prelude.{◌-◌, ℕ, nat_le, if◌then◌else◌, List, [], ◌∷◌, length, map, drop, ⊤}
 use Rattle.gateway_run.specs.Served.{HasAccount}
 use Rattle.life_runs.specs.of_frame_view.Seen.{seen}
-use Rattle.script_runs.specs.of_life_model.Tours.{Member, round}
+use Rattle.run_frames.specs.of_life_model.Tours.{Member, round}
 use Rattle.life_runs.specs.First.{lens_of, first_leads}
 use Rattle.life_runs.specs.Led.{Exchanged, Leads}
 use Rattle.run_record.specs.of_packets_heard.Served.{IsTourServed}
@@ -13,14 +13,14 @@ use Rattle.run_book.specs.of_master_node.Shows.{is_live_lead}
 use Rattle.run_book.specs.of_master_node.Wants.{gave_of}
 use Rattle.run_book.specs.of_master_tour.Sizes.{frame_size}
 use Rattle.run_book.specs.of_master_tour.Toured.{Tour}
-use Rattle.script_runs.specs.of_segment_model.Visits
-use Rattle.script_runs.specs.of_segment_model.Visits.{Stop, carried}
+use Rattle.run_frames.specs.of_segment_model.Visits
+use Rattle.run_frames.specs.of_segment_model.Visits.{Stop, carried}
 use Rattle.segment_plan.specs.declared.plan.Scenario.{Scenario}
 use Rattle.segment_plan.specs.declared.slave.SlaveSpec.{SlaveSpec}
 use Rattle.run_record.specs.ServedLed.{ServedTouredTo}
 use Rattle.run_record.specs.of_packets_heard.Toured.{IsToured, stations_of}
 use Rattle.run_record.specs.of_packets_heard.Visits.{last_station}
-use Rattle.served_runs.specs.Served.{Serves}
+use Rattle.life_runs.specs.Served.{Serves}
 
 -- a slave of a plan as a stop of its tour
 abbrev pub stop_of : SlaveSpec → Stop

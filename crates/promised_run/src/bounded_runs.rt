@@ -25,7 +25,7 @@ pub fn bounded_law()
         IsPlanRun plan (map exchanged book.frames) led.missed led.leads p cs → ending ≢ endings.NoMemory → length book.frames < bound_of plan 0 }
 {
     run_work::run_bound();
-    sent_packets::switched_runs::switched_run_law();
+    run_promises::switched_runs::switched_run_law();
 }
 
 /// SO ARE THOSE OF EACH RUN of a plan, whatever frames are lost, where each of its services has room: its master makes no visit in vain by what it remembers, and

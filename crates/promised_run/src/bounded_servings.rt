@@ -22,10 +22,10 @@ ghost use Rattle.segment_plan.specs.Bound.{bound_of, slowest};
 ghost use Rattle.segment_plan.specs.Sound.{IsPlan};
 ghost use Rattle.segment_plan.specs.declared.plan.Scenario.{Scenario};
 ghost use Rattle.served_rings.specs.Servings.{IsPlanServing};
-ghost use Rattle.sent_packets.specs.Quiet.{AsksQuiet};
+ghost use Rattle.run_promises.specs.Quiet.{AsksQuiet};
 ghost use Rattle.run_record.specs.of_served_places.Answered.{ServedAsks};
 ghost use Rattle.run_record.specs.of_served_places.Toured.{IsServedToured};
-ghost use Rattle.served_runs.specs.Served.{IsServedLed, Serves, all_serve};
+ghost use Rattle.life_runs.specs.Served.{IsServedLed, Serves, all_serve};
 ghost use Rattle.seen_slaves.specs.Eager.{ServedEagerIn};
 ghost use Rattle.std.specs.Prelude.{◌≡◌, ◌<◌, ◌≤◌, ◌+◌, ◌*◌, ◌++◌, ℕ, All, List, Option, length};
 
@@ -43,5 +43,5 @@ pub fn bounded_serving_law()
     seen_slaves::served_waits::served_waits_law();
     seen_slaves::served_waits::served_answers_law();
     served_rings::served_bound::served_bound();
-    sent_packets::switched_servings::switched_serving_law();
+    run_promises::switched_servings::switched_serving_law();
 }

@@ -15,7 +15,7 @@ ghost use Rattle.plan_ring.specs.PlanRooms.{HasRoom};
 ghost use Rattle.plan_ring.specs.Round.{AllRound, ring_of};
 ghost use Rattle.segment_plan.specs.Sound.{IsPlan};
 ghost use Rattle.segment_plan.specs.declared.plan.Scenario.{Scenario};
-ghost use Rattle.served_runs.specs.Served.{Serves, all_serve};
+ghost use Rattle.life_runs.specs.Served.{Serves, all_serve};
 ghost use Rattle.std.specs.Prelude.{◌≡◌, ◌++◌, ℕ, List};
 
 /// THE FRAMES OF A MASTER'S SERVING COUNT, where frame by frame the master makes no visit in vain by what it remembers: of those that gained nothing, with nothing to

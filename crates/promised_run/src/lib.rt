@@ -25,12 +25,12 @@ use plan_ring::plan_dues::plan_due_law;
 use plan_ring::plan_rooms::room_law;
 use run_book::{Book, Ending};
 use run_promises::{read_promise_law, rest_promise_law};
-use script_runs::script_run_law;
+use run_frames::script_runs::script_run_law;
 use segment_plan::Scenario;
-use sent_packets::accepted_mails::accepted_law;
-use sent_packets::whole_packets::whole_packets_law;
+use run_promises::accepted_mails::accepted_law;
+use run_promises::whole_packets::whole_packets_law;
 use served_rings::served_replies::served_replies_law;
-use served_runs::run_served_law;
+use life_runs::served_runs::run_served_law;
 use std::alloc::Global;
 
 /// Runs a plan that was read, as `run_record` does. Whatever frames are lost, each slave begins just the first services of its script, each once and

@@ -12,7 +12,7 @@ ghost use Rattle.run_work.specs.Fair.{AreFairGrams, AsksFair};
 ghost use Rattle.run_work.specs.ServedGained.{asked_in};
 ghost use Rattle.segment_plan.specs.Sound.{IsPlan};
 ghost use Rattle.segment_plan.specs.declared.plan.Scenario.{Scenario};
-ghost use Rattle.sent_packets.specs.Quiet.{AsksQuiet};
+ghost use Rattle.run_promises.specs.Quiet.{AsksQuiet};
 ghost use Rattle.promised_run.specs.TouredTours.{IsCounted};
 
 /// NO MORE MAILS WERE ASKED than datagrams were heard; and each of them begins no download to 2F01:01 where no datagram's mail does.

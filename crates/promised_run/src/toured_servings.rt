@@ -7,7 +7,7 @@ ghost use Rattle.run_book.specs.of_master_node.of_master_tour.Toured.{Tour};
 ghost use Rattle.run_record.specs.of_packets_heard.Served.{IsTourServed};
 ghost use Rattle.segment_plan.specs.Sound.{IsPlan};
 ghost use Rattle.segment_plan.specs.declared.plan.Scenario.{Scenario};
-ghost use Rattle.served_runs.specs.Served.{Serves, all_serve};
+ghost use Rattle.life_runs.specs.Served.{Serves, all_serve};
 ghost use Rattle.std.specs.Prelude.{List};
 ghost use Rattle.promised_run.specs.TouredTours.{IsCounted};
 

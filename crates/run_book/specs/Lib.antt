@@ -7,6 +7,7 @@ pub use Rattle.master_node.specs.of_master_tour as of_master_tour
 pub use Rattle.master_node.specs.of_segment_model as of_segment_model
 pub use Rattle.segment_ring.specs as of_segment_ring
 pub use Rattle.slave_server.specs as of_slave_server
-pub use Rattle.slave_node.specs.of_slave_steps as of_slave_steps
+pub use Rattle.slave_node.specs as of_slave_node
 pub mod Book
 pub mod Ports
+pub mod Heard

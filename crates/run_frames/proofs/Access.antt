@@ -8,12 +8,12 @@ use Rattle.link_model.specs.Frames.{halves_without}
 use Rattle.segment_model.specs.Record.{News}
 use Rattle.segment_model.specs.Slaves.{Datagram, grams}
 use Rattle.segment_model.specs.Seats.{Side, side_begins, side_holds, is_over}
-use Rattle.task_model.specs.Accounts.{Pick}
+use Rattle.state_model.specs.Accounts.{Pick}
 use Rattle.life_model.specs.Own.{own}
 use Rattle.life_model.specs.Lives.{Stand, Life, Spot, life_next, life_lost, gives_up, reopening}
-use Rattle.life_measure.specs.Tally.{broken}
-use Rattle.life_measure.proofs.Halving.{without}
-use Rattle.life_measure.specs.Repairs.{Way, way_of, stand_way, half_way, whole_way, StandsAt}
+use Rattle.life_model.specs.Tally.{broken}
+use Rattle.life_model.proofs.Halving.{without}
+use Rattle.life_model.specs.Repairs.{Way, way_of, stand_way, half_way, whole_way, StandsAt}
 use Rattle.run_frames.specs.Goes.{is_same}
 
 -- the same access is in hand

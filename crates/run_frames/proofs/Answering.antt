@@ -6,9 +6,9 @@ use Rattle.datagrams.specs.declared.command.Command.TheVariants.{Fprd, Fpwr}
 use Rattle.datagrams.specs.Datagram as Raw
 use Rattle.frame_view.specs.Seen.{datagrams_seen}
 use Rattle.frame_view.specs.View.{Lens, datagram_seen, address_of, station_of}
-use Rattle.life_runs.specs.of_life_frames.Frames.{FrameFor, HasOne, GramFor, IsOpenGram}
-use Rattle.life_runs.specs.of_life_frames.Shares.{Asked, came_at, came_of}
-use Rattle.life_runs.proofs.of_life_frames.Frames.{own_none, own_one}
+use Rattle.life_runs.specs.of_frame_view.Frames.{FrameFor, HasOne, GramFor, IsOpenGram}
+use Rattle.life_runs.specs.of_frame_view.Shares.{Asked, came_at, came_of}
+use Rattle.life_runs.proofs.of_frame_view.Frames.{own_none, own_one}
 use Rattle.life_model.specs.Lives.{Stand}
 use Rattle.life_model.specs.Own.{own}
 use Rattle.life_model.specs.Tours.{item_at}

@@ -8,10 +8,10 @@ use Rattle.link_model.specs.Mails.{differs}
 use Rattle.link_model.specs.Master.{InState}
 use Rattle.segment_model.specs.Record.{News}
 use Rattle.segment_model.specs.Slaves.{Datagram, Found, grams}
-use Rattle.task_model.specs.Accounts.{Duty, Stage}
+use Rattle.state_model.specs.Accounts.{Duty, Stage}
 use Rattle.life_model.specs.Lives.{Era, Life, Stand, Spot, Opening, life_back, era_back, opening_back, clears, opens, steps_on, is_shown, reopens, reopens_at, reopening, returns_to_init, opens_state}
 use Rattle.life_model.specs.Own.{own}
-use Rattle.life_measure.specs.Repairs.{Way, way_of, half_way, opening_rest, whole_way, IsAt, IsDone, IsAnswered, GoesOn, awaits_at, awaited}
+use Rattle.life_model.specs.Repairs.{Way, way_of, half_way, opening_rest, whole_way, IsAt, IsDone, IsAnswered, GoesOn, awaits_at, awaited}
 use Rattle.run_frames.specs.Brings.{AsksClear, HalfAsks, HalfBrings}
 
 -- ---- an opening

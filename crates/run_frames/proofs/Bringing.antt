@@ -4,7 +4,7 @@ use Rattle.std.specs.Prelude.{⊤, nat_lt}
 use Rattle.exchange_model.specs.Exchange.{Speech}
 use Rattle.segment_model.specs.Slaves.{Datagram}
 use Rattle.life_model.specs.Lives.{Life, Spot, Stand, Opening, life_lost, reopening}
-use Rattle.life_measure.specs.Repairs.{way_of}
+use Rattle.life_model.specs.Repairs.{way_of}
 use Rattle.run_frames.specs.Begins.{AllNew}
 use Rattle.run_frames.specs.Brings.{Brings, AllBring}
 use Rattle.run_frames.specs.Clocks.{Clocked}

@@ -6,8 +6,8 @@ use Rattle.datagrams.specs.Frame.{IsFrame, chained}
 use Rattle.frame_view.specs.Seen.{seen, datagrams_seen}
 use Rattle.frame_view.specs.View.{Lens, datagram_seen, address_of, place_of}
 use Rattle.frame_view.proofs.Octets.{seen_chained}
-use Rattle.life_runs.specs.of_life_frames.Frames.{FrameFor, AllNotFor, IsNotFor}
-use Rattle.life_runs.specs.of_life_frames.Shares.{Asked as Asks, IsNext, came_at, given_where}
+use Rattle.life_runs.specs.of_frame_view.Frames.{FrameFor, AllNotFor, IsNotFor}
+use Rattle.life_runs.specs.of_frame_view.Shares.{Asked as Asks, IsNext, came_at, given_where}
 use Rattle.life_model.specs.Lives.{Spot, Life, life_next, life_lost, life_back}
 use Rattle.life_model.specs.Own.{own}
 use Rattle.life_runs.specs.Led.{Exchanged, Leads, Turn, IsTurn, AllTurn, speech_at, is_passed, led_behind, life_behind}

@@ -1,4 +1,5 @@
 pub use Rattle.life_runs.proofs as of_life_runs
+pub use Rattle.life_model.proofs.of_state_model as of_state_model
 pub mod Access
 pub mod Answering
 mod Back
@@ -25,3 +26,15 @@ mod Waiting
 mod Walking
 pub mod Within
 mod Worked
+pub mod Anew
+pub mod Backs
+pub mod Befores
+pub mod Came
+mod Firsts
+pub mod Frames
+pub mod Lists
+pub mod Losses
+pub mod Passes
+pub mod Shared
+pub mod Sides
+pub mod Turns

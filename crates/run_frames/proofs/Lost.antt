@@ -3,8 +3,8 @@ use Rattle.std.proofs.Common.{◌≡◌, ℕ, suc, ◌<◌, ◌≤◌, ◌&&◌,
 use Rattle.exchange_model.specs.Exchange.{Speech}
 use Rattle.segment_model.specs.Slaves.{Datagram}
 use Rattle.life_model.specs.Lives.{Life, Spot, life_lost}
-use Rattle.life_measure.specs.Deadlines.{IsTimed}
-use Rattle.life_measure.specs.Repairs.{way_of, StandsAt}
+use Rattle.life_model.specs.Deadlines.{IsTimed}
+use Rattle.life_model.specs.Repairs.{way_of, StandsAt}
 use Rattle.run_frames.specs.Clocks.{Clocked, standing, alone}
 use Rattle.run_frames.specs.Goes.{Under, IsUnder, AllUnder, IsClocked, HandAt, AllClocked, NoneUnder, OneUnder, clocked_behind, is_same, given_if, lost_life, all_lost}
 use Rattle.run_frames.specs.Losses.{Stays, Loses, AllStay, OneLoses}

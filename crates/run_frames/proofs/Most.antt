@@ -3,9 +3,9 @@ use Rattle.std.proofs.Common.{ℕ, zero, suc, ◌+◌, ◌≤◌, Bool, true, fa
 use Rattle.std.specs.Prelude.{nat_le}
 use Rattle.link_model.specs.Master.{InState}
 use Rattle.life_model.specs.Lives.{Stand, Life, Opening}
-use Rattle.life_measure.specs.Deadlines.{deadline, repair}
-use Rattle.life_measure.specs.Repairs.{way_of, stand_way, half_way, opening_way, whole_way, StandsAt, IsAt}
-use Rattle.life_measure.specs.Tally.{broken}
+use Rattle.life_model.specs.Deadlines.{deadline, repair}
+use Rattle.life_model.specs.Repairs.{way_of, stand_way, half_way, opening_way, whole_way, StandsAt, IsAt}
+use Rattle.life_model.specs.Tally.{broken}
 use Rattle.run_frames.specs.Clocks.{Clocked, standing, in_round, ahead_at}
 use Rattle.run_frames.specs.Goes.{AllClocked}
 use Rattle.run_frames.proofs.Clocking.{ahead_less}

@@ -3,10 +3,10 @@ use Rattle.std.proofs.Common.{◌≡◌, ◌⊎◌, ℕ, suc, ◌≤◌, ◌==�
 use Rattle.exchange_model.specs.Exchange.{Speech}
 use Rattle.segment_model.specs.Record.{News, is_for}
 use Rattle.segment_model.specs.Slaves.{Datagram, Found}
-use Rattle.task_model.specs.Accounts.{Account, Duty, Stage, Progress, account_back, account_met, account_by, access_done}
+use Rattle.state_model.specs.Accounts.{Account, Duty, Stage, Progress, account_back, account_met, account_by, access_done}
 use Rattle.life_model.specs.Lives.{Era, Life, Stand, Spot, life_back, era_back, reopens, reopens_at, reopening, returns_to_init, opens_state}
 use Rattle.life_model.specs.Own.{own}
-use Rattle.life_measure.specs.Gains.{gains, stage_gains, progress_gains, phase_gains}
+use Rattle.life_model.specs.Gains.{gains, stage_gains, progress_gains, phase_gains}
 use Rattle.state_model.specs.States.{Phase}
 use Rattle.run_frames.specs.Clocks.{goes_to_init, duty_reopens}
 

@@ -6,13 +6,13 @@ use Rattle.link_model.specs.Master.{InState}
 use Rattle.segment_model.specs.Record.{News}
 use Rattle.segment_model.specs.Slaves.{Datagram, Found}
 use Rattle.life_model.specs.Lives.{Life, Spot, Stand, Opening, life_back}
-use Rattle.life_measure.specs.Deadlines.{Standing, deadline, deadline_of, repair, IsTimed, Mends, MendsIf, AllMend}
-use Rattle.life_measure.specs.Gains.{gains}
-use Rattle.life_measure.specs.Repairs.{Way, way_of, stand_way, opening_way}
-use Rattle.life_measure.proofs.Gaining.{next_same, back_grows, lost_same, state_gains}
-use Rattle.life_measure.proofs.Halving.{half_goes}
-use Rattle.life_measure.proofs.Mending.{nearer_end, ring_ends}
-use Rattle.life_measure.proofs.Openings.{opening_goes}
+use Rattle.life_model.specs.Deadlines.{Standing, deadline, deadline_of, repair, IsTimed, Mends, MendsIf, AllMend}
+use Rattle.life_model.specs.Gains.{gains}
+use Rattle.life_model.specs.Repairs.{Way, way_of, stand_way, opening_way}
+use Rattle.life_model.proofs.Gaining.{next_same, back_grows, lost_same, state_gains}
+use Rattle.life_model.proofs.Halving.{half_goes}
+use Rattle.life_model.proofs.Mending.{nearer_end, ring_ends}
+use Rattle.life_model.proofs.Openings.{opening_goes}
 use Rattle.run_frames.specs.Brings.{Brings, AllBring}
 use Rattle.run_frames.specs.Clocks.{Clocked, standing, alone, in_round, ahead_at, one_by_one, reopened, gains_all, reopened_all}
 use Rattle.run_frames.specs.Goes.{Under, IsUnder, AllUnder, IsClocked, AllClocked, NoneUnder, clocked_behind, back_life, all_back}

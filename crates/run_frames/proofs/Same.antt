@@ -5,11 +5,11 @@ use Rattle.exchange_model.specs.Exchange.{Speech}
 use Rattle.segment_model.specs.Record.{News}
 use Rattle.segment_model.specs.Seats.{Side}
 use Rattle.segment_model.specs.Slaves.{Datagram}
-use Rattle.state_exchange.specs.Stated.{Service}
-use Rattle.task_model.specs.Accounts.{Account, Duty, Pick, account_begins, state_begins, starts, is_free, is_acknowledged}
+use Rattle.state_model.specs.Stated.{Service}
+use Rattle.state_model.specs.Accounts.{Account, Duty, Pick, account_begins, state_begins, starts, is_free, is_acknowledged}
 use Rattle.life_model.specs.Lives.{Stand, Life, Spot, life_next, life_lost, gives_up, granted, new_life, reopening}
-use Rattle.life_measure.specs.Deadlines.{deadline}
-use Rattle.life_measure.specs.Gains.{gains}
+use Rattle.life_model.specs.Deadlines.{deadline}
+use Rattle.life_model.specs.Gains.{gains}
 use Rattle.run_frames.specs.Begins.{AllNew}
 use Rattle.run_frames.specs.Clocks.{Clocked, alone, one_by_one, duty_reopens, reopened, gains_all, reopened_all}
 use Rattle.run_frames.specs.Goes.{Under, IsUnder, AllUnder, HandAt, given_if, lost_life, all_lost}

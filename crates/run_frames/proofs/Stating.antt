@@ -5,8 +5,8 @@ use Rattle.exchange_model.specs.Exchange.{Speech}
 use Rattle.segment_model.specs.Record.{News, is_for}
 use Rattle.segment_model.specs.Seats.{Side}
 use Rattle.segment_model.specs.Slaves.{Datagram, Found}
-use Rattle.state_exchange.specs.Stated.{Service}
-use Rattle.task_model.specs.Accounts.{Account, Duty, Stage, Pick, Started, Progress, account_begins, state_begins, starts, is_free, is_acknowledged, account_back, account_met, account_by, access_done}
+use Rattle.state_model.specs.Stated.{Service}
+use Rattle.state_model.specs.Accounts.{Account, Duty, Stage, Pick, Started, Progress, account_begins, state_begins, starts, is_free, is_acknowledged, account_back, account_met, account_by, access_done}
 use Rattle.life_model.specs.Lives.{Era, Life, Stand, Spot, Opening, granted, new_life, life_next, life_back, life_lost, opening_back, shows_clear, last_step, is_shown, clears, opens, steps_on, era_back, reopens}
 use Rattle.life_model.specs.Own.{own}
 use Rattle.run_frames.specs.Begins.{AllNew}

@@ -1,7 +1,7 @@
 -- How many frames a run has.
 use Rattle.std.proofs.Common.{◌≡◌, ◌≤◌, ◌<◌, ℕ, ◌+◌, ◌*◌, Bool, List, length, subst, arith}
 use Rattle.exchange_model.specs.Exchange.{Speech}
-use Rattle.life_measure.proofs.Paying.{within}
+use Rattle.life_model.proofs.Paying.{within}
 use Rattle.life_model.specs.Lives.{Spot}
 use Rattle.life_runs.specs.First.{lens_of}
 use Rattle.life_runs.specs.Led.{Leads, speech_at, is_passed}

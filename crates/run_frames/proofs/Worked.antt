@@ -4,8 +4,8 @@ use Rattle.exchange_model.specs.Exchange.{Speech}
 use Rattle.segment_model.specs.Slaves.{Datagram, Address, Access, Found}
 use Rattle.link_model.specs.Frames.{Ask}
 use Rattle.life_model.specs.Lives.{Spot, Stand, Opening, new_life, life_next, is_shown}
-use Rattle.life_measure.specs.Repairs.{awaits_at, awaited}
-use Rattle.life_measure.specs.Tally.{new_tally, broken}
+use Rattle.life_model.specs.Repairs.{awaits_at, awaited}
+use Rattle.life_model.specs.Tally.{new_tally, broken}
 use Rattle.run_frames.specs.Clocks.{Clocked, clock_at, ahead_at, repair_of, still_behind, tally_of}
 use Rattle.run_frames.specs.Goes.{Under, all_back, all_lost, back_life, clocked_behind}
 use Rattle.run_frames.specs.Brings.{AsksClear, StandBrings}

@@ -2,8 +2,8 @@
 use Rattle.std.specs.Prelude.{◌≡◌, ◌==◌, ◌&&◌, ℕ, Bool, true, false, Option, Some, List, [], ◌∷◌, ⊤}
 use Rattle.frame_view.specs.Seen.{seen}
 use Rattle.frame_view.specs.View.{Lens}
-use Rattle.life_runs.specs.of_life_frames.Shares.{came_at}
-use Rattle.life_measure.specs.Repairs.{awaits_at, awaited}
+use Rattle.life_runs.specs.of_frame_view.Shares.{came_at}
+use Rattle.life_model.specs.Repairs.{awaits_at, awaited}
 use Rattle.life_model.specs.Lives.{Opening, Stand, is_shown}
 use Rattle.life_model.specs.Own.{own}
 use Rattle.life_runs.specs.Led.{Exchanged, Turn}

@@ -6,7 +6,7 @@ use Rattle.link_model.specs.Master.{InState}
 use Rattle.segment_model.specs.Slaves.{Datagram, Found}
 use Rattle.life_model.specs.Lives.{Opening, Stand, is_shown}
 use Rattle.life_model.specs.Own.{own}
-use Rattle.life_measure.specs.Repairs.{awaits_at, awaited}
+use Rattle.life_model.specs.Repairs.{awaits_at, awaited}
 use Rattle.run_frames.specs.Clocks.{Clocked}
 use Rattle.run_frames.specs.Goes.{Under}
 

@@ -3,11 +3,11 @@ use Rattle.std.specs.Prelude.{◌≡◌, ◌≤◌, ℕ, suc, ◌%◌, ◌==◌,
 use Rattle.exchange_model.specs.Exchange.{Speech}
 use Rattle.segment_model.specs.Record.{News}
 use Rattle.segment_model.specs.Slaves.{Datagram, Found}
-use Rattle.task_model.specs.Accounts.{Pick}
+use Rattle.state_model.specs.Accounts.{Pick}
 use Rattle.life_model.specs.Lives.{Stand, Life, Spot, life_next, life_back, life_lost, gives_up}
 use Rattle.life_model.specs.Own.{own}
-use Rattle.life_measure.specs.Gains.{gains}
-use Rattle.life_measure.specs.Repairs.{Way, way_of, StandsAt}
+use Rattle.life_model.specs.Gains.{gains}
+use Rattle.life_model.specs.Repairs.{Way, way_of, StandsAt}
 use Rattle.run_frames.specs.Clocks.{Clocked, duty_reopens}
 
 -- the same access of a repair

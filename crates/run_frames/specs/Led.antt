@@ -2,7 +2,7 @@
 use Rattle.std.specs.Prelude.{◌≡◌, ◌≤◌, ◌<◌, ℕ, suc, Bool, false, Option, None, List, [], ◌∷◌, ◌++◌, map, length, ⊤}
 use Rattle.frame_view.specs.Seen.{seen}
 use Rattle.frame_view.specs.View.{Lens}
-use Rattle.life_runs.specs.of_life_frames.Shares.{came_at}
+use Rattle.life_runs.specs.of_frame_view.Shares.{came_at}
 use Rattle.life_runs.specs.Led.{Exchanged, Leads, Turn, IsLedFrame, speech_at, is_passed, led_behind, gives_up_at, missed_behind}
 use Rattle.link_mails.specs.Body.{Body}
 use Rattle.life_runs.specs.of_master_duty.Reply.{Reply}

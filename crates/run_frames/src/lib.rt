@@ -1,6 +1,10 @@
-//! How the frames of a run count: each lost frame, each that repairs, each that gains. Definitions and laws, no running code: the functions here do
-//! nothing, and their contracts state the laws.
+//! How the frames of a run count: each lost frame, each that repairs, each that gains; and what of a script came into hand over a run. Definitions
+//! and laws, no running code: the functions here do nothing, and their contracts state the laws.
 #![tactic(auto)]
+
+pub mod script_answers;
+pub mod script_runs;
+pub mod script_work;
 
 ghost use Rattle.std.specs.Prelude.{◌≡◌, ◌≤◌, ◌<◌, ℕ, suc, ◌+◌, ◌-◌, ◌*◌, Bool, Option, List, length};
 ghost use Rattle.exchange_model.specs.Exchange.{Speech};
@@ -14,7 +18,7 @@ ghost use Rattle.life_runs.specs.of_segment_plan.Bound.{slowest};
 ghost use Rattle.life_runs.specs.of_segment_plan.Sound.{IsPlan};
 ghost use Rattle.life_runs.specs.of_segment_plan.declared.plan.Scenario.{Scenario};
 ghost use Rattle.life_model.specs.Lives.{Spot};
-ghost use Rattle.life_measure.specs.Tally.{Counts, Counted, new_tally, quiet};
+ghost use Rattle.life_model.specs.Tally.{Counts, Counted, new_tally, quiet};
 ghost use Rattle.run_frames.specs.Answers.{AllReturned};
 ghost use Rattle.run_frames.specs.Begins.{AllNew};
 ghost use Rattle.run_frames.specs.Brings.{AllBring};

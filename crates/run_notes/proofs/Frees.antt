@@ -4,16 +4,16 @@ use Rattle.master_node.specs.declared.event.Event.{Event}
 use Rattle.master_node.specs.declared.event.Origin.TheVariants.{Script, Forward, Gateway}
 use Rattle.master_node.specs.of_life_runs.Led.{Leads}
 use Rattle.master_node.specs.of_life_runs.Spans.{is_open}
-use Rattle.master_node.specs.of_master_duty.of_state_exchange.Stated.{Service}
+use Rattle.master_node.specs.of_master_duty.of_state_model.Stated.{Service}
 use Rattle.master_node.specs.of_master_hand.Spoken.{Asked}
-use Rattle.master_node.specs.of_task_model.Accounts.{Started}
+use Rattle.master_node.specs.of_state_model.Accounts.{Started}
 use Rattle.run_notes.specs.Packets.{AllBeside, AllFree, BesideAt, BesideFor, CameBeside, FreeAt, FreeFor}
 use Rattle.run_notes.specs.Reports.{AllReport, Reports, waits_of}
 use Rattle.run_notes.specs.declared.notes.Awaited.{Awaited}
 use Rattle.run_notes.specs.declared.notes.Notes.{Notes}
-use Rattle.script_runs.specs.Answers.{StandsBy}
-use Rattle.script_runs.specs.Came.{is_beside}
-use Rattle.script_runs.specs.Steps.{account_of}
+use Rattle.run_frames.specs.ScriptAnswers.{StandsBy}
+use Rattle.run_frames.specs.Came.{is_beside}
+use Rattle.run_frames.specs.Steps.{account_of}
 
 last_same : {T : Type 0} (xs ys : List T) (x y : T) → xs ++ x ∷ [] ≡ ys ++ y ∷ [] → x ≡ y
 last_same [] [] x y e = cc

@@ -1,8 +1,8 @@
 -- What is noted of emergencies, slave by slave.
 use Rattle.std.proofs.Common.{◌≡◌, ◌<◌, ◌+◌, ℕ, zero, suc, Option, Some, None, List, [], ◌∷◌, ◌++◌, length, vec_len, refl, ap, sym, ◌∙◌, subst, arith}
 use Rattle.std.specs.Prelude.{IfSome, slice_get, slice_set, slice_index_or}
-use Rattle.life_heard.proofs.Heards as Heards
-use Rattle.life_heard.specs.Heard.{AllNoted, brought_of, emergencies_of, heard_none, heard_to}
+use Rattle.run_book.proofs.Heards as Heards
+use Rattle.run_book.specs.Heard.{AllNoted, brought_of, emergencies_of, heard_none, heard_to}
 use Rattle.master_node.specs.of_life_runs.First.{leads_from}
 use Rattle.master_node.specs.of_life_runs.Led.{Turn}
 use Rattle.slave_node.specs.of_link_mails.Body.{Body}
@@ -24,7 +24,7 @@ use Rattle.segment_plan.specs.declared.slave.SlaveSpec.{SlaveSpec}
 use Rattle.segment_ring.specs.declared.wire.Fate.{Fate}
 use Rattle.segment_ring.specs.declared.wire.Fate.TheVariants.{Pass, Lost}
 use Rattle.run_book.specs.of_slave_server.declared.server.SlaveServer.{SlaveServer}
-use Rattle.slave_node.specs.of_slave_steps.Node.{Node}
+use Rattle.slave_node.specs.Node.{Node}
 
 -- BEFORE THE FIRST FRAME
 pub first_heard : (services : List (ℕ × Plan.Service)) (number place : ℕ) (ss : List SlaveSpec) → AllNoted (heard_none (leads_from services place ss)) (emergencies_noted (first_notes services number ss))

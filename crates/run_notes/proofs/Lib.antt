@@ -1,5 +1,5 @@
-pub use Rattle.life_heard.proofs as of_life_heard
-pub use Rattle.script_runs.proofs as of_script_runs
+pub use Rattle.run_book.proofs as of_run_book
+pub use Rattle.run_frames.proofs as of_run_frames
 pub mod Counted
 pub mod Epochs
 pub mod Firsts

@@ -12,7 +12,7 @@ use Rattle.run_notes.specs.Packets.{AllFree, FreeAt, FreeBy, FreeFor, NotesBesid
 use Rattle.run_notes.specs.Slaves.{slave_rows}
 use Rattle.run_notes.specs.declared.notes.Awaited.{Awaited}
 use Rattle.run_notes.specs.declared.notes.Notes.{Notes}
-use Rattle.slave_node.specs.of_slave_steps.Node.{Node}
+use Rattle.slave_node.specs.Node.{Node}
 use Rattle.run_book.specs.of_slave_server.declared.server.SlaveServer.{SlaveServer}
 
 -- where the rows of a slave stay, those of all do

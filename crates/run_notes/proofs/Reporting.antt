@@ -3,7 +3,7 @@ use Rattle.std.proofs.Common.{◌≡◌, ◌⊎◌, inl, inr, ◌<◌, ◌≤◌
 use Rattle.std.specs.Prelude.{IfSome, slice_get, slice_set, slice_index_or, nat_lt, is_some, if◌then◌else◌}
 use Rattle.std.proofs.lemmas.Bool.{ltb-true, ltb-false, lt-ltb, le-ltb}
 use Rattle.segment_plan.specs.of_exchange_model.Rows.{Row}
-use Rattle.master_node.specs.of_life_frames.Shares.{AllBoth}
+use Rattle.master_node.specs.of_frame_view.Shares.{AllBoth}
 use Rattle.master_node.specs.of_life_model.Lives.{Stand}
 use Rattle.master_node.specs.of_life_runs.Led.{Leads}
 use Rattle.run_notes.specs.Reports.{noted_in, waits_of, Reports, AllReport, KeepsReports, ReportsTo, IsBooked}
@@ -22,15 +22,15 @@ use Rattle.run_notes.specs.Slaves.{slave_rows}
 use Rattle.master_node.specs.of_life_runs.Spans.{is_leaving, is_open}
 use Rattle.run_notes.specs.Epochs.{HasEpochs}
 use Rattle.run_notes.specs.Unsent.{IsSpent}
-use Rattle.script_runs.specs.Answers.{IsNoted, Waits, now_answer}
-use Rattle.script_runs.specs.Steps.{EndedSo, TurnsSo, PassesSo, LosesSo}
+use Rattle.run_frames.specs.ScriptAnswers.{IsNoted, Waits, now_answer}
+use Rattle.run_frames.specs.Steps.{EndedSo, TurnsSo, PassesSo, LosesSo}
 use Rattle.master_node.specs.of_segment_model.Ends.{Outcome}
-use Rattle.master_node.specs.of_task_model.Accounts.{Account, Change}
+use Rattle.master_node.specs.of_state_model.Accounts.{Account, Change}
 use Rattle.run_notes.specs.declared.notes.Awaited.{Awaited}
 use Rattle.run_notes.specs.declared.notes.Notes.{Notes}
 use Rattle.run_notes.proofs.Reports.{turn_same, turn_more, pass_still, pass_waits, pass_goes, pass_replied, pass_changed, pass_some, pass_anew, lost_still, lost_given, end_noted, end_spent, end_epochs}
 use Rattle.run_book.specs.of_slave_server.declared.server.SlaveServer.{SlaveServer}
-use Rattle.slave_node.specs.of_slave_steps.Node.{Node}
+use Rattle.slave_node.specs.Node.{Node}
 
 abbrev Held : Type 0
 Held = Row Body Asked Reply

@@ -23,11 +23,11 @@ use Rattle.run_notes.specs.Unsent.{first_numbers, IsNumbered, IsSpent}
 use Rattle.run_notes.proofs.Unsent.{IsOther, sent_more, other_more, script_more}
 use Rattle.run_notes.specs.declared.notes.Awaited.{Awaited}
 use Rattle.run_notes.specs.declared.notes.Notes.{Notes}
-use Rattle.script_runs.specs.Answers.{Noted, AllNoted, IsNoted, Waits, life_scripted, newest_answer, reply_by}
-use Rattle.script_runs.specs.Steps.{EndedSo, TurnsSo, PassesSo, LosesSo, account_of, awaited, with_begun, with_reply}
+use Rattle.run_frames.specs.ScriptAnswers.{Noted, AllNoted, IsNoted, Waits, life_scripted, newest_answer, reply_by}
+use Rattle.run_frames.specs.Steps.{EndedSo, TurnsSo, PassesSo, LosesSo, account_of, awaited, with_begun, with_reply}
 use Rattle.master_node.specs.of_segment_model.Ends.{Outcome}
 use Rattle.run_book.specs.of_slave_server.declared.server.SlaveServer.{SlaveServer}
-use Rattle.slave_node.specs.of_slave_steps.Node.{Node}
+use Rattle.slave_node.specs.Node.{Node}
 
 -- ONE ANSWER MORE, which is no reply
 of_more : (o : Origin) (frame : ℕ) (reply : Option (Reply × ℕ)) (ns ms : List Noted) → noted_of o frame reply (ns ++ ms) ≡ noted_of o frame reply ns ++ ms

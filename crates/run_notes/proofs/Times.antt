@@ -23,7 +23,7 @@ use Rattle.run_notes.specs.Times.{AllBelow, Goes, IsTimed, Time, behind, between
 use Rattle.run_notes.specs.declared.notes.Awaited.{Awaited}
 use Rattle.run_notes.specs.declared.notes.Notes.{Notes}
 use Rattle.run_notes.proofs.Counted.{below_push, below_up, count_more, counted_opened, counted_push, counted_same, counted_up, gave_none, newest_answered, newest_gave, newest_given, newest_later, newest_more, newest_next, newest_push, rises_answer, rises_frames, rises_more, rises_push, rises_up, up_to_all, up_to_push}
-use Rattle.slave_node.specs.of_slave_steps.Node.{Node}
+use Rattle.slave_node.specs.Node.{Node}
 use Rattle.run_book.specs.of_slave_server.declared.server.SlaveServer.{SlaveServer}
 
 never_awaits : {P : Type 0} → true ≡ false → P

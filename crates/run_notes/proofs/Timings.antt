@@ -20,7 +20,7 @@ use Rattle.run_notes.proofs.Handings.{each_set, none_got}
 use Rattle.run_notes.proofs.Times.{time_back, time_first, time_made, time_over, time_received, time_row, time_same}
 use Rattle.segment_plan.specs.declared.service.Service.{Service}
 use Rattle.segment_plan.specs.declared.slave.SlaveSpec.{SlaveSpec}
-use Rattle.slave_node.specs.of_slave_steps.Node.{Node}
+use Rattle.slave_node.specs.Node.{Node}
 use Rattle.run_book.specs.of_slave_server.declared.server.SlaveServer.{SlaveServer}
 
 -- ---- one slave

@@ -1,6 +1,6 @@
 -- WHAT IS NOTED OF A SLAVE'S EMERGENCIES, beside the mails that its life accepted.
 use Rattle.std.specs.Prelude.{◌≡◌, ℕ, suc, List, map}
-use Rattle.life_heard.specs.Heard.{Accepted, AllNoted, brought_of, heard_on, heard_to}
+use Rattle.run_book.specs.Heard.{Accepted, AllNoted, brought_of, heard_on, heard_to}
 use Rattle.master_node.specs.of_life_runs.Led.{Turn}
 use Rattle.master_node.specs.Brought.{HasBrought}
 use Rattle.master_node.specs.declared.node.MasterNode.{MasterNode}

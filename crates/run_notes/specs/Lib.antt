@@ -1,6 +1,6 @@
-pub use Rattle.life_heard.specs as of_life_heard
+pub use Rattle.run_book.specs as of_run_book
 pub use Rattle.eoe_switch.specs as of_eoe_switch
-pub use Rattle.script_runs.specs as of_script_runs
+pub use Rattle.run_frames.specs as of_run_frames
 pub mod Notes
 pub mod Unsent
 pub mod Rising

@@ -7,17 +7,17 @@ use Rattle.master_node.specs.declared.event.Origin.TheVariants.{Script, Forward,
 use Rattle.master_node.specs.declared.node.MasterNode.{MasterNode}
 use Rattle.master_node.specs.of_life_model.Lives.{Stand}
 use Rattle.master_node.specs.of_life_runs.Led.{Leads}
-use Rattle.master_node.specs.of_master_duty.of_state_exchange.Stated.{Service}
+use Rattle.master_node.specs.of_master_duty.of_state_model.Stated.{Service}
 use Rattle.master_node.specs.of_master_hand.Spoken.{Asked}
-use Rattle.master_node.specs.of_task_model.Accounts.{Started}
+use Rattle.master_node.specs.of_state_model.Accounts.{Started}
 use Rattle.run_book.specs.declared.book.Begun.{Begun}
 use Rattle.run_book.specs.declared.book.SlaveBook.{SlaveBook}
 use Rattle.run_notes.specs.Notes.{began_where}
 use Rattle.run_notes.specs.Reports.{AllReport}
 use Rattle.run_notes.specs.declared.notes.Awaited.{Awaited}
 use Rattle.run_notes.specs.declared.notes.Notes.{Notes}
-use Rattle.script_runs.specs.Came.{is_beside}
-use Rattle.script_runs.specs.Steps.{account_of}
+use Rattle.run_frames.specs.Came.{is_beside}
+use Rattle.run_frames.specs.Steps.{account_of}
 
 -- the row of a packet: its number, and the frame before which it came into hand; others have none
 abbrev pub packet_row : Origin → ℕ → List (ℕ × ℕ)

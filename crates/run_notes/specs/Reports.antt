@@ -1,7 +1,7 @@
 -- WHAT IS NOTED OF A SLAVE'S SERVICES, beside its life.
 use Rattle.std.specs.Prelude.{◌≡◌, ◌+◌, ℕ, zero, suc, Bool, true, false, if◌then◌else◌, Option, Some, None, List, [], ◌∷◌, ◌++◌, length, ⊤}
 use Rattle.master_node.specs.of_frame_view.View.{Lens}
-use Rattle.master_node.specs.of_life_frames.Shares.{AllBoth}
+use Rattle.master_node.specs.of_frame_view.Shares.{AllBoth}
 use Rattle.master_node.specs.of_life_runs.Led.{Leads}
 use Rattle.master_node.specs.of_master_duty.Reply.{Reply}
 use Rattle.master_node.specs.Told.{HasLeads}
@@ -20,8 +20,8 @@ use Rattle.run_notes.specs.Notes.{awaits_nothing}
 use Rattle.run_notes.specs.declared.standing.Log.{Log}
 use Rattle.run_notes.specs.Epochs.{IsMarked}
 use Rattle.run_notes.specs.Unsent.{IsNumbered}
-use Rattle.script_runs.specs.Answers.{Noted, AllNoted, IsNoted, Waits, life_scripted}
-use Rattle.script_runs.specs.Steps.{TurnsSo, PassesSo, LosesSo}
+use Rattle.run_frames.specs.ScriptAnswers.{Noted, AllNoted, IsNoted, Waits, life_scripted}
+use Rattle.run_frames.specs.Steps.{TurnsSo, PassesSo, LosesSo}
 use Rattle.segment_ring.specs.declared.wire.Fate.{Fate}
 use Rattle.segment_ring.specs.declared.wire.Fate.TheVariants.{Pass, Lost}
 

@@ -4,31 +4,31 @@ use Rattle.std.proofs.lemmas.List.{length-map}
 use Rattle.plan_ring.specs.KeptFirst.{Forgets, FirstBook}
 use Rattle.plan_ring.specs.Rows.{IsFirst}
 use Rattle.plan_ring.proofs.KeptFirst.{first_book}
-use Rattle.script_runs.specs.of_eoe_model.Network.{Station}
-use Rattle.script_runs.specs.of_frame_view.View.{Lens}
-use Rattle.script_runs.specs.of_life_frames.Shares.{Lived}
-use Rattle.script_runs.specs.of_life_model.Eras.{Clearing}
-use Rattle.script_runs.specs.of_life_model.Lives.{Spot, Life, Stand}
-use Rattle.script_runs.specs.of_life_runs.First.{lens_of, spot_of}
-use Rattle.script_runs.specs.of_life_runs.Led.{Exchanged, Leads}
-use Rattle.script_runs.specs.of_link_mails.Body.{Body}
-use Rattle.script_runs.specs.of_master_duty.Reply.{Reply}
-use Rattle.script_runs.specs.of_master_hand.Spoken.{Asked, is_followed}
+use Rattle.run_frames.specs.of_protocol_models.Network.{Station}
+use Rattle.run_frames.specs.of_frame_view.View.{Lens}
+use Rattle.run_frames.specs.of_frame_view.Shares.{Lived}
+use Rattle.run_frames.specs.of_life_model.Eras.{Clearing}
+use Rattle.run_frames.specs.of_life_model.Lives.{Spot, Life, Stand}
+use Rattle.run_frames.specs.of_life_runs.First.{lens_of, spot_of}
+use Rattle.run_frames.specs.of_life_runs.Led.{Exchanged, Leads}
+use Rattle.run_frames.specs.of_link_mails.Body.{Body}
+use Rattle.run_frames.specs.of_master_duty.Reply.{Reply}
+use Rattle.run_frames.specs.of_master_hand.Spoken.{Asked, is_followed}
 use Rattle.plan_ring.specs.Master.{IsLed, AllLed, owed}
 use Rattle.plan_ring.specs.Plan.{PlanMember, FitsPlan, step, plan_of, first_app}
-use Rattle.script_runs.specs.of_segment_model.Record.{Frame}
-use Rattle.script_runs.specs.of_segment_plan.declared.plan.Scenario.{Scenario}
-use Rattle.script_runs.specs.of_segment_plan.declared.slave.SlaveSpec.{SlaveSpec}
+use Rattle.run_frames.specs.of_segment_model.Record.{Frame}
+use Rattle.run_frames.specs.of_segment_plan.declared.plan.Scenario.{Scenario}
+use Rattle.run_frames.specs.of_segment_plan.declared.slave.SlaveSpec.{SlaveSpec}
 use Rattle.plan_ring.specs.Real.{real_clearing}
 use Rattle.plan_ring.specs.of_slave_lives.Lived.{Behind, node_seen}
 use Rattle.plan_ring.specs.of_slave_lives.Opening as Opening
 use Rattle.plan_ring.specs.of_slave_parts.Parts.{Core, Server}
 use Rattle.plan_ring.specs.of_slave_server.Serving.{Serving}
-use Rattle.plan_ring.specs.of_slave_steps.Node.{Node, is_settled}
+use Rattle.plan_ring.specs.of_slave_node.Node.{Node, is_settled}
 use Rattle.plan_ring.specs.of_slave_lives.Steps.{Stands}
 use Rattle.plan_ring.specs.of_mailbox_slave.Node.{in_side}
-use Rattle.script_runs.specs.of_segment_model.Laws.{IsSettled}
-use Rattle.script_runs.specs.of_state_exchange.Families.{InState}
+use Rattle.run_frames.specs.of_segment_model.Laws.{IsSettled}
+use Rattle.run_frames.specs.of_state_model.Families.{InState}
 use Rattle.plan_ring.specs.of_whole_ring.Whole.{OwesLaws, StandsAs}
 use Rattle.plan_ring.specs.of_whole_ring.Members.{MemberIs, AllLived}
 use Rattle.plan_ring.specs.Lives.{IsShown, AllShown, AreLived}

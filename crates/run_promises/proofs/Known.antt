@@ -6,9 +6,9 @@ use Rattle.plan_ring.specs.Lives.{IsKnown, StateFits, RowFits}
 use Rattle.scenario.specs.Told.{IsTold}
 use Rattle.scenario.specs.of_scenario_services.Suited.{Suits}
 use Rattle.scenario.specs.of_scenario_services.Reading.{FitsSlave}
-use Rattle.script_runs.specs.of_segment_plan.declared.plan.Scenario.{Scenario}
-use Rattle.script_runs.specs.of_segment_plan.declared.service.Service as Plan
-use Rattle.script_runs.specs.of_segment_plan.declared.slave.SlaveSpec.{SlaveSpec}
+use Rattle.run_frames.specs.of_segment_plan.declared.plan.Scenario.{Scenario}
+use Rattle.run_frames.specs.of_segment_plan.declared.service.Service as Plan
+use Rattle.run_frames.specs.of_segment_plan.declared.slave.SlaveSpec.{SlaveSpec}
 
 -- a service that suits its slave asks for no state that the slave lacks
 state_fits : (s : SlaveSpec) (q : Plan.Service) → Suits s q → StateFits s q

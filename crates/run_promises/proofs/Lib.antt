@@ -7,3 +7,32 @@ mod Rounds
 mod Gones
 mod Slaves
 mod Rest
+pub mod Accepted
+pub mod All
+pub mod Begun
+mod Calm
+pub mod Cuts
+mod Emits
+pub mod Epochs
+mod FoeKept
+mod Folds
+pub mod Live
+mod Lives
+mod Long
+mod Outcomes
+pub mod Owns
+mod Passed
+mod Ports
+mod Seen
+mod Sendings
+mod ServedAll
+mod Speaks
+mod Started
+mod Stays
+pub mod Switched
+pub mod Times
+pub mod Tracked
+pub mod Turns
+mod Valid
+pub mod Weighed
+mod Wholes

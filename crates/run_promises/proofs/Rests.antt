@@ -2,43 +2,43 @@
 use Rattle.std.proofs.Common.{◌≡◌, ℕ, suc, true, Option, Some, None, List, [], ◌∷◌, map, length, take, filter, ap, sym, ◌∙◌, subst}
 use Rattle.std.specs.Prelude.{not}
 use Rattle.std.proofs.Math.Seq.{take-length}
-use Rattle.script_runs.specs.of_book_model.Script.{life_started}
-use Rattle.script_runs.specs.of_eoe_model.Network.{Station}
-use Rattle.script_runs.specs.of_exchange_model.Exchange.{Speech}
-use Rattle.script_runs.specs.of_exchange_model.Rows.{Row}
-use Rattle.script_runs.specs.of_frame_view.View.{Lens}
-use Rattle.script_runs.specs.of_life_frames.Shares.{Lived}
-use Rattle.script_runs.specs.of_life_model.Eras.{Clearing}
-use Rattle.script_runs.specs.of_life_model.Lives.{Spot, Life, Stand}
-use Rattle.script_runs.specs.of_life_runs.First.{lens_of, spot_of, script_for}
-use Rattle.script_runs.specs.of_life_runs.Led.{Exchanged, Leads, speech_at}
-use Rattle.script_runs.specs.of_link_mails.Body.{Body}
-use Rattle.script_runs.specs.of_master_duty.Reply.{Reply}
-use Rattle.script_runs.specs.of_master_hand.Spoken.{Asked, hand_speech, is_followed}
+use Rattle.run_frames.specs.of_life_model.Script.{life_started}
+use Rattle.run_frames.specs.of_protocol_models.Network.{Station}
+use Rattle.run_frames.specs.of_exchange_model.Exchange.{Speech}
+use Rattle.run_frames.specs.of_exchange_model.Rows.{Row}
+use Rattle.run_frames.specs.of_frame_view.View.{Lens}
+use Rattle.run_frames.specs.of_frame_view.Shares.{Lived}
+use Rattle.run_frames.specs.of_life_model.Eras.{Clearing}
+use Rattle.run_frames.specs.of_life_model.Lives.{Spot, Life, Stand}
+use Rattle.run_frames.specs.of_life_runs.First.{lens_of, spot_of, script_for}
+use Rattle.run_frames.specs.of_life_runs.Led.{Exchanged, Leads, speech_at}
+use Rattle.run_frames.specs.of_link_mails.Body.{Body}
+use Rattle.run_frames.specs.of_master_duty.Reply.{Reply}
+use Rattle.run_frames.specs.of_master_hand.Spoken.{Asked, hand_speech, is_followed}
 use Rattle.plan_ring.specs.Alike.{RowIs}
 use Rattle.plan_ring.proofs.Alike as Alike
 use Rattle.plan_ring.specs.Asked.{is_service}
 use Rattle.plan_ring.specs.Master.{speech_of, IsLed, AllLed, owed}
 use Rattle.plan_ring.specs.Plan.{PlanMember, FitsPlan, step, first_app}
-use Rattle.script_runs.specs.of_segment_model.Laws.{WantsNothing, NothingInHand}
-use Rattle.script_runs.specs.of_segment_model.Record.{Frame}
-use Rattle.script_runs.specs.of_segment_plan.declared.plan.Scenario.{Scenario}
-use Rattle.script_runs.specs.of_segment_plan.declared.slave.SlaveSpec.{SlaveSpec}
+use Rattle.run_frames.specs.of_segment_model.Laws.{WantsNothing, NothingInHand}
+use Rattle.run_frames.specs.of_segment_model.Record.{Frame}
+use Rattle.run_frames.specs.of_segment_plan.declared.plan.Scenario.{Scenario}
+use Rattle.run_frames.specs.of_segment_plan.declared.slave.SlaveSpec.{SlaveSpec}
 use Rattle.plan_ring.specs.Real.{real_clearing}
 use Rattle.plan_ring.specs.of_slave_lives.Lived.{Behind}
 use Rattle.plan_ring.specs.of_slave_parts.Parts.{Core, Server}
 use Rattle.plan_ring.specs.of_slave_server.Serving.{Serving, next_mail}
-use Rattle.plan_ring.specs.of_slave_steps.Node.{Node, is_settled}
-use Rattle.script_runs.specs.of_state_exchange.Families.{InState}
+use Rattle.plan_ring.specs.of_slave_node.Node.{Node, is_settled}
+use Rattle.run_frames.specs.of_state_model.Families.{InState}
 use Rattle.plan_ring.specs.of_whole_ring.Whole.{StandsAs, LivesOpen}
 use Rattle.plan_ring.specs.of_whole_ring.Members.{MemberIs, AllLived}
 use Rattle.plan_ring.specs.Lives.{IsShown, AllShown, AreLived}
 use Rattle.plan_ring.specs.Round.{ring_of, ring_after, all_seen}
-use Rattle.script_runs.specs.Came.{AreThose, is_packet}
+use Rattle.run_frames.specs.Came.{AreThose, is_packet}
 use Rattle.plan_ring.specs.Epochs.{AreKept, NothingLeft, app_of}
 use Rattle.run_promises.specs.Rests.{IsIdle, IsDone, AllDoneIf}
 use Rattle.run_promises.specs.Slaves.{services_of}
-use Rattle.script_runs.specs.Slaves.{HasCome, AllCome}
+use Rattle.run_frames.specs.Slaves.{HasCome, AllCome}
 use Rattle.plan_ring.proofs.Epochs.{lived_rests, past_kept}
 use Rattle.run_promises.proofs.Served.{one_served}
 

@@ -1,29 +1,29 @@
 -- THE PROMISE, slave by slave.
 use Rattle.std.proofs.Common.{◌≡◌, ℕ, suc, List, [], ◌∷◌, map, ap, sym, ◌∙◌, subst}
-use Rattle.script_runs.specs.of_frame_view.View.{Lens}
-use Rattle.script_runs.specs.of_life_frames.Shares.{Lived}
-use Rattle.script_runs.specs.of_life_model.Lives.{Life}
-use Rattle.script_runs.specs.of_life_runs.First.{lens_of, spot_of, script_for}
-use Rattle.script_runs.specs.of_life_runs.Led.{Exchanged, Leads}
-use Rattle.script_runs.specs.of_link_mails.Body.{Body}
-use Rattle.script_runs.specs.of_book_model.Script.{life_started}
-use Rattle.script_runs.specs.of_master_duty.Reply.{Reply}
-use Rattle.script_runs.specs.of_master_hand.Spoken.{Asked, is_followed}
+use Rattle.run_frames.specs.of_frame_view.View.{Lens}
+use Rattle.run_frames.specs.of_frame_view.Shares.{Lived}
+use Rattle.run_frames.specs.of_life_model.Lives.{Life}
+use Rattle.run_frames.specs.of_life_runs.First.{lens_of, spot_of, script_for}
+use Rattle.run_frames.specs.of_life_runs.Led.{Exchanged, Leads}
+use Rattle.run_frames.specs.of_link_mails.Body.{Body}
+use Rattle.run_frames.specs.of_life_model.Script.{life_started}
+use Rattle.run_frames.specs.of_master_duty.Reply.{Reply}
+use Rattle.run_frames.specs.of_master_hand.Spoken.{Asked, is_followed}
 use Rattle.plan_ring.specs.Plan.{PlanMember, FitsPlan, step, first_app}
-use Rattle.script_runs.specs.of_segment_model.Record.{Frame}
-use Rattle.script_runs.specs.of_segment_plan.declared.plan.Scenario.{Scenario}
-use Rattle.script_runs.specs.of_segment_plan.declared.slave.SlaveSpec.{SlaveSpec}
+use Rattle.run_frames.specs.of_segment_model.Record.{Frame}
+use Rattle.run_frames.specs.of_segment_plan.declared.plan.Scenario.{Scenario}
+use Rattle.run_frames.specs.of_segment_plan.declared.slave.SlaveSpec.{SlaveSpec}
 use Rattle.plan_ring.specs.Real.{real_clearing}
 use Rattle.plan_ring.specs.of_slave_server.Serving.{Serving}
-use Rattle.plan_ring.specs.of_slave_steps.Node.{Node}
+use Rattle.plan_ring.specs.of_slave_node.Node.{Node}
 use Rattle.plan_ring.specs.of_whole_ring.Members.{MemberIs, AllLived}
 use Rattle.plan_ring.specs.Lives.{IsShown, AllShown, AreLived}
 use Rattle.plan_ring.specs.Master.{IsLed, AllLed, owed}
 use Rattle.plan_ring.specs.Round.{ring_of, ring_after, all_seen}
-use Rattle.script_runs.specs.Came.{Came, AreFirst}
+use Rattle.run_frames.specs.Came.{Came, AreFirst}
 use Rattle.plan_ring.specs.Epochs.{IsKeptLife}
 use Rattle.run_promises.specs.Slaves.{services_of, IsServed, AllServed}
-use Rattle.script_runs.specs.Slaves.{HasCome, AllCome}
+use Rattle.run_frames.specs.Slaves.{HasCome, AllCome}
 use Rattle.plan_ring.proofs.Epochs.{kept_life}
 
 module _ (plan : Scenario) (fs : List Exchanged) where

@@ -1,22 +1,22 @@
 -- WHAT A MACHINE BUILDER MAY RELY ON of each slave of a plan, behind the frames of a run, whatever frames are lost.
 use Rattle.std.specs.Prelude.{◌≡◌, ℕ, suc, true, List, [], ◌∷◌, ⊤}
-use Rattle.script_runs.specs.of_book_model.Script.{life_started}
+use Rattle.run_frames.specs.of_life_model.Script.{life_started}
 use Rattle.plan_ring.specs.Epochs.{IsKeptLife}
-use Rattle.script_runs.specs.of_life_model.Lives.{Stand}
-use Rattle.script_runs.specs.of_life_runs.First.{lens_of, spot_of, script_for}
-use Rattle.script_runs.specs.of_life_runs.Led.{Exchanged, Leads}
-use Rattle.script_runs.specs.of_master_hand.Spoken.{is_followed}
+use Rattle.run_frames.specs.of_life_model.Lives.{Stand}
+use Rattle.run_frames.specs.of_life_runs.First.{lens_of, spot_of, script_for}
+use Rattle.run_frames.specs.of_life_runs.Led.{Exchanged, Leads}
+use Rattle.run_frames.specs.of_master_hand.Spoken.{is_followed}
 use Rattle.plan_ring.specs.Plan.{first_app}
 use Rattle.plan_ring.specs.Round.{ring_of, ring_after, all_seen}
 use Rattle.run_promises.specs.Books.{StaysUp, HasBook}
 use Rattle.run_promises.specs.Rests.{IsIdle, IsDone}
 use Rattle.run_promises.specs.Slaves.{services_of}
-use Rattle.script_runs.specs.Came.{Came, AreFirst}
-use Rattle.script_runs.specs.of_segment_plan.declared.plan.Scenario.{Scenario}
-use Rattle.script_runs.specs.of_segment_plan.declared.slave.SlaveSpec.{SlaveSpec}
+use Rattle.run_frames.specs.Came.{Came, AreFirst}
+use Rattle.run_frames.specs.of_segment_plan.declared.plan.Scenario.{Scenario}
+use Rattle.run_frames.specs.of_segment_plan.declared.slave.SlaveSpec.{SlaveSpec}
 use Rattle.plan_ring.specs.Real.{real_clearing}
 use Rattle.plan_ring.specs.of_slave_server.Serving.{Serving, next_mail}
-use Rattle.plan_ring.specs.of_slave_steps.Node.{Node, is_settled}
+use Rattle.plan_ring.specs.of_slave_node.Node.{Node, is_settled}
 
 -- the slaves behind frames: those of the ring that replays these very frames, octet for octet, from the plan's new slaves on
 abbrev pub slaves_behind : Scenario → List Exchanged → List (Node Serving)

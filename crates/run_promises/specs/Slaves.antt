@@ -1,25 +1,25 @@
 -- WHAT A MACHINE BUILDER MAY RELY ON of each slave of a plan, behind any frames of a run: which of its services came into hand, and what its
 -- application has carried out of them.
 use Rattle.std.specs.Prelude.{ℕ, suc, List, [], ◌∷◌, ⊤}
-use Rattle.script_runs.specs.of_book_model.Script.{life_started}
-use Rattle.script_runs.specs.of_eoe_model.Network.{Station}
-use Rattle.script_runs.specs.of_life_runs.First.{lens_of, spot_of, script_for}
-use Rattle.script_runs.specs.of_life_runs.Led.{Exchanged, Leads}
-use Rattle.script_runs.specs.of_master_duty.Reply.{Reply}
-use Rattle.script_runs.specs.of_master_hand.Spoken.{Asked, is_followed}
+use Rattle.run_frames.specs.of_life_model.Script.{life_started}
+use Rattle.run_frames.specs.of_protocol_models.Network.{Station}
+use Rattle.run_frames.specs.of_life_runs.First.{lens_of, spot_of, script_for}
+use Rattle.run_frames.specs.of_life_runs.Led.{Exchanged, Leads}
+use Rattle.run_frames.specs.of_master_duty.Reply.{Reply}
+use Rattle.run_frames.specs.of_master_hand.Spoken.{Asked, is_followed}
 use Rattle.plan_ring.specs.Asked.{asked}
 use Rattle.plan_ring.specs.Plan.{first_app}
-use Rattle.script_runs.specs.of_segment_plan.declared.plan.Scenario.{Scenario}
-use Rattle.script_runs.specs.of_segment_plan.declared.slave.SlaveSpec.{SlaveSpec}
+use Rattle.run_frames.specs.of_segment_plan.declared.plan.Scenario.{Scenario}
+use Rattle.run_frames.specs.of_segment_plan.declared.slave.SlaveSpec.{SlaveSpec}
 use Rattle.plan_ring.specs.Real.{real_clearing}
 use Rattle.plan_ring.specs.of_slave_lives.Lived.{Behind}
 use Rattle.plan_ring.specs.of_slave_parts.Parts.{Core, Server}
 use Rattle.plan_ring.specs.of_slave_server.Serving.{Serving}
 use Rattle.plan_ring.specs.of_slave_server.Spec.{profile_of}
-use Rattle.plan_ring.specs.of_slave_steps.Node.{Node}
-use Rattle.script_runs.specs.of_state_exchange.Families.{InState}
+use Rattle.plan_ring.specs.of_slave_node.Node.{Node}
+use Rattle.run_frames.specs.of_state_model.Families.{InState}
 use Rattle.plan_ring.specs.Round.{all_seen}
-use Rattle.script_runs.specs.Came.{Came, AreFirst}
+use Rattle.run_frames.specs.Came.{Came, AreFirst}
 use Rattle.plan_ring.specs.Epochs.{IsKeptLife}
 
 -- the services of a plan's slave, as its master asks for them

@@ -1,12 +1,20 @@
-//! What a run of a plan's ring promises of each slave, and of each where the plan was read. No running code: each function here does nothing, and its
-//! contract states a law.
+//! What a run of a plan's ring promises of each slave, and of each where the plan was read; and that the packets which its master joins are of the
+//! services that came into hand. No running code: each function here does nothing, and its contract states a law.
 #![tactic(auto)]
 
+pub mod accepted_mails;
+pub mod sent_packets;
+pub mod served_packets;
+pub mod slave_sends;
+pub mod switched_runs;
+pub mod switched_servings;
+pub mod whole_packets;
+
 ghost use Rattle.std.specs.Prelude.{ℕ, List, ◌++◌};
-ghost use Rattle.script_runs.specs.of_life_runs.First.{lens_of, first_leads};
-ghost use Rattle.script_runs.specs.of_life_runs.Led.{Exchanged, Leads, IsLed};
-ghost use Rattle.script_runs.specs.of_segment_plan.Sound.{IsPlan};
-ghost use Rattle.script_runs.specs.of_segment_plan.declared.plan.Scenario.{Scenario};
+ghost use Rattle.run_frames.specs.of_life_runs.First.{lens_of, first_leads};
+ghost use Rattle.run_frames.specs.of_life_runs.Led.{Exchanged, Leads, IsLed};
+ghost use Rattle.run_frames.specs.of_segment_plan.Sound.{IsPlan};
+ghost use Rattle.run_frames.specs.of_segment_plan.declared.plan.Scenario.{Scenario};
 ghost use Rattle.plan_ring.specs.Lives.{IsKnown};
 ghost use Rattle.plan_ring.specs.Round.{ring_of, AllRound, ring_after};
 ghost use Rattle.run_promises.specs.Books.{AllHaveBooks};
@@ -24,7 +32,7 @@ pub fn run_promise_law()
         IsLed (lens_of plan.slaves) plan.recover plan.retry (first_leads plan) fs missed as' → AllRound (ring_of plan) fs → AllServed plan fs 0 plan.slaves as' (ring_after (ring_of plan) fs).nodes }
 {
     plan_ring::run_lives_law();
-    script_runs::script_run_law();
+    run_frames::script_runs::script_run_law();
 }
 
 /// THE BOOK OF EACH SLAVE THAT STAYS UP: of one that is open, was never given up and never returned to Init, what a book tells of its rows fits its
@@ -43,7 +51,7 @@ pub fn run_done_law()
         IsLed (lens_of plan.slaves) plan.recover plan.retry (first_leads plan) fs missed as' → AllRound (ring_of plan) fs → AllDoneIf plan fs 0 plan.slaves as' (ring_after (ring_of plan) fs).nodes }
 {
     plan_ring::run_lives_law();
-    script_runs::script_run_law();
+    run_frames::script_runs::script_run_law();
 }
 
 /// THE PROMISE FOR A PLAN THAT WAS READ, whatever frames are lost: behind frames that its master led, with or without others behind them, that went

@@ -10,7 +10,7 @@ use Rattle.master_node.specs.of_master_duty.Reply.{Reply}
 use Rattle.master_node.specs.of_master_hand.Spoken.{Asked}
 use Rattle.segment_plan.specs.declared.service.Service as Plan
 use Rattle.segment_plan.specs.declared.slave.SlaveSpec.{SlaveSpec}
-use Rattle.run_notes.specs.of_script_runs.Steps.{OpenedBefore, IsBefore}
+use Rattle.run_notes.specs.of_run_frames.Steps.{OpenedBefore, IsBefore}
 
 abbrev pub AllBefore : ℕ → List Leads → Type 0
 AllBefore made [] = ⊤

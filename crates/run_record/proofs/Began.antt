@@ -11,16 +11,16 @@ use Rattle.master_node.specs.declared.event.Event.{Event}
 use Rattle.master_node.specs.declared.event.Origin.{Origin}
 use Rattle.master_node.specs.declared.node.MasterNode.{MasterNode}
 use Rattle.master_node.specs.of_frame_view.View.{Lens}
-use Rattle.master_node.specs.of_life_frames.Shares.{AllBoth}
+use Rattle.master_node.specs.of_frame_view.Shares.{AllBoth}
 use Rattle.master_node.specs.of_life_model.Lives.{Life}
 use Rattle.master_node.specs.of_life_runs.Led.{Leads, Took, Turn, speech_at}
 use Rattle.master_node.specs.of_master_duty.Reply.{Reply}
-use Rattle.master_node.specs.of_master_duty.of_state_exchange.Stated.{Service}
+use Rattle.master_node.specs.of_master_duty.of_state_model.Stated.{Service}
 use Rattle.master_node.specs.of_master_hand.Spoken.{Asked, sdo, file, drive, net, passed}
-use Rattle.master_node.specs.of_master_hand.of_eoe_model.Client as EoeClient
+use Rattle.master_node.specs.of_master_hand.of_protocol_models.EoeClient as EoeClient
 use Rattle.master_node.specs.of_master_tour.Made.{is_in}
 use Rattle.master_node.specs.of_master_tour.Orders.{AreOnce}
-use Rattle.master_node.specs.of_task_model.Accounts.{starts}
+use Rattle.master_node.specs.of_state_model.Accounts.{starts}
 use Rattle.packets_heard.specs.Numbers.{each_with}
 use Rattle.packets_heard.specs.Over.{packet_begun}
 use Rattle.run_record.specs.Forwarded.{PacketsNoted}
@@ -30,10 +30,10 @@ use Rattle.run_notes.specs.Reports.{AllReport}
 use Rattle.run_notes.specs.Slaves.{first_notes}
 use Rattle.run_notes.specs.declared.notes.Notes.{Notes}
 use Rattle.run_notes.proofs.Packets.{mails_among, packets_among, rows_append, with_append}
-use Rattle.run_notes.specs.of_script_runs.Answers.{turned}
-use Rattle.run_notes.specs.of_script_runs.Came.{is_beside}
-use Rattle.run_notes.specs.of_script_runs.Steps.{TurnsBy}
-use Rattle.run_notes.proofs.of_script_runs.Turns.{life_mails}
+use Rattle.run_notes.specs.of_run_frames.ScriptAnswers.{turned}
+use Rattle.run_notes.specs.of_run_frames.Came.{is_beside}
+use Rattle.run_notes.specs.of_run_frames.Steps.{TurnsBy}
+use Rattle.run_notes.proofs.of_run_frames.Turns.{life_mails}
 use Rattle.segment_plan.specs.declared.plan.Scenario.{Scenario}
 use Rattle.segment_plan.specs.declared.service.Service as Plan
 use Rattle.segment_plan.specs.declared.slave.SlaveSpec.{SlaveSpec}

@@ -5,7 +5,7 @@ use Rattle.std.proofs.lemmas.Bool.{ltb-false}
 use Rattle.std.proofs.lemmas.List.Elements.{All-head, All-tail}
 use Rattle.std.proofs.lemmas.Option.{slice_get_past}
 use Rattle.master_node.specs.of_frame_view.View.{Lens}
-use Rattle.master_node.specs.of_life_frames.Shares.{AllBoth}
+use Rattle.master_node.specs.of_frame_view.Shares.{AllBoth}
 use Rattle.master_node.specs.of_life_model.Lives.{Stand}
 use Rattle.master_node.specs.of_life_runs.Led.{Leads}
 use Rattle.master_node.specs.Shows.{lived_of}
@@ -21,10 +21,10 @@ use Rattle.run_notes.specs.Slaves.{gaves_noted, gaves_in, slave_row, slave_rows}
 use Rattle.run_record.specs.Session.{is_at_rest, are_at_rest, some_given_up, has_live}
 use Rattle.run_record.proofs.Heads.{heads, not_none, rests}
 use Rattle.run_record.proofs.Gones.{AllGone, all_gone, first_false, second_false}
-use Rattle.master_node.specs.of_served_runs.Served.{Serves}
+use Rattle.master_node.specs.of_life_runs.Served.{Serves}
 use Rattle.slave_server.specs.Serving.{next_mail}
 use Rattle.slave_server.specs.declared.server.SlaveServer.{SlaveServer}
-use Rattle.slave_node.specs.of_slave_steps.Node.{Node, is_settled}
+use Rattle.slave_node.specs.Node.{Node, is_settled}
 
 both_true : (a b : Bool) → (a && b) ≡ true → (a ≡ true) × (b ≡ true)
 both_true true b e = (refl, e)

@@ -18,7 +18,7 @@ use Rattle.segment_plan.specs.declared.slave.SlaveSpec.{SlaveSpec}
 use Rattle.served_places.proofs.Places.{stay}
 use Rattle.served_places.proofs.Waits.{wait_few}
 use Rattle.served_places.specs.Places.{MayWait, spot_at}
-use Rattle.master_node.specs.of_served_runs.Served.{Serves, all_serve}
+use Rattle.master_node.specs.of_life_runs.Served.{Serves, all_serve}
 
 -- the places of a plan's slaves
 abbrev spots_from : ℕ → List SlaveSpec → List Spot

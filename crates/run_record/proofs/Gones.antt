@@ -3,7 +3,7 @@ use Rattle.std.proofs.Common.{◌≡◌, refl, ℕ, Bool, true, false, List, [],
 use Rattle.std.specs.Prelude.{◌||◌, ⊤}
 use Rattle.std.specs.List.{list_any}
 use Rattle.master_node.specs.of_frame_view.View.{Lens}
-use Rattle.master_node.specs.of_life_frames.Shares.{AllBoth}
+use Rattle.master_node.specs.of_frame_view.Shares.{AllBoth}
 use Rattle.master_node.specs.of_life_model.Lives
 use Rattle.master_node.specs.of_life_model.Lives.{Spot, Life}
 use Rattle.master_node.specs.of_life_runs.Led.{Leads}
@@ -18,7 +18,7 @@ use Rattle.master_node.specs.of_master_tour.Stands.{StandShows}
 use Rattle.master_node.specs.of_master_tour.declared.stop.Stand.{Stand}
 use Rattle.master_node.specs.of_master_tour.declared.stop.Stop.{Stop}
 use Rattle.master_node.specs.of_segment_model.Seats.{Side}
-use Rattle.master_node.specs.of_task_model.Accounts.{Account}
+use Rattle.master_node.specs.of_state_model.Accounts.{Account}
 
 -- each was given up for good
 abbrev pub AllGone : List Leads → Type 0

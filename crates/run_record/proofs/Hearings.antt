@@ -1,7 +1,7 @@
 -- What is noted of emergencies over a frame, of a run or a serving, is what the lives of its slaves accept by it.
 use Rattle.std.proofs.Common.{◌≡◌, ◌∙◌, ℕ, List, refl, subst}
-use Rattle.run_notes.proofs.of_life_heard.Heards.{loses}
-use Rattle.run_notes.specs.of_life_heard.Heard.{Accepted, AllNoted, brought_by, heard_on}
+use Rattle.run_notes.proofs.of_run_book.Heards.{loses}
+use Rattle.run_notes.specs.of_run_book.Heard.{Accepted, AllNoted, brought_by, heard_on}
 use Rattle.master_node.specs.Brought.{HasBrought}
 use Rattle.master_node.specs.declared.node.MasterNode.{MasterNode}
 use Rattle.master_node.specs.of_frame_view.Seen.{seen}

@@ -15,7 +15,7 @@ use Rattle.master_node.specs.of_master_tour.Brings.{accepted_at}
 use Rattle.master_node.specs.of_segment_model.Slaves.{Datagram}
 use Rattle.plan_ring.specs.Dues.{AllDue}
 use Rattle.run_record.proofs.ServedNotes.{none_at}
-use Rattle.master_node.specs.of_served_runs.Served.{ServedTurn, Serves}
+use Rattle.master_node.specs.of_life_runs.Served.{ServedTurn, Serves}
 
 module _ (lens : ℕ → Lens) where
   -- A LOST FRAME brought none

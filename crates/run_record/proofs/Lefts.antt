@@ -23,9 +23,9 @@ use Rattle.master_node.specs.declared.lan.Lan.{Lan}
 use Rattle.master_node.specs.declared.node.MasterNode.{MasterNode}
 use Rattle.master_node.specs.declared.post.Post.{Post}
 use Rattle.master_node.specs.of_frame_view.View.{Lens}
-use Rattle.master_node.specs.of_life_frames.Shares.{AllBoth, AllThree}
-use Rattle.master_node.specs.of_life_frames.of_exchange_model.Exchange.{Speech}
-use Rattle.master_node.specs.of_life_frames.of_exchange_model.Rows.{Row}
+use Rattle.master_node.specs.of_frame_view.Shares.{AllBoth, AllThree}
+use Rattle.master_node.specs.of_frame_view.of_exchange_model.Exchange.{Speech}
+use Rattle.master_node.specs.of_frame_view.of_exchange_model.Rows.{Row}
 use Rattle.master_node.specs.of_life_runs.First.{lens_of}
 use Rattle.master_node.specs.of_life_runs.Led.{Exchanged, Leads, speech_at}
 use Rattle.master_node.specs.of_life_runs.of_link_mails.Body.{Body}
@@ -38,7 +38,7 @@ use Rattle.master_node.specs.of_master_tour.Goes.{holds_at}
 use Rattle.master_node.specs.of_master_tour.declared.stop.Stop.{Stop}
 use Rattle.master_node.specs.of_segment_model.Laws.{NothingInHand}
 use Rattle.master_node.specs.of_segment_model.Seats.{Side}
-use Rattle.master_node.specs.of_task_model.Accounts.{is_acknowledged, is_free}
+use Rattle.master_node.specs.of_state_model.Accounts.{is_acknowledged, is_free}
 use Rattle.packets_heard.specs.Recalled.{AllSettled}
 use Rattle.run_book.specs.declared.book.SlaveBook.{SlaveBook}
 use Rattle.run_notes.specs.Slaves.{slave_rows}
@@ -52,8 +52,8 @@ use Rattle.run_record.specs.Served.{Serving}
 use Rattle.run_record.specs.Session.{IsDone, SessionState, has_live, session_rows}
 use Rattle.run_record.specs.Written.{WereServedDue}
 use Rattle.segment_plan.specs.declared.plan.Scenario.{Scenario}
-use Rattle.master_node.specs.of_served_runs.Served.{IsQuiet, IsRunOf, Serves}
-use Rattle.slave_node.specs.of_slave_steps.Node.{Node}
+use Rattle.master_node.specs.of_life_runs.Served.{IsQuiet, IsRunOf, Serves}
+use Rattle.slave_node.specs.Node.{Node}
 use Rattle.slave_server.specs.declared.server.SlaveServer.{SlaveServer}
 
 -- ---- A SLAVE OF WHICH THE MASTER WANTS NOTHING rests, as its hand knows its mails and no packet waits at its port

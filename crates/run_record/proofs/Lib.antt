@@ -1,7 +1,7 @@
 pub use Rattle.served_places.proofs as of_served_places
 pub use Rattle.packets_heard.proofs as of_packets_heard
 pub use Rattle.run_notes.proofs as of_run_notes
-pub use Rattle.run_notes.proofs.of_script_runs as of_script_runs
+pub use Rattle.run_notes.proofs.of_run_frames as of_run_frames
 pub mod Asking
 pub mod Befores
 pub mod Began

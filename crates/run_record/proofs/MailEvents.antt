@@ -9,7 +9,7 @@ use Rattle.master_node.specs.Gateways.{replies_told}
 use Rattle.master_node.specs.Lifetold.{lost_at, lost_told, told_at}
 use Rattle.master_node.specs.Listing.{told_in}
 use Rattle.master_node.specs.declared.event.Event.{Event}
-use Rattle.master_node.specs.of_life_frames.of_exchange_model.Exchange.{Speech}
+use Rattle.master_node.specs.of_frame_view.of_exchange_model.Exchange.{Speech}
 use Rattle.master_node.specs.of_life_model.Lives.{Life, Stand}
 use Rattle.master_node.specs.of_life_runs.of_link_mails.Body.{Body}
 use Rattle.master_node.specs.of_master_duty.Reply.{Reply}
@@ -20,12 +20,12 @@ use Rattle.master_node.specs.of_master_tour.Orders.{AreOnce}
 use Rattle.master_node.specs.of_master_tour.Stands.{turned}
 use Rattle.master_node.specs.of_master_tour.declared.stop.Turned.{Turned}
 use Rattle.master_node.specs.of_segment_model.Ends.{Passing}
-use Rattle.master_node.specs.of_task_model.Accounts.{Change, is_free}
+use Rattle.master_node.specs.of_state_model.Accounts.{Change, is_free}
 use Rattle.run_notes.specs.Handed.{kinds_in}
 use Rattle.run_notes.proofs.Handings.{kinds_append}
 use Rattle.run_record.proofs.MailLives.{emergency_kinds, five_kinds, reply_kinds}
-use Rattle.master_node.specs.of_served_runs.Served.{Serves, ServedTurn}
-use Rattle.master_node.specs.of_served_runs.Told.{Passed, replies_in}
+use Rattle.master_node.specs.of_life_runs.Served.{Serves, ServedTurn}
+use Rattle.master_node.specs.of_life_runs.Told.{Passed, replies_in}
 
 -- ---- of another slave
 

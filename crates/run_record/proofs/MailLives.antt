@@ -9,10 +9,10 @@ use Rattle.master_node.specs.Gateways.{replies_told}
 use Rattle.master_node.specs.Named.{IsHanded, is_left}
 use Rattle.master_node.specs.declared.event.Event.{Event}
 use Rattle.master_node.specs.declared.post.Work.{Work}
-use Rattle.master_node.specs.of_life_frames.of_exchange_model.Areas.{Areas}
-use Rattle.master_node.specs.of_life_frames.of_exchange_model.Exchange.{Speech}
-use Rattle.master_node.specs.of_life_frames.of_exchange_model.Rows.{row_heard}
-use Rattle.master_node.specs.of_life_frames.of_link_model.Frames.{all_accepted}
+use Rattle.master_node.specs.of_frame_view.of_exchange_model.Areas.{Areas}
+use Rattle.master_node.specs.of_frame_view.of_exchange_model.Exchange.{Speech}
+use Rattle.master_node.specs.of_frame_view.of_exchange_model.Rows.{row_heard}
+use Rattle.master_node.specs.of_frame_view.of_link_model.Frames.{all_accepted}
 use Rattle.master_node.specs.of_life_model.Lives.{Era, Life, Spot, Stand, era_back, life_back, reopens}
 use Rattle.master_node.specs.of_life_model.Own.{own}
 use Rattle.master_node.specs.of_life_runs.Spans.{is_open}
@@ -23,14 +23,14 @@ use Rattle.master_node.specs.of_master_hand.Spoken.{Asked, acknowledged, hand_sp
 use Rattle.master_node.specs.of_segment_model.Ends.{Passing}
 use Rattle.master_node.specs.of_segment_model.Record.{News}
 use Rattle.master_node.specs.of_segment_model.Slaves.{Datagram, Found, grams}
-use Rattle.master_node.specs.of_task_model.Accounts.{Account, Duty, is_free}
+use Rattle.master_node.specs.of_state_model.Accounts.{Account, Duty, is_free}
 use Rattle.master_node.proofs.Changes.{none_back, none_more}
 use Rattle.master_node.proofs.Handeds.{back_handed, stays_open}
 use Rattle.master_node.proofs.Rowtells.{kind_told, passed_kind, passed_other}
 use Rattle.run_notes.specs.Handed.{kinds_in}
 use Rattle.run_notes.proofs.Handings.{kinds_append}
 use Rattle.run_record.specs.Mails.{has_passing}
-use Rattle.master_node.specs.of_served_runs.Told.{Passed, replies_in}
+use Rattle.master_node.specs.of_life_runs.Told.{Passed, replies_in}
 
 pub open_is : (stand : Stand) → is_open stand ≡ true → stand ≡ Stand.Open
 open_is (Stand.Opens o) e = absurd (let bad : false ≡ true = e in cc)

@@ -7,7 +7,7 @@ use Rattle.mailbox_mail.specs.declared.outcome.ReplyKind.{ReplyKind}
 use Rattle.master_node.specs.declared.event.Origin.{Origin}
 use Rattle.master_node.specs.declared.event.Origin.TheVariants.{Script, Forward, Gateway}
 use Rattle.master_node.specs.of_life_runs.Led.{Leads}
-use Rattle.master_node.specs.of_master_duty.of_state_exchange.Stated.{Service}
+use Rattle.master_node.specs.of_master_duty.of_state_model.Stated.{Service}
 use Rattle.master_node.specs.of_master_hand.Spoken.{Asked, is_passed}
 use Rattle.run_book.specs.declared.book.Answer.{Answer}
 use Rattle.run_book.specs.declared.book.Answer.TheVariants.{InDoubt, NotSent}
@@ -24,7 +24,7 @@ use Rattle.run_notes.proofs.Handed.{all_answered, answers_append, last_map}
 use Rattle.run_record.proofs.MailLives.{Goes}
 use Rattle.run_record.specs.Mails.{mail_begun, mail_over, overs_behind}
 use Rattle.segment_ring.specs.declared.wire.Fate.TheVariants as Fates
-use Rattle.slave_node.specs.of_slave_steps.Node.{Node}
+use Rattle.slave_node.specs.Node.{Node}
 use Rattle.slave_server.specs.declared.server.SlaveServer.{SlaveServer}
 
 -- ---- BEHIND A RETURN

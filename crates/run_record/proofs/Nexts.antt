@@ -14,7 +14,7 @@ use Rattle.master_node.specs.of_life_runs.Led.{Exchanged}
 use Rattle.run_record.specs.ServedLed.{LeadsFrame, ServedLeading}
 use Rattle.run_record.specs.Session.{has_live}
 use Rattle.segment_plan.specs.declared.plan.Scenario.{Scenario}
-use Rattle.master_node.specs.of_served_runs.Served.{IsServedFrame, ServedTurn, Serves}
+use Rattle.master_node.specs.of_life_runs.Served.{IsServedFrame, ServedTurn, Serves}
 
 pub next_frame : (m : MasterNode) (result : Next) → (result ≡ nexts.Idle) ↔ (has_live m ≡ false) → has_live m ≡ true → result ≡ nexts.Frame
 next_frame m nexts.Frame idle live = refl

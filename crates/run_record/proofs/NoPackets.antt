@@ -14,7 +14,7 @@ use Rattle.master_node.specs.Told.{HasLives}
 use Rattle.master_node.specs.Wants.{NoneToCome}
 use Rattle.master_node.specs.declared.node.MasterNode.{MasterNode}
 use Rattle.master_node.specs.of_frame_view.View.{Lens}
-use Rattle.master_node.specs.of_life_frames.Shares.{AllBoth}
+use Rattle.master_node.specs.of_frame_view.Shares.{AllBoth}
 use Rattle.master_node.specs.of_life_runs.Led.{Leads}
 use Rattle.master_node.specs.of_master_hand.declared.hand.InHand.{InHand}
 use Rattle.master_node.specs.of_master_side.declared.hand.Hand.{Ghosts}

@@ -10,8 +10,8 @@ use Rattle.master_node.specs.declared.node.MasterNode.{MasterNode}
 use Rattle.master_node.specs.of_frame_view.Seen.{seen}
 use Rattle.master_node.specs.of_frame_view.View.{Lens}
 use Rattle.master_node.specs.of_frame_view.of_segment_model.Record.{News}
-use Rattle.master_node.specs.of_life_frames.Frames.{Share}
-use Rattle.master_node.specs.of_life_frames.Shares.{AllBoth, IsNext, Lived, came_at, given_where, lived_back, lived_lost}
+use Rattle.master_node.specs.of_frame_view.Frames.{Share}
+use Rattle.master_node.specs.of_frame_view.Shares.{AllBoth, IsNext, Lived, came_at, given_where, lived_back, lived_lost}
 use Rattle.master_node.specs.of_life_model.Lives.{Life, life_lost}
 use Rattle.master_node.specs.of_life_runs.Led.{Exchanged, Leads, speech_at}
 use Rattle.master_node.specs.of_master_duty.Reply.{Reply}

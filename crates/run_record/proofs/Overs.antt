@@ -3,7 +3,7 @@ use Rattle.std.proofs.Common.{◌≡◌, ◌⊎◌, inl, inr, ℕ, Bool, true, f
 use Rattle.std.specs.Prelude.{◌≢◌, Option}
 use Rattle.std.specs.Bool.{OnTrue, OnFalse}
 use Rattle.eoe_switch.specs.declared.switching.SwitchEvent.{SwitchEvent}
-use Rattle.run_notes.specs.of_life_heard.Heard.{emergencies_of}
+use Rattle.run_notes.specs.of_run_book.Heard.{emergencies_of}
 use Rattle.master_node.proofs.Counts.{counted}
 use Rattle.master_node.specs.Ports.{ports_behind, ports_of}
 use Rattle.master_node.specs.Serving.{run_lead}
@@ -12,7 +12,7 @@ use Rattle.master_node.specs.Told.{HasLives}
 use Rattle.master_node.specs.Toured.{tour_of}
 use Rattle.master_node.specs.Wants.{AllCounted, AllLeft, gave_of}
 use Rattle.master_node.specs.of_frame_view.View.{Lens}
-use Rattle.master_node.specs.of_life_frames.Shares.{AllBoth}
+use Rattle.master_node.specs.of_frame_view.Shares.{AllBoth}
 use Rattle.master_node.specs.of_life_runs.First.{lens_of}
 use Rattle.master_node.specs.of_life_runs.Led.{Exchanged, Leads}
 use Rattle.master_node.specs.of_master_tour.Toured.{Tour}
@@ -54,7 +54,7 @@ use Rattle.run_record.specs.Served.{Serving, ServingLives, ServingRests}
 use Rattle.run_record.specs.Session.{IsDone, SessionState, are_at_rest, session_rows, some_given_up}
 use Rattle.run_record.specs.Written.{WereDue, forwards_now, packets_written, served_written}
 use Rattle.segment_plan.specs.declared.plan.Scenario.{Scenario}
-use Rattle.master_node.specs.of_served_runs.Served.{Serves}
+use Rattle.master_node.specs.of_life_runs.Served.{Serves}
 
 not_done : endings.Done ≡ endings.NoMemory → ⊥
 not_done e = absurd (cc)

@@ -8,11 +8,11 @@ use Rattle.master_node.specs.Begins.{is_other}
 use Rattle.master_node.specs.Inhand.{HasInHand, ServiceHas}
 use Rattle.master_node.specs.Gateways.{replies_told}
 use Rattle.master_node.specs.declared.post.Work.{Work}
-use Rattle.master_node.specs.of_life_frames.of_exchange_model.Areas.{Areas}
-use Rattle.master_node.specs.of_life_frames.of_exchange_model.Exchange.{Speech}
-use Rattle.master_node.specs.of_life_frames.of_exchange_model.Rows.{Row, row_heard}
-use Rattle.master_node.specs.of_life_frames.of_link_model.Frames.{all_accepted, halves_after, halves_answered}
-use Rattle.master_node.specs.of_life_frames.of_link_model.Link.{Halves}
+use Rattle.master_node.specs.of_frame_view.of_exchange_model.Areas.{Areas}
+use Rattle.master_node.specs.of_frame_view.of_exchange_model.Exchange.{Speech}
+use Rattle.master_node.specs.of_frame_view.of_exchange_model.Rows.{Row, row_heard}
+use Rattle.master_node.specs.of_frame_view.of_link_model.Frames.{all_accepted, halves_after, halves_answered}
+use Rattle.master_node.specs.of_frame_view.of_link_model.Link.{Halves}
 use Rattle.master_node.specs.Named.{is_left}
 use Rattle.master_node.specs.of_life_model.Lives.{Era, Life, Opening, Spot, Stand, clears, is_shown, last_step, life_lost, opens, opens_state, reopening, reopens, reopens_at, returns_to_init, shows_clear, steps_on}
 use Rattle.master_node.specs.of_life_model.Own.{own}
@@ -27,7 +27,7 @@ use Rattle.master_node.specs.of_segment_model.Ends.{Passing}
 use Rattle.master_node.specs.of_segment_model.Record.{News, is_for}
 use Rattle.master_node.specs.of_segment_model.Seats.{Side, side_lost}
 use Rattle.master_node.specs.of_segment_model.Slaves.{Datagram, Found, grams}
-use Rattle.master_node.specs.of_task_model.Accounts.{Account, Duty, Stage, is_free}
+use Rattle.master_node.specs.of_state_model.Accounts.{Account, Duty, Stage, is_free}
 use Rattle.master_node.proofs.Handeds.{stays_open}
 use Rattle.master_node.proofs.PacketRows.{idle_back, out_lost, packet_ends, same_over, stays_over}
 use Rattle.master_node.proofs.Rowtells.{kind_told, passed_other}
@@ -35,7 +35,7 @@ use Rattle.run_notes.specs.Handed.{kinds_in}
 use Rattle.run_notes.proofs.Handings.{kinds_append}
 use Rattle.run_record.proofs.MailLives.{Goes, behind_so, both_true, changes_none, e as era_behind, emergency_kinds, era_is, five_kinds, open_is, reply_kinds, same_account}
 use Rattle.run_record.specs.Written.{has_fragments}
-use Rattle.master_node.specs.of_served_runs.Told.{Passed, replies_in}
+use Rattle.master_node.specs.of_life_runs.Told.{Passed, replies_in}
 
 not_true : (b : Bool) → not b ≡ true → b ≡ false
 not_true true e = absurd (let bad : false ≡ true = e in cc)

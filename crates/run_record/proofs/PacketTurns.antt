@@ -7,19 +7,19 @@ use Rattle.master_node.proofs.PacketRows.{held_open, packet_begins}
 use Rattle.master_node.specs.Backtold.{has_packet}
 use Rattle.master_node.specs.Begins.{is_other}
 use Rattle.master_node.specs.of_frame_view.View.{Lens}
-use Rattle.master_node.specs.of_life_frames.of_exchange_model.Areas.{Areas}
-use Rattle.master_node.specs.of_life_frames.of_exchange_model.Exchange.{Speech}
-use Rattle.master_node.specs.of_life_frames.of_exchange_model.Rows.{Row, begun, row_told}
+use Rattle.master_node.specs.of_frame_view.of_exchange_model.Areas.{Areas}
+use Rattle.master_node.specs.of_frame_view.of_exchange_model.Exchange.{Speech}
+use Rattle.master_node.specs.of_frame_view.of_exchange_model.Rows.{Row, begun, row_told}
 use Rattle.master_node.specs.of_life_model.Lives.{Life, Stand, granted, life_next}
 use Rattle.master_node.specs.of_life_runs.First.{leads_from}
 use Rattle.master_node.specs.of_life_runs.Spans.{is_open}
 use Rattle.master_node.specs.of_life_runs.of_link_mails.Body.{Body}
 use Rattle.master_node.specs.of_master_duty.Reply.{Reply}
-use Rattle.master_node.specs.of_master_duty.of_state_exchange.Stated.{Service}
+use Rattle.master_node.specs.of_master_duty.of_state_model.Stated.{Service}
 use Rattle.master_node.specs.of_master_hand.Spoken.{Asked, acknowledged, hand_speech, is_followed, is_passed}
 use Rattle.master_node.specs.of_segment_model.Ends.{Passing}
 use Rattle.master_node.specs.of_segment_model.Seats.{Side, next_mail, side_holds, side_next}
-use Rattle.master_node.specs.of_task_model.Accounts.{Account, Duty, Pick, account_begins, account_next, is_acknowledged, is_free, mails_begin, starts, state_begins}
+use Rattle.master_node.specs.of_state_model.Accounts.{Account, Duty, Pick, account_begins, account_next, is_acknowledged, is_free, mails_begin, starts, state_begins}
 use Rattle.run_record.specs.Written.{forwards_now, has_fragments}
 use Rattle.segment_plan.specs.declared.service.Service as Plan
 use Rattle.segment_plan.specs.declared.slave.SlaveSpec.{SlaveSpec}

@@ -6,7 +6,7 @@ use Rattle.segment_plan.specs.declared.slave.SlaveSpec.{SlaveSpec}
 use Rattle.segment_plan.specs.Sound.{are_lost_from, IsPace}
 use Rattle.segment_ring.specs.Ring.{ArePaces, AllFew}
 use Rattle.segment_ring.specs.Schedule.{AllFrom, Rises}
-use Rattle.slave_node.specs.of_slave_steps.Node.{Node}
+use Rattle.slave_node.specs.Node.{Node}
 use Rattle.slave_server.specs.Spec.{node_of}
 use Rattle.slave_server.specs.declared.server.SlaveServer.{SlaveServer}
 

@@ -4,7 +4,7 @@ use Rattle.segment_ring.specs.Ring.{RingState, nodes_passed, nodes_stepped, fram
 use Rattle.segment_ring.specs.Schedule.{fate_at}
 use Rattle.segment_ring.specs.declared.wire.Fate.{Fate}
 use Rattle.segment_ring.specs.declared.wire.Fate.TheVariants.{Pass, Lost}
-use Rattle.slave_node.specs.of_slave_steps.Node.{Node, node_passed}
+use Rattle.slave_node.specs.Node.{Node, node_passed}
 use Rattle.slave_server.specs.declared.server.SlaveServer.{SlaveServer}
 use Rattle.run_book.specs.declared.book.SentFrame.{SentFrame}
 use Rattle.run_record.specs.Replay.{stepped, behind, ring_after, IsRecorded, AreRecorded}

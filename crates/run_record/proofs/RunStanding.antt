@@ -25,7 +25,7 @@ use Rattle.run_record.specs.Served.{ServesOn, Serving, ServingBegins, as_asked}
 use Rattle.run_record.specs.ServedLed.{LeadsFrame, ServeTo, ServedTouredTo}
 use Rattle.run_record.specs.Session.{FrameEvents, IsGrown, SessionState, first_session, numbers_over}
 use Rattle.segment_plan.specs.declared.plan.Scenario.{Scenario}
-use Rattle.master_node.specs.of_served_runs.Served.{IsServedLed, Keyed, Serves}
+use Rattle.master_node.specs.of_life_runs.Served.{IsServedLed, Keyed, Serves}
 
 -- behind these frames, with just these events of its switch, each with its number
 pub record StandsSo (plan : Scenario) (s : SessionState) (fs : List Exchanged) (es : List SwitchEvent) (ns : List ℕ) : Type 0 where

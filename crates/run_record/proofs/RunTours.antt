@@ -29,7 +29,7 @@ use Rattle.run_record.specs.Led.{TouredTo}
 use Rattle.run_record.specs.Served.{ServedTouredTo}
 use Rattle.segment_plan.specs.declared.plan.Scenario.{Scenario}
 use Rattle.served_places.proofs.Behind.{unpassed_behind}
-use Rattle.master_node.specs.of_served_runs.Served.{IsQuiet, IsRunOf, IsServedFrame, ServedTurn, Serves, all_serve, served_behind}
+use Rattle.master_node.specs.of_life_runs.Served.{IsQuiet, IsRunOf, IsServedFrame, ServedTurn, Serves, all_serve, served_behind}
 
 -- ---- WHAT IS REMEMBERED over a frame
 

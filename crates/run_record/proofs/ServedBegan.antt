@@ -9,12 +9,12 @@ use Rattle.master_node.specs.Origins.{forwards_at}
 use Rattle.master_node.specs.Serving.{run_lead, run_turn}
 use Rattle.master_node.specs.declared.node.MasterNode.{MasterNode}
 use Rattle.master_node.specs.of_frame_view.View.{Lens}
-use Rattle.master_node.specs.of_life_frames.Shares.{AllBoth}
+use Rattle.master_node.specs.of_frame_view.Shares.{AllBoth}
 use Rattle.master_node.specs.of_life_runs.First.{lens_of}
 use Rattle.master_node.specs.of_life_runs.Led.{Exchanged, Turn}
-use Rattle.master_node.specs.of_master_duty.of_state_exchange.Stated.{Service}
+use Rattle.master_node.specs.of_master_duty.of_state_model.Stated.{Service}
 use Rattle.master_node.specs.of_master_hand.Spoken.{Asked, sdo, file, drive, net, passed}
-use Rattle.master_node.specs.of_master_hand.of_eoe_model.Client as EoeClient
+use Rattle.master_node.specs.of_master_hand.of_protocol_models.EoeClient as EoeClient
 use Rattle.packets_heard.specs.Numbers.{each_with}
 use Rattle.packets_heard.specs.Over.{packet_begun}
 use Rattle.packets_heard.specs.Servings.{served_begun}
@@ -26,11 +26,11 @@ use Rattle.run_record.proofs.ServedReports.{turn_by}
 use Rattle.run_record.specs.Mails.{mail_begun, served_mails}
 use Rattle.run_record.specs.Forwarded.{PacketsNoted}
 use Rattle.run_record.specs.Served.{ServeTo}
-use Rattle.run_notes.specs.of_script_runs.Answers.{turned}
-use Rattle.run_notes.specs.of_script_runs.Came.{is_beside}
-use Rattle.run_notes.specs.of_script_runs.Steps.{TurnsBy}
+use Rattle.run_notes.specs.of_run_frames.ScriptAnswers.{turned}
+use Rattle.run_notes.specs.of_run_frames.Came.{is_beside}
+use Rattle.run_notes.specs.of_run_frames.Steps.{TurnsBy}
 use Rattle.segment_plan.specs.declared.plan.Scenario.{Scenario}
-use Rattle.master_node.specs.of_served_runs.Served.{AllServedTurn, IsServedFrame, IsServedLed, Serves, ServedTurn}
+use Rattle.master_node.specs.of_life_runs.Served.{AllServedTurn, IsServedFrame, IsServedLed, Serves, ServedTurn}
 
 all_by : (lens : ℕ → Lens) (made : ℕ) (ds : List Raw.Datagram) (ws : List Serves) (vs : List ServedTurn) → AllServedTurn lens made ds ws vs → AllBoth (λ a u. TurnsBy lens made a u) (map run_lead ws) (map run_turn vs)
 all_by lens made ds [] [] t = tt

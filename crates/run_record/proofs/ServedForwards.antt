@@ -25,7 +25,7 @@ use Rattle.master_node.specs.declared.happened.Happening.{Happening}
 use Rattle.master_node.specs.declared.node.MasterNode.{MasterNode}
 use Rattle.master_node.specs.of_frame_view.Seen.{seen}
 use Rattle.master_node.specs.of_frame_view.View.{Lens}
-use Rattle.master_node.specs.of_life_frames.Shares.{AllThree}
+use Rattle.master_node.specs.of_frame_view.Shares.{AllThree}
 use Rattle.master_node.specs.of_life_runs.First.{first_leads, lens_of}
 use Rattle.master_node.specs.of_life_runs.Led.{Exchanged, Leads, Turn, gives_up_at}
 use Rattle.master_node.specs.of_master_hand.declared.hand.InHand.{InHand}
@@ -50,7 +50,7 @@ use Rattle.run_record.specs.Served.{IsServedForwarded, ServeTo}
 use Rattle.run_record.specs.Session.{FrameEvents, numbers_over}
 use Rattle.segment_plan.specs.declared.plan.Scenario.{Scenario}
 use Rattle.segment_ring.specs.declared.wire.Fate.TheVariants as Fates
-use Rattle.master_node.specs.of_served_runs.Served.{Keyed, Serves, ServedTurn, IsServedFrame, IsServedLed, MayAsk, all_serve, asked_at, served_behind}
+use Rattle.master_node.specs.of_life_runs.Served.{Keyed, Serves, ServedTurn, IsServedFrame, IsServedLed, MayAsk, all_serve, asked_at, served_behind}
 
 -- as many slaves
 pub as_many : {G : Ghosts InHand} (us : List Turn) (js : List Joined) (ss : List (Stop InHand G)) → AllThree (λ l j s. IsUnfinished l s.side.hand.found.join j) (map stand_under us) (unfinished_of js) ss → length js ≡ length us

@@ -9,7 +9,7 @@ use Rattle.master_node.specs.declared.node.MasterNode.{MasterNode}
 use Rattle.master_node.specs.declared.post.Post.{Post}
 use Rattle.master_node.specs.of_frame_view.Seen.{seen}
 use Rattle.master_node.specs.of_frame_view.View.{Lens}
-use Rattle.master_node.specs.of_life_frames.Shares.{AllBoth, AllThree, came_at}
+use Rattle.master_node.specs.of_frame_view.Shares.{AllBoth, AllThree, came_at}
 use Rattle.master_node.specs.of_life_model.Lives.{Life, Stand, life_lost}
 use Rattle.master_node.specs.of_life_runs.First.{first_leads, lens_of}
 use Rattle.master_node.specs.of_life_runs.Led.{Exchanged, IsLed, Leads, gives_up_at, speech_at}
@@ -29,7 +29,7 @@ use Rattle.run_record.proofs.Noted.{GivesOne, lost_gives, next_gives, pass_gives
 use Rattle.segment_plan.specs.declared.plan.Scenario.{Scenario}
 use Rattle.segment_ring.specs.declared.wire.Fate.{Fate}
 use Rattle.segment_ring.specs.declared.wire.Fate.TheVariants as Fates
-use Rattle.master_node.specs.of_served_runs.Served.{Serves, ServedTurn, AllServedTurn, IsServedLed, IsServedTurn, all_serve, served_behind, served_life}
+use Rattle.master_node.specs.of_life_runs.Served.{Serves, ServedTurn, AllServedTurn, IsServedLed, IsServedTurn, all_serve, served_behind, served_life}
 use Rattle.slave_node.specs.of_link_mails.Body.{Body}
 
 -- ---- what is known of each life at its stop

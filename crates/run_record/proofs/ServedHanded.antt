@@ -20,8 +20,8 @@ use Rattle.master_node.specs.declared.node.MasterNode.{MasterNode}
 use Rattle.master_node.specs.declared.post.Post.{Post}
 use Rattle.master_node.specs.of_frame_view.Seen.{seen}
 use Rattle.master_node.specs.of_frame_view.View.{Lens}
-use Rattle.master_node.specs.of_life_frames.Shares.{Lived, came_at, given_where}
-use Rattle.master_node.specs.of_life_frames.of_exchange_model.Areas.{Areas}
+use Rattle.master_node.specs.of_frame_view.Shares.{Lived, came_at, given_where}
+use Rattle.master_node.specs.of_frame_view.of_exchange_model.Areas.{Areas}
 use Rattle.master_node.specs.of_life_model.Lives.{Life, Stand, life_lost, reopening}
 use Rattle.master_node.specs.of_life_runs.First.{lens_of}
 use Rattle.master_node.specs.of_life_runs.Led.{Comes as OwnComes, Exchanged, Leads, Turn, gives_up_at, speech_at}
@@ -29,7 +29,7 @@ use Rattle.master_node.specs.of_life_runs.Spans.{is_open}
 use Rattle.master_node.specs.of_life_runs.of_link_mails.Body.{Body}
 use Rattle.master_node.specs.of_life_runs.of_segment_plan.declared.service.Service as Plan
 use Rattle.master_node.specs.of_master_duty.Reply.{Reply}
-use Rattle.master_node.specs.of_master_duty.of_state_exchange.Stated.{Service}
+use Rattle.master_node.specs.of_master_duty.of_state_model.Stated.{Service}
 use Rattle.master_node.specs.of_master_hand.Shown.{knows}
 use Rattle.master_node.specs.of_master_hand.Spoken.{Asked, acknowledged, drive, file, is_followed, is_passed, net, passed, sdo}
 use Rattle.master_node.specs.of_master_hand.declared.hand.InHand.{InHand}
@@ -42,7 +42,7 @@ use Rattle.master_node.specs.of_segment_model.Ends.{Passing}
 use Rattle.master_node.specs.of_segment_model.Record.{News}
 use Rattle.master_node.specs.of_segment_model.Returned.{Returns}
 use Rattle.master_node.specs.of_segment_model.Slaves.{Found}
-use Rattle.master_node.specs.of_task_model.Accounts.{is_free}
+use Rattle.master_node.specs.of_state_model.Accounts.{is_free}
 use Rattle.packets_heard.specs.Numbers.{each_with}
 use Rattle.packets_heard.specs.Over.{packet_begun}
 use Rattle.packets_heard.specs.Servings.{served_begun}
@@ -64,8 +64,8 @@ use Rattle.segment_ring.specs.declared.wire.Fate.TheVariants as Fates
 use Rattle.segment_ring.specs.declared.wire.Fate.{Fate}
 use Rattle.served_places.proofs.Next.{next_free, next_open, next_passing}
 use Rattle.served_places.proofs.Unread.{unread_passing}
-use Rattle.master_node.specs.of_served_runs.Served.{IsServedFrame, IsServedTurn, Keyed, ServedComes, ServedTurn, Serves, served_life}
-use Rattle.master_node.specs.of_served_runs.Told.{Passed}
+use Rattle.master_node.specs.of_life_runs.Served.{IsServedFrame, IsServedTurn, Keyed, ServedComes, ServedTurn, Serves, served_life}
+use Rattle.master_node.specs.of_life_runs.Told.{Passed}
 
 pub cancel : {X : Type 0} (xs ys zs : List X) → xs ++ ys ≡ xs ++ zs → ys ≡ zs
 cancel [] ys zs e = e

@@ -16,14 +16,14 @@ use Rattle.master_node.specs.declared.node.MasterNode.{MasterNode}
 use Rattle.master_node.specs.declared.post.Post.{Post}
 use Rattle.master_node.specs.of_frame_view.Seen.{seen}
 use Rattle.master_node.specs.of_frame_view.View.{Lens}
-use Rattle.master_node.specs.of_life_frames.Shares.{AllThree, Lived}
+use Rattle.master_node.specs.of_frame_view.Shares.{AllThree, Lived}
 use Rattle.master_node.specs.of_life_model.Lives.{Life}
 use Rattle.master_node.specs.of_life_runs.First.{first_leads, lens_of}
 use Rattle.master_node.specs.of_life_runs.Led.{Exchanged, Leads, Turn, gives_up_at, missed_behind, speech_at}
 use Rattle.master_node.specs.of_life_runs.of_link_mails.Body.{Body}
 use Rattle.master_node.specs.of_life_runs.of_segment_plan.declared.service.Service as Plan
 use Rattle.master_node.specs.of_master_duty.Reply.{Reply}
-use Rattle.master_node.specs.of_master_duty.of_state_exchange.Stated.{Service}
+use Rattle.master_node.specs.of_master_duty.of_state_model.Stated.{Service}
 use Rattle.master_node.specs.of_master_hand.Spoken.{Asked}
 use Rattle.master_node.specs.of_master_hand.declared.hand.InHand.{InHand}
 use Rattle.master_node.specs.of_master_side.declared.hand.Hand.{Ghosts}
@@ -50,12 +50,12 @@ use Rattle.run_record.proofs.ServedGaves.{one_gives}
 use Rattle.run_record.specs.Forwarded.{PacketsNoted}
 use Rattle.run_record.specs.Mails.{mail_begun, overs_behind, served_mails}
 use Rattle.run_record.specs.Served.{ServeTo, events_behind}
-use Rattle.run_notes.specs.of_script_runs.Answers.{turned}
+use Rattle.run_notes.specs.of_run_frames.ScriptAnswers.{turned}
 use Rattle.segment_plan.specs.declared.plan.Scenario.{Scenario}
 use Rattle.segment_plan.specs.declared.slave.SlaveSpec.{SlaveSpec}
 use Rattle.segment_ring.specs.declared.wire.Fate.TheVariants as Fates
 use Rattle.segment_ring.specs.declared.wire.Fate.{Fate}
-use Rattle.master_node.specs.of_served_runs.Served.{AllServedTurn, IsServedFrame, IsServedLed, IsServedTurn, ServedTurn, Serves, all_serve, served_behind, served_life}
+use Rattle.master_node.specs.of_life_runs.Served.{AllServedTurn, IsServedFrame, IsServedLed, IsServedTurn, ServedTurn, Serves, all_serve, served_behind, served_life}
 
 -- ---- at a place
 

@@ -9,13 +9,13 @@ use Rattle.master_node.specs.of_frame_view.View.{Lens}
 use Rattle.master_node.specs.of_life_runs.First.{first_leads, lens_of}
 use Rattle.master_node.specs.of_life_runs.Led.{Exchanged, IsLed, gives_up_at}
 use Rattle.master_node.specs.of_master_hand.Spoken.{Asked}
-use Rattle.master_node.specs.of_master_duty.of_state_exchange.Stated.{Service}
+use Rattle.master_node.specs.of_master_duty.of_state_model.Stated.{Service}
 use Rattle.run_record.proofs.ServedGaves.{serve_leads}
 use Rattle.run_record.specs.Served.{ServeTo}
 use Rattle.segment_plan.specs.declared.plan.Scenario.{Scenario}
 use Rattle.segment_plan.specs.declared.service.Service as Plan
-use Rattle.master_node.specs.of_served_runs.Served.{Keyed, Serves, ServedComes, ServedTurn, AllServedTurn, IsServedLed, served_behind}
-use Rattle.master_node.specs.of_served_runs.Told.{Passed}
+use Rattle.master_node.specs.of_life_runs.Served.{Keyed, Serves, ServedComes, ServedTurn, AllServedTurn, IsServedLed, served_behind}
+use Rattle.master_node.specs.of_life_runs.Told.{Passed}
 
 -- a mail that is passed on is none of the script
 comes_placed : (room : ℕ) (script : List Plan.Service) (waits : List Keyed) (hand : Option Passed) (n : ℕ) (b : Option (Service Asked)) (k : ℕ) (rest : List Keyed) (now : Option Passed) → ServedComes room script waits hand n b k rest now → n ≤ length script → k ≤ length script

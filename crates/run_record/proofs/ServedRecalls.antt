@@ -35,8 +35,8 @@ use Rattle.run_record.specs.Session.{IsDone, SessionState}
 use Rattle.segment_plan.specs.declared.plan.Scenario.{Scenario}
 use Rattle.segment_ring.specs.Ring.{RingState, ring_behind}
 use Rattle.segment_ring.specs.declared.wire.Fate.TheVariants as Fates
-use Rattle.master_node.specs.of_served_runs.Served.{Keyed, Serves, ServedTurn, IsServedFrame, MayAsk, all_serve, asked_at, served_behind}
-use Rattle.slave_node.specs.of_slave_steps.Node.{Node, node_passed}
+use Rattle.master_node.specs.of_life_runs.Served.{Keyed, Serves, ServedTurn, IsServedFrame, MayAsk, all_serve, asked_at, served_behind}
+use Rattle.slave_node.specs.Node.{Node, node_passed}
 use Rattle.slave_server.specs.declared.server.SlaveServer.{SlaveServer}
 
 -- where a packet of the host comes in first one has come in

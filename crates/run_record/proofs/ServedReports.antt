@@ -9,7 +9,7 @@ use Rattle.master_node.specs.declared.node.MasterNode.{MasterNode}
 use Rattle.master_node.specs.declared.post.Post.{Post}
 use Rattle.master_node.specs.of_frame_view.Seen.{seen}
 use Rattle.master_node.specs.of_frame_view.View.{Lens}
-use Rattle.master_node.specs.of_life_frames.Shares.{AllBoth, AllThree}
+use Rattle.master_node.specs.of_frame_view.Shares.{AllBoth, AllThree}
 use Rattle.master_node.specs.of_life_runs.First.{first_leads, lens_of}
 use Rattle.master_node.specs.of_life_runs.Led.{Comes, Exchanged, Leads, gives_up_at}
 use Rattle.master_node.specs.of_master_hand.declared.hand.InHand.{InHand}
@@ -21,17 +21,17 @@ use Rattle.run_notes.specs.declared.standing.Log.{Log}
 use Rattle.run_record.proofs.Befores.{AllBefore, first_before, one_more}
 use Rattle.run_record.proofs.ServedGaves.{Behind, serve_leads}
 use Rattle.run_record.specs.Served.{ServeTo}
-use Rattle.run_notes.proofs.of_script_runs.Losses.{loses_so, passes_so}
-use Rattle.run_notes.proofs.of_script_runs.Turns.{turns_by}
-use Rattle.run_notes.specs.of_script_runs.Answers.{turned}
-use Rattle.run_notes.specs.of_script_runs.Steps.{ComesBy, IsBefore, LosesSo, PassesSo, TurnsBy, TurnsSo}
+use Rattle.run_notes.proofs.of_run_frames.Losses.{loses_so, passes_so}
+use Rattle.run_notes.proofs.of_run_frames.Turns.{turns_by}
+use Rattle.run_notes.specs.of_run_frames.ScriptAnswers.{turned}
+use Rattle.run_notes.specs.of_run_frames.Steps.{ComesBy, IsBefore, LosesSo, PassesSo, TurnsBy, TurnsSo}
 use Rattle.segment_plan.specs.declared.plan.Scenario.{Scenario}
 use Rattle.segment_ring.specs.declared.wire.Fate.{Fate}
 use Rattle.segment_ring.specs.declared.wire.Fate.TheVariants as Fates
-use Rattle.master_node.specs.of_master_duty.of_state_exchange.Stated.{Service}
+use Rattle.master_node.specs.of_master_duty.of_state_model.Stated.{Service}
 use Rattle.master_node.specs.of_master_hand.Spoken.{Asked}
-use Rattle.master_node.specs.of_served_runs.Told.{Passed}
-use Rattle.master_node.specs.of_served_runs.Served.{AllServedTurn, IsServedLed, IsServedTurn, Keyed, Serves, ServedComes, ServedTurn, served_life}
+use Rattle.master_node.specs.of_life_runs.Told.{Passed}
+use Rattle.master_node.specs.of_life_runs.Served.{AllServedTurn, IsServedLed, IsServedTurn, Keyed, Serves, ServedComes, ServedTurn, served_life}
 
 -- ---- what is known of each at its stop
 

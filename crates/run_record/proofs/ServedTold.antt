@@ -16,9 +16,9 @@ use Rattle.master_node.specs.declared.node.MasterNode.{MasterNode}
 use Rattle.master_node.specs.declared.post.Post.{Post}
 use Rattle.master_node.specs.of_frame_view.Seen.{seen}
 use Rattle.master_node.specs.of_frame_view.View.{Lens}
-use Rattle.master_node.specs.of_life_frames.Shares.{AllThree}
+use Rattle.master_node.specs.of_frame_view.Shares.{AllThree}
 use Rattle.master_node.specs.of_life_runs.Led.{Exchanged}
-use Rattle.master_node.specs.of_master_duty.of_state_exchange.Stated.{Service}
+use Rattle.master_node.specs.of_master_duty.of_state_model.Stated.{Service}
 use Rattle.master_node.specs.of_master_hand.Spoken.{Asked}
 use Rattle.master_node.specs.of_master_hand.declared.hand.InHand.{InHand}
 use Rattle.master_node.specs.of_master_side.declared.hand.Hand.{Ghosts}
@@ -29,7 +29,7 @@ use Rattle.master_node.specs.of_master_tour.declared.stop.Turned.{Turned}
 use Rattle.run_record.specs.Served.{TellsFrame, told_behind}
 use Rattle.segment_ring.specs.declared.wire.Fate.{Fate}
 use Rattle.segment_ring.specs.declared.wire.Fate.TheVariants as Fates
-use Rattle.master_node.specs.of_served_runs.Served.{Serves, ServedTurn}
+use Rattle.master_node.specs.of_life_runs.Served.{Serves, ServedTurn}
 
 -- where all that is told of a slave gets known, all that is told of these does
 known_in : (tells : ℕ → List Event) → ((k : ℕ) → filter is_gateway (tells k) ≡ tells k) → (ps : List ℕ) → filter is_gateway (told_in tells ps) ≡ told_in tells ps

@@ -11,8 +11,8 @@ use Rattle.master_node.specs.Events.{oldest_in}
 use Rattle.master_node.specs.Serving.{run_lead}
 use Rattle.master_node.specs.declared.node.MasterNode.{MasterNode}
 use Rattle.master_node.specs.of_frame_view.View.{Lens}
-use Rattle.master_node.specs.of_life_frames.of_exchange_model.Areas.{Areas}
-use Rattle.master_node.specs.of_life_frames.of_exchange_model.Exchange.{Speech}
+use Rattle.master_node.specs.of_frame_view.of_exchange_model.Areas.{Areas}
+use Rattle.master_node.specs.of_frame_view.of_exchange_model.Exchange.{Speech}
 use Rattle.master_node.specs.of_life_model.Lives.{Life, Spot, Stand, life_next}
 use Rattle.master_node.specs.of_life_runs.First.{lens_of}
 use Rattle.master_node.specs.of_life_runs.Led.{Comes as OwnComes, Exchanged, Took, gives_up_at, speech_at}
@@ -20,11 +20,11 @@ use Rattle.master_node.specs.of_life_runs.Spans.{is_open}
 use Rattle.master_node.specs.of_life_runs.of_link_mails.Body.{Body}
 use Rattle.master_node.specs.of_life_runs.of_segment_plan.declared.service.Service as Plan
 use Rattle.master_node.specs.of_master_duty.Reply.{Reply}
-use Rattle.master_node.specs.of_master_duty.of_state_exchange.Stated.{Service}
+use Rattle.master_node.specs.of_master_duty.of_state_model.Stated.{Service}
 use Rattle.master_node.specs.of_master_hand.Spoken.{Asked, acknowledged, drive, file, is_followed, is_passed, net, passed, sdo}
 use Rattle.master_node.specs.of_master_hand.Talk.{asked_of}
-use Rattle.master_node.specs.of_master_hand.of_eoe_model.Client as EoeClient
-use Rattle.master_node.specs.of_task_model.Accounts.{Pick, starts}
+use Rattle.master_node.specs.of_master_hand.of_protocol_models.EoeClient as EoeClient
+use Rattle.master_node.specs.of_state_model.Accounts.{Pick, starts}
 use Rattle.packets_heard.specs.Numbers.{each_with}
 use Rattle.packets_heard.specs.Over.{packet_begun, packet_of}
 use Rattle.packets_heard.specs.Servings.{served_begun}
@@ -46,8 +46,8 @@ use Rattle.run_record.specs.Written.{forwards_now, has_fragments, has_unwritten,
 use Rattle.segment_plan.specs.declared.plan.Scenario.{Scenario}
 use Rattle.segment_ring.specs.declared.wire.Fate.TheVariants as Fates
 use Rattle.served_places.proofs.Next.{next_open}
-use Rattle.master_node.specs.of_served_runs.Served.{IsServedFrame, IsServedTurn, Keyed, ServedComes, ServedTurn, Serves, served_life}
-use Rattle.master_node.specs.of_served_runs.Told.{Passed}
+use Rattle.master_node.specs.of_life_runs.Served.{IsServedFrame, IsServedTurn, Keyed, ServedComes, ServedTurn, Serves, served_life}
+use Rattle.master_node.specs.of_life_runs.Told.{Passed}
 
 -- the rows of what came into hand, where that is a packet
 abbrev pub rows_came : ℕ → ℕ → Option (Service Asked) → List (ℕ × ℕ)

@@ -17,7 +17,7 @@ use Rattle.master_node.specs.Wants.{gave_of}
 use Rattle.master_node.specs.declared.node.MasterNode.{MasterNode}
 use Rattle.master_node.specs.declared.post.Post.{Post}
 use Rattle.master_node.specs.of_frame_view.View.{Lens}
-use Rattle.master_node.specs.of_life_frames.Shares.{AllBoth, AllThree}
+use Rattle.master_node.specs.of_frame_view.Shares.{AllBoth, AllThree}
 use Rattle.master_node.specs.of_life_runs.First.{lens_of}
 use Rattle.master_node.specs.of_life_runs.Led.{Exchanged, Leads}
 use Rattle.master_node.specs.of_master_hand.declared.hand.InHand.{InHand}
@@ -42,7 +42,7 @@ use Rattle.run_record.specs.Session.{SessionState, asked_mail, asked_more}
 use Rattle.run_record.specs.Written.{forwards_now, served_written}
 use Rattle.segment_plan.specs.declared.plan.Scenario.{Scenario}
 use Rattle.served_places.proofs.of_life_runs.First.{apart_from, have_lens}
-use Rattle.master_node.specs.of_served_runs.Served.{IsServedLed, Keyed, MayAsk, Serves, asked_at}
+use Rattle.master_node.specs.of_life_runs.Served.{IsServedLed, Keyed, MayAsk, Serves, asked_at}
 
 -- the mails that were asked of a slave, as the session has them, and how many wait for it
 abbrev pub mails_of : Serves → List AskedMail

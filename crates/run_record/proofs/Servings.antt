@@ -3,7 +3,7 @@ use Rattle.std.proofs.Common.{◌≡◌, ◌<◌, ◌^◌, ℕ, zero, suc, Bool,
 use Rattle.std.specs.Prelude.{◌↔◌, replicate, slice_get}
 use Rattle.datagrams.specs.Datagram as Raw
 use Rattle.datagrams.specs.Frame.{chained}
-use Rattle.run_notes.specs.of_life_heard.Heard.{AllNoted, emergencies_of, heard_none}
+use Rattle.run_notes.specs.of_run_book.Heard.{AllNoted, emergencies_of, heard_none}
 use Rattle.master_node.proofs.OnFrames.{served_way}
 use Rattle.master_node.specs.Backtold.{known_at}
 use Rattle.master_node.specs.Eager.{recalls}
@@ -27,7 +27,7 @@ use Rattle.master_node.specs.declared.node.Next.TheVariants as nexts
 use Rattle.master_node.specs.declared.node.Next.{Next}
 use Rattle.master_node.specs.of_frame_view.Seen.{seen}
 use Rattle.master_node.specs.of_frame_view.View.{Lens}
-use Rattle.master_node.specs.of_life_frames.Shares.{AllBoth}
+use Rattle.master_node.specs.of_frame_view.Shares.{AllBoth}
 use Rattle.master_node.specs.of_life_runs.First.{first_leads, leads_from, lens_of, script_for, spot_of}
 use Rattle.master_node.specs.of_life_runs.Led.{Exchanged, Leads, gives_up_at, missed_behind, new_leads}
 use Rattle.master_node.specs.of_master_tour.Toured.{Tour, new_tour}
@@ -37,7 +37,7 @@ use Rattle.packets_heard.specs.Served.{IsTourServed, serves_behind}
 use Rattle.packets_heard.specs.ServedRecalled.{IsServedRecalled}
 use Rattle.packets_heard.specs.Servings.{served_begun}
 use Rattle.packets_heard.specs.Toured.{tour_behind}
-use Rattle.ring_returns.proofs.Returned as Returned
+use Rattle.frames_seen.proofs.Returned as Returned
 use Rattle.run_book.specs.declared.book.SentFrame.{SentFrame}
 use Rattle.run_notes.proofs.Heard.{first_heard}
 use Rattle.run_notes.specs.Handed.{AllDoubts, AllHanded, AllWhere, MailsGo, is_mail, is_packet, kinds_in}
@@ -74,7 +74,7 @@ use Rattle.run_record.specs.Replay.{IsRecorded, behind as behind_ring, first_rin
 use Rattle.run_record.specs.Served.{ListsBehind, ServedLeading, ServesOn, Serving, ServingGoesOn, TellsBehind, as_asked, served_heard}
 use Rattle.run_record.specs.Session.{FrameEvents, IsDone, SessionState, has_live, numbers_over}
 use Rattle.run_record.specs.Written.{WereServedDue, forwards_now, served_written}
-use Rattle.run_notes.specs.of_script_runs.Answers.{turned}
+use Rattle.run_notes.specs.of_run_frames.ScriptAnswers.{turned}
 use Rattle.segment_plan.specs.declared.plan.Scenario.{Scenario}
 use Rattle.segment_plan.specs.declared.service.Service as Plan
 use Rattle.segment_plan.specs.declared.slave.SlaveSpec.{SlaveSpec}
@@ -82,8 +82,8 @@ use Rattle.segment_ring.specs.Ring.{ring_returned}
 use Rattle.segment_ring.specs.Schedule.{fate_at}
 use Rattle.segment_ring.specs.declared.wire.Fate.TheVariants as Fates
 use Rattle.segment_ring.specs.declared.wire.Fate.{Fate}
-use Rattle.master_node.specs.of_served_runs.Served.{AllServedTurn, IsServedFrame, IsServedLed, ServedTurn, Serves, all_serve, new_serves, served_behind}
-use Rattle.slave_node.specs.of_slave_steps.Node.{node_passed}
+use Rattle.master_node.specs.of_life_runs.Served.{AllServedTurn, IsServedFrame, IsServedLed, ServedTurn, Serves, all_serve, new_serves, served_behind}
+use Rattle.slave_node.specs.Node.{node_passed}
 
 -- BEFORE THE FIRST FRAME no mail was asked
 first_same : {T : Type 0} (g : Serves → T) (t : T) → ((pace : ℕ) (a : Leads) → g (new_serves pace a) ≡ t) → (paces : List ℕ) (rows : List (ℕ × Plan.Service)) (place : ℕ) (ss : List SlaveSpec) → map g (all_serve paces (leads_from rows place ss)) ≡ replicate (length ss) t

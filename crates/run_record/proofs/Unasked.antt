@@ -6,13 +6,13 @@ use Rattle.master_node.proofs.Handeds.{comes_own}
 use Rattle.master_node.specs.Serving.{run_lead, run_turn}
 use Rattle.master_node.specs.of_frame_view.Seen.{seen}
 use Rattle.master_node.specs.of_frame_view.View.{Lens}
-use Rattle.master_node.specs.of_life_frames.Shares.{Lived, came_at, given_where}
-use Rattle.master_node.specs.of_life_frames.of_exchange_model.Exchange.{Speech}
+use Rattle.master_node.specs.of_frame_view.Shares.{Lived, came_at, given_where}
+use Rattle.master_node.specs.of_frame_view.of_exchange_model.Exchange.{Speech}
 use Rattle.master_node.specs.of_life_model.Lives.{Life, Spot, Stand, life_back, life_lost}
 use Rattle.master_node.specs.of_life_runs.Led.{AllTurn, Comes, Exchanged, IsTurn, Leads, led_behind, life_behind, speech_at}
 use Rattle.master_node.specs.of_life_runs.of_link_mails.Body.{Body}
 use Rattle.master_node.specs.of_master_duty.Reply.{Reply}
-use Rattle.master_node.specs.of_master_duty.of_state_exchange.Stated.{Service}
+use Rattle.master_node.specs.of_master_duty.of_state_model.Stated.{Service}
 use Rattle.master_node.specs.of_master_hand.Spoken.{Asked, acknowledged, is_followed, is_passed}
 use Rattle.master_node.specs.of_master_side.Passing.{news_back, news_lost, passing_behind}
 use Rattle.master_node.specs.of_segment_model.Ends.{Passing}
@@ -24,8 +24,8 @@ use Rattle.segment_ring.specs.declared.wire.Fate.{Fate}
 use Rattle.segment_ring.specs.declared.wire.Fate.TheVariants as Fates
 use Rattle.served_places.proofs.Behind.{unpassed_behind}
 use Rattle.served_places.proofs.Next.{next_passing}
-use Rattle.master_node.specs.of_served_runs.Served.{AllServedTurn, IsQuiet, IsRunOf, IsServedTurn, Keyed, MayAsk, ServedComes, ServedTurn, Serves, asked_at, gives_it, served_behind, served_life}
-use Rattle.master_node.specs.of_served_runs.Told.{Passed}
+use Rattle.master_node.specs.of_life_runs.Served.{AllServedTurn, IsQuiet, IsRunOf, IsServedTurn, Keyed, MayAsk, ServedComes, ServedTurn, Serves, asked_at, gives_it, served_behind, served_life}
+use Rattle.master_node.specs.of_life_runs.Told.{Passed}
 
 -- no mail was asked of these slaves
 abbrev pub NoneAsked : List Serves → Type 0

@@ -6,7 +6,7 @@ use Rattle.master_node.specs.Happened.{HasHappened}
 use Rattle.master_node.specs.declared.lan.Lan.{Lan}
 use Rattle.segment_plan.specs.declared.plan.Scenario.{Scenario}
 use Rattle.segment_ring.specs.Ring.{RingState}
-use Rattle.slave_node.specs.of_slave_steps.Node.{Node}
+use Rattle.slave_node.specs.Node.{Node}
 use Rattle.slave_server.specs.Spec.{node_of}
 use Rattle.slave_server.specs.declared.server.SlaveServer.{SlaveServer}
 use Rattle.std.proofs.lemmas.List.{length-map}

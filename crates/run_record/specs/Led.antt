@@ -7,8 +7,8 @@ use Rattle.eoe_switch.specs.declared.switching.SwitchEvent.{SwitchEvent}
 use Rattle.master_node.specs.Forwards.{forwarded}
 use Rattle.master_node.specs.Happened.{arrivals_at}
 use Rattle.master_node.specs.of_frame_view.View.{Lens}
-use Rattle.master_node.specs.of_life_frames.Shares.{AllBoth}
-use Rattle.run_notes.specs.of_life_heard.Heard.{AllNoted, heard_in}
+use Rattle.master_node.specs.of_frame_view.Shares.{AllBoth}
+use Rattle.run_notes.specs.of_run_book.Heard.{AllNoted, heard_in}
 use Rattle.master_node.specs.of_life_model.Lives.{Stand}
 use Rattle.master_node.specs.of_life_runs.First.{lens_of, first_leads}
 use Rattle.master_node.specs.of_life_runs.Led.{Exchanged, Leads, IsLed}
@@ -36,7 +36,7 @@ use Rattle.run_notes.specs.Unsent.{IsSpent}
 use Rattle.run_record.specs.Written.{WereDue, packets_written}
 use Rattle.segment_plan.specs.declared.plan.Scenario.{Scenario}
 use Rattle.slave_server.specs.Serving.{next_mail}
-use Rattle.slave_node.specs.of_slave_steps.Node.{is_settled}
+use Rattle.slave_node.specs.Node.{is_settled}
 use Rattle.packets_heard.specs.Toured.{IsToured}
 use Rattle.run_notes.specs.Slaves.{gaves_in}
 

@@ -8,13 +8,13 @@ use Rattle.master_node.specs.of_life_model.Lives.{Life}
 use Rattle.master_node.specs.of_life_runs.Led.{Exchanged, gives_up_at}
 use Rattle.master_node.specs.of_life_runs.Spans.{is_open}
 use Rattle.master_node.specs.of_master_duty.Reply.{Reply}
-use Rattle.master_node.specs.of_master_duty.of_state_exchange.Stated.{Service}
+use Rattle.master_node.specs.of_master_duty.of_state_model.Stated.{Service}
 use Rattle.master_node.specs.of_master_hand.Spoken.{Asked, is_passed}
 use Rattle.master_node.specs.of_master_tour.Goes.{holds_at}
 use Rattle.run_notes.specs.Handed.{last_set}
 use Rattle.segment_ring.specs.declared.wire.Fate.{Fate}
 use Rattle.segment_ring.specs.declared.wire.Fate.TheVariants as Fates
-use Rattle.master_node.specs.of_served_runs.Served.{IsServedLed, Serves, ServedTurn, served_behind}
+use Rattle.master_node.specs.of_life_runs.Served.{IsServedLed, Serves, ServedTurn, served_behind}
 use Rattle.slave_node.specs.of_link_mails.Body.{Body}
 
 -- the row of what came into hand before a frame, where that is the mail with this number which was passed on

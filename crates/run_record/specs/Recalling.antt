@@ -5,7 +5,7 @@ use Rattle.master_node.specs.Eager.{recalls}
 use Rattle.master_node.specs.declared.node.MasterNode.{MasterNode}
 use Rattle.packets_heard.specs.Recalled.{State}
 use Rattle.segment_ring.specs.Ring.{RingState}
-use Rattle.slave_node.specs.of_slave_steps.Node.{Node}
+use Rattle.slave_node.specs.Node.{Node}
 use Rattle.slave_server.specs.declared.server.SlaveServer.{SlaveServer}
 
 -- what a master remembers, with these events of its switch and its ring

@@ -3,8 +3,8 @@ use Rattle.std.specs.Prelude.{◌≡◌, ℕ, List, [], ◌∷◌, map}
 use Rattle.segment_plan.specs.declared.plan.Scenario.{Scenario}
 use Rattle.segment_ring.specs.Ring.{RingState, ring_behind, ring_returned}
 use Rattle.segment_ring.specs.Schedule.{fate_at}
-use Rattle.slave_node.specs.of_slave_steps.Node.{Node, node_passed}
-use Rattle.slave_node.specs.of_slave_steps.Step.{pdi_step}
+use Rattle.slave_node.specs.Node.{Node, node_passed}
+use Rattle.slave_node.specs.Step.{pdi_step}
 use Rattle.slave_server.specs.Serving.{takes, next_mail, rest, cleared}
 use Rattle.slave_server.specs.Spec.{node_of}
 use Rattle.slave_server.specs.declared.server.SlaveServer.{SlaveServer}

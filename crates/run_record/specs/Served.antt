@@ -1,7 +1,7 @@
 -- THE FRAMES OF A SERVING ARE LED by its master: each is just what the lives of the slaves ask for, from the plan's new lives on, with the mails that are asked
 -- between the frames.
 use Rattle.std.specs.Prelude.{◌≡◌, ◌≤◌, ◌+◌, ℕ, Bool, true, false, None, Some, List, [], ◌∷◌, ◌++◌, length, map, filter, slice_get, All}
-use Rattle.run_notes.specs.of_life_heard.Heard.{Accepted, AllNoted, brought_by, heard_none, heard_on}
+use Rattle.run_notes.specs.of_run_book.Heard.{Accepted, AllNoted, brought_by, heard_none, heard_on}
 use Rattle.mailbox_mail.specs.declared.mail.Mail.{Mail}
 use Rattle.master_node.specs.Backtold.{returned_at}
 use Rattle.master_node.specs.Begins.{begun_of}
@@ -53,7 +53,7 @@ use Rattle.segment_plan.specs.Sound.{IsPlan}
 use Rattle.segment_plan.specs.declared.plan.Scenario.{Scenario}
 use Rattle.segment_ring.specs.declared.wire.Fate.{Fate}
 use Rattle.segment_ring.specs.declared.wire.Fate.TheVariants as Fates
-use Rattle.master_node.specs.of_served_runs.Served.{Keyed, Serves, ServedTurn, IsServedFrame, IsServedLed, MayAsk, asked_at, served_behind}
+use Rattle.master_node.specs.of_life_runs.Served.{Keyed, Serves, ServedTurn, IsServedFrame, IsServedLed, MayAsk, asked_at, served_behind}
 
 -- THE SWITCH OF A SERVING behind these frames, by all that happened there: its slaves have the ports of the plan, what is unfinished of their packets is by their
 -- lives, and just those packets came in and began, and just those ports went down, that the frames list

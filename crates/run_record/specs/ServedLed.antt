@@ -10,8 +10,8 @@ use Rattle.master_node.specs.of_master_tour.Toured.{Tour}
 use Rattle.packets_heard.specs.Served.{IsTourServed}
 use Rattle.packets_heard.specs.Toured.{IsTourFrame}
 use Rattle.segment_plan.specs.declared.plan.Scenario.{Scenario}
-use Rattle.master_node.specs.of_served_runs.Served.{Serves, ServedTurn, IsServedFrame, all_serve}
-pub use Rattle.master_node.specs.of_served_runs.Served.{ServeTo}
+use Rattle.master_node.specs.of_life_runs.Served.{Serves, ServedTurn, IsServedFrame, all_serve}
+pub use Rattle.master_node.specs.of_life_runs.Served.{ServeTo}
 
 -- THE FRAMES ARE THE VISITS OF ONE TOUR, from its begin on, which stands so behind them
 abbrev pub ServedTouredTo : Scenario → List Exchanged → Tour → List Serves → Type 0

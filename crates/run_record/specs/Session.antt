@@ -6,7 +6,7 @@ use Rattle.eoe_switch.specs.declared.switching.SwitchEvent.{SwitchEvent}
 use Rattle.segment_plan.specs.Bound.{bound_of}
 use Rattle.segment_plan.specs.declared.plan.Scenario.{Scenario}
 use Rattle.segment_ring.specs.Ring.{RingState}
-use Rattle.slave_node.specs.of_slave_steps.Node.{Node, is_settled}
+use Rattle.slave_node.specs.Node.{Node, is_settled}
 use Rattle.slave_server.specs.Serving.{next_mail}
 use Rattle.slave_server.specs.declared.server.SlaveServer.{SlaveServer}
 use Rattle.run_book.specs.Book.{IsShort}

@@ -21,7 +21,7 @@ use Rattle.packets_heard.specs.Served.{serves_behind}
 use Rattle.packets_heard.specs.Toured.{tour_behind}
 use Rattle.segment_ring.specs.declared.wire.Fate.{Fate}
 use Rattle.segment_ring.specs.declared.wire.Fate.TheVariants as Fates
-use Rattle.master_node.specs.of_served_runs.Served.{ServedTurn, Serves, served_behind}
+use Rattle.master_node.specs.of_life_runs.Served.{ServedTurn, Serves, served_behind}
 
 -- the life of a slave behind a frame, where so many frames were lost in a row before it
 abbrev pub life_behind : (ℕ → Lens) → ℕ → ℕ → ℕ → ℕ → Exchanged → ServedTurn → Serves

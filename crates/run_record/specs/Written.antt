@@ -5,24 +5,24 @@ use Rattle.master_node.specs.Begins.{begun_of}
 use Rattle.master_node.specs.Serving.{run_lead, run_turn}
 use Rattle.master_node.specs.of_frame_view.Seen.{seen}
 use Rattle.master_node.specs.of_frame_view.View.{Lens}
-use Rattle.master_node.specs.of_life_frames.Shares.{Lived}
-use Rattle.master_node.specs.of_life_frames.of_exchange_model.Exchange.{Speech}
+use Rattle.master_node.specs.of_frame_view.Shares.{Lived}
+use Rattle.master_node.specs.of_frame_view.of_exchange_model.Exchange.{Speech}
 use Rattle.master_node.specs.of_life_model.Lives.{Life}
 use Rattle.master_node.specs.of_life_runs.Led.{Exchanged, IsLed, Leads, Turn, gives_up_at, led_behind, speech_at}
 use Rattle.master_node.specs.of_life_runs.Spans.{is_open}
 use Rattle.master_node.specs.of_life_runs.of_link_mails.Body.{Body}
 use Rattle.master_node.specs.of_master_duty.Reply.{Reply}
-use Rattle.master_node.specs.of_master_duty.of_state_exchange.Stated.{Service}
+use Rattle.master_node.specs.of_master_duty.of_state_model.Stated.{Service}
 use Rattle.master_node.specs.of_master_hand.Spoken.{Asked}
 use Rattle.master_node.specs.of_master_tour.Goes.{holds_at}
-use Rattle.master_node.specs.of_task_model.Accounts.{is_free}
+use Rattle.master_node.specs.of_state_model.Accounts.{is_free}
 use Rattle.packets_heard.specs.Over.{packet_begun}
 use Rattle.plan_ring.specs.Dues.{AllDue}
 use Rattle.run_notes.specs.Handed.{AllWhere, is_packet}
 use Rattle.run_notes.specs.declared.notes.Notes.{Notes}
 use Rattle.run_record.specs.Mails.{overs_behind}
 use Rattle.segment_ring.specs.declared.wire.Fate.TheVariants as Fates
-use Rattle.master_node.specs.of_served_runs.Served.{IsServedLed, Serves, served_behind}
+use Rattle.master_node.specs.of_life_runs.Served.{IsServedLed, Serves, served_behind}
 
 -- a packet is in hand of an open slave, by its life: the newest service by mails is one, and a fragment of it isn't written yet
 abbrev pub has_fragments : Speech Body Asked Reply → Life Body Asked Reply → Bool

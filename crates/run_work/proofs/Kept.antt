@@ -10,8 +10,8 @@ use Rattle.run_work.specs.ServedGained.{serving_most}
 use Rattle.slave_model.specs.Profile.{Protocol, Profile}
 use Rattle.slave_model.specs.Server.{ServiceOf}
 use Rattle.slave_parts.specs.Parts.{Server, parts}
-use Rattle.slave_served.specs.Served.{product_whole}
-use Rattle.state_exchange.specs.Families.{InState}
+use Rattle.slave_parts.specs.Served.{product_whole}
+use Rattle.state_model.specs.Families.{InState}
 use Rattle.life_counts.specs.Worked.{KeepsAll}
 use Rattle.few_replies.proofs.Shaped.{mail_stays, exec_stays}
 use Rattle.run_work.specs.Sessions.{Wanted, InRow, session, session_states, named, named_mail, named_wanted}

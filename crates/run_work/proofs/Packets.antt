@@ -7,8 +7,8 @@ use Rattle.std.proofs.lemmas.List.Sums.{sum_by-cons}
 use Rattle.arrayvec.specs.ArrayVec.{ArrayVec}
 use Rattle.run_frames.specs.of_life_runs.Led.{Leads}
 use Rattle.run_work.specs.Packets.{cuts}
-use Rattle.plan_counts.specs.Split.{own_work, entering, split_work}
-use Rattle.script_runs.specs.Begun.{work_begun, addressed, work_in}
+use Rattle.life_counts.specs.Split.{own_work, entering, split_work}
+use Rattle.run_frames.specs.Begun.{work_begun, addressed, work_in}
 use Rattle.segment_plan.specs.Sound.{IsPacket}
 use Rattle.segment_plan.specs.Bound.{spread, work_of, addressed_work, services_work, host_work}
 use Rattle.segment_plan.specs.declared.plan.Scenario.{Scenario}

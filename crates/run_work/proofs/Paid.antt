@@ -3,7 +3,7 @@ use Rattle.std.proofs.Common.{◌≡◌, ◌+◌, ◌≤◌, All, List, [], ◌�
 use Rattle.std.proofs.lemmas.List.Elements.{All-head, All-tail}
 use Rattle.exchange_model.specs.Exchange.{IsLawful}
 use Rattle.life_counts.specs.Begun.{life_most, AreUnopened}
-use Rattle.life_measure.specs.Gains.{gains}
+use Rattle.life_model.specs.Gains.{gains}
 use Rattle.life_model.specs.Lives.{Life}
 use Rattle.link_mails.specs.Body.{Body}
 use Rattle.few_replies.specs.RowCounts.{AreCounted}
@@ -11,7 +11,7 @@ use Rattle.master_duty.specs.Reply as Master
 use Rattle.run_frames.specs.of_master_hand.Spoken as Spoken
 use Rattle.segment_plan.specs.Sound.{IsSlave}
 use Rattle.segment_plan.specs.declared.slave.SlaveSpec.{SlaveSpec}
-use Rattle.served_runs.specs.Served.{Serves}
+use Rattle.life_runs.specs.Served.{Serves}
 use Rattle.run_work.specs.ServedGained.{serving_most, AllPaid}
 use Rattle.few_replies.specs.Shapes.{shape_at}
 use Rattle.serving_model.specs.Tagged.{ideal, tagged}
@@ -19,10 +19,10 @@ use Rattle.few_replies.specs.Packets.{is_calm, is_fair}
 use Rattle.slave_model.specs.Acknowledged.{acknowledged}
 use Rattle.slave_model.specs.Profile.{Profile, IsProfile}
 use Rattle.slave_parts.specs.Parts.{Server, parts}
-use Rattle.slave_served.specs.Served.{product_whole}
+use Rattle.slave_parts.specs.Served.{product_whole}
 use Rattle.plan_ring.specs.of_slave_server.Spec.{profile_of}
-use Rattle.state_exchange.specs.Families.{InState, states_of}
-use Rattle.state_exchange.specs.Stated.{IsStated}
+use Rattle.state_model.specs.Families.{InState, states_of}
+use Rattle.state_model.specs.Stated.{IsStated}
 use Rattle.life_counts.proofs.Seen.{gains_seen, unopened_seen, most_seen}
 use Rattle.life_counts.proofs.Stated.{calm_stated}
 use Rattle.life_counts.proofs.Worked.{worked_gains}

@@ -11,8 +11,8 @@ use Rattle.segment_plan.specs.declared.service.Service as Plan
 use Rattle.segment_plan.specs.declared.slave.SlaveSpec.{SlaveSpec}
 use Rattle.segment_ring.specs.declared.wire.Fate.{Fate}
 use Rattle.segment_ring.specs.declared.wire.Fate.TheVariants.{Pass, Lost}
-use Rattle.served_runs.specs.Came.{IsFresh}
-use Rattle.served_runs.specs.Served.{Keyed, Serves, ServedTurn, AllServedTurn, IsServedLed, all_serve, asked_at, served_behind, served_life}
+use Rattle.life_runs.specs.Came.{IsFresh}
+use Rattle.life_runs.specs.Served.{Keyed, Serves, ServedTurn, AllServedTurn, IsServedLed, all_serve, asked_at, served_behind, served_life}
 
 -- as the plan has it
 pub record IsPlaced (rows : List (ℕ × Plan.Service)) (place : ℕ) (s : SlaveSpec) (a : Leads) : Type 0 where

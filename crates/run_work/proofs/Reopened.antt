@@ -4,8 +4,8 @@ use Rattle.std.specs.Prelude.{⊤, ◌&&◌}
 use Rattle.datagrams.specs.Datagram as Raw
 use Rattle.frame_view.specs.View.{Lens}
 use Rattle.frame_view.specs.Seen.{seen}
-use Rattle.life_frames.specs.Frames.{Share}
-use Rattle.life_frames.specs.Shares.{Lived, given_where, came_at}
+use Rattle.frame_view.specs.Frames.{Share}
+use Rattle.frame_view.specs.Shares.{Lived, given_where, came_at}
 use Rattle.life_model.specs.Lives.{Spot, Life}
 use Rattle.link_mails.specs.Body.{Body}
 use Rattle.run_frames.specs.of_life_runs.First.{leads_from, first_leads}

@@ -15,13 +15,13 @@ use Rattle.segment_ring.specs.declared.wire.Fate.TheVariants.{Pass}
 use Rattle.segment_ring.specs.Ring.{RingState, ring_returned}
 use Rattle.segment_ring.specs.Schedule.{fate_at}
 use Rattle.plan_ring.specs.of_slave_server.Serving.{Serving}
-use Rattle.slave_steps.specs.Node.{Node, node_passed}
+use Rattle.slave_node.specs.Node.{Node, node_passed}
 use Rattle.run_frames.specs.Answers.{AllReturned}
 use Rattle.run_frames.specs.Clocks.{Clocked}
 use Rattle.run_frames.specs.Fates.{AreFated}
 use Rattle.run_frames.specs.Runs.{Progress}
 use Rattle.run_frames.specs.Toured.{IsToured}
-use Rattle.served_runs.specs.Served.{Serves, IsServedLed}
+use Rattle.life_runs.specs.Served.{Serves, IsServedLed}
 
 pub round_fated : (ring : RingState (Node Serving)) (fs : List Exchanged) → AllRound ring fs → AreFated ring.lose ring.number fs
 round_fated ring [] r = tt

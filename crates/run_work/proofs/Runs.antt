@@ -4,11 +4,11 @@ use Rattle.std.proofs.lemmas.List.Elements.{All-head, All-tail}
 use Rattle.frame_view.specs.View.{Lens}
 use Rattle.life_counts.specs.Begun.{life_most, AreUnopened, KeepsShape}
 use Rattle.life_counts.proofs.Whole.{life_gains}
-use Rattle.life_measure.specs.Gains.{gains}
+use Rattle.life_model.specs.Gains.{gains}
 use Rattle.run_frames.specs.of_life_runs.First.{lens_of}
 use Rattle.run_frames.specs.of_life_runs.Led.{Leads}
 use Rattle.link_mails.specs.Body.{Body}
-use Rattle.plan_counts.specs.Asked.{asked_most}
+use Rattle.life_counts.specs.Asked.{asked_most}
 use Rattle.plan_ring.specs.Asked.{asked}
 use Rattle.plan_ring.specs.Plan.{PlanMember, FitsPlan, step}
 use Rattle.plan_ring.specs.Lives.{IsShown, AllShown}

@@ -2,18 +2,18 @@
 use Rattle.std.proofs.Common.{◌≡◌, ℕ, suc, ◌+◌, ◌*◌, ◌≤◌, All, List, [], ◌∷◌, ◌++◌, length, take, filter, refl, sym, ap, subst, arith, length-append}
 use Rattle.std.specs.Prelude.{sum_by}
 use Rattle.std.proofs.lemmas.List.Elements.{All-head, All-tail}
-use Rattle.book_model.specs.Script.{life_started}
+use Rattle.life_model.specs.Script.{life_started}
 use Rattle.frame_view.specs.View.{Lens}
 use Rattle.life_counts.specs.Begun.{begun_most, life_most}
-use Rattle.life_measure.specs.Gains.{gains}
+use Rattle.life_model.specs.Gains.{gains}
 use Rattle.life_model.specs.Lives.{Life}
 use Rattle.run_frames.specs.of_life_runs.First.{lens_of, script_for, leads_from}
 use Rattle.link_mails.specs.Body.{Body}
 use Rattle.master_duty.specs.Reply.{Reply}
 use Rattle.run_frames.specs.of_master_hand.Spoken.{Asked, is_passed}
-use Rattle.life_counts.proofs.of_passed_whole.PassingSteps as Steps
-use Rattle.plan_counts.specs.Asked.{asked_most}
-use Rattle.plan_counts.specs.Split.{own_work}
+use Rattle.life_counts.proofs.of_few_replies.PassingSteps as Steps
+use Rattle.life_counts.specs.Asked.{asked_most}
+use Rattle.life_counts.specs.Split.{own_work}
 use Rattle.run_frames.specs.Clocks.{reopened}
 use Rattle.run_frames.specs.States.{states_begun}
 use Rattle.run_frames.proofs.Stating.{LifeCame, life_few}
@@ -22,16 +22,16 @@ use Rattle.run_work.specs.Together.{packets_begun}
 use Rattle.run_work.proofs.Packets.{begun_parts}
 use Rattle.run_work.proofs.Sums.{life_one, life_states}
 use Rattle.run_work.proofs.Together.{whole_work, scripted}
-use Rattle.script_runs.specs.Came.{is_packet}
-use Rattle.script_runs.specs.Begun.{work_begun, work_in}
-use Rattle.script_runs.proofs.Shared.{scripts, all_work, begun_less, all_rows}
+use Rattle.run_frames.specs.Came.{is_packet}
+use Rattle.run_frames.specs.Begun.{work_begun, work_in}
+use Rattle.run_frames.proofs.Shared.{scripts, all_work, begun_less, all_rows}
 use Rattle.segment_plan.specs.Sound.{IsSlave, IsService, IsAddressed}
 use Rattle.segment_plan.specs.declared.plan.Scenario.{Scenario}
 use Rattle.segment_plan.specs.declared.service.Service as Plan
 use Rattle.segment_plan.specs.declared.slave.SlaveSpec.{SlaveSpec}
 use Rattle.life_counts.specs.Served.{served_gains}
-use Rattle.served_runs.specs.Came.{HasServed}
-use Rattle.served_runs.specs.Served.{Serves}
+use Rattle.life_runs.specs.Came.{HasServed}
+use Rattle.life_runs.specs.Served.{Serves}
 use Rattle.run_work.specs.ServedGained.{serving_most, AllPaid, served_in, asked_in, leads_of}
 use Rattle.run_work.proofs.Counted.{Enough, all_came, life_all, among_fewer}
 use Rattle.run_work.proofs.Placed.{AllPlaced}

@@ -5,7 +5,7 @@ use Rattle.life_counts.specs.Begun.{KeepsShape}
 use Rattle.few_replies.specs.Counts.{mails_between}
 use Rattle.few_replies.specs.RowCounts.{AreCounted}
 use Rattle.run_frames.specs.of_master_hand.Spoken.{Asked, sdo, file, drive, net, passed, hand_speech}
-use Rattle.plan_counts.specs.Asked.{asked_most}
+use Rattle.life_counts.specs.Asked.{asked_most}
 use Rattle.plan_ring.specs.Asked.{asked, is_service, service_of}
 use Rattle.plan_ring.proofs.Asked.{agrees}
 use Rattle.plan_ring.specs.Real.{real_clearing}

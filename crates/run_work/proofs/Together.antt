@@ -3,19 +3,19 @@ use Rattle.std.proofs.Common.{◌≡◌, ℕ, zero, suc, ◌+◌, ◌≤◌, ◌
 use Rattle.std.specs.Prelude.{◌||◌, not, option_map, sum_by}
 use Rattle.std.proofs.lemmas.List.Elements.{All-head, All-tail, All-cons, All-nil}
 use Rattle.std.proofs.lemmas.List.Sums.{sum_by-cons}
-use Rattle.book_model.specs.Script.{life_started}
+use Rattle.life_model.specs.Script.{life_started}
 use Rattle.life_counts.specs.Begun.{service_most, begun_most, life_most}
-use Rattle.life_measure.specs.Gains.{gains}
+use Rattle.life_model.specs.Gains.{gains}
 use Rattle.run_frames.specs.of_life_runs.First.{lens_of, script_for}
 use Rattle.run_frames.specs.of_life_runs.Led.{Leads}
 use Rattle.run_frames.specs.of_master_hand.Spoken.{Asked}
 use Rattle.run_frames.specs.of_master_hand.Talk.{asked_of}
-use Rattle.plan_counts.specs.Asked.{asked_most}
+use Rattle.life_counts.specs.Asked.{asked_most}
 use Rattle.run_work.specs.Gained.{AllGain}
-use Rattle.script_runs.specs.Came.{handed_over, AreThose, is_packet}
-use Rattle.script_runs.specs.Slaves.{HasCome, AllCome}
-use Rattle.script_runs.specs.Begun.{work_begun}
-use Rattle.plan_counts.specs.Split.{own_work, entering}
+use Rattle.run_frames.specs.Came.{handed_over, AreThose, is_packet}
+use Rattle.run_frames.specs.Slaves.{HasCome, AllCome}
+use Rattle.run_frames.specs.Begun.{work_begun}
+use Rattle.life_counts.specs.Split.{own_work, entering}
 use Rattle.segment_plan.specs.Bound.{state_work}
 use Rattle.segment_plan.specs.Sound.{IsSlave, IsService, IsAddressed}
 use Rattle.segment_plan.specs.declared.plan.Scenario.{Scenario}
@@ -23,7 +23,7 @@ use Rattle.segment_plan.specs.declared.service.Service as Plan
 use Rattle.segment_plan.specs.declared.slave.SlaveSpec.{SlaveSpec}
 use Rattle.few_replies.specs.Shapes.{shape_of}
 use Rattle.plan_ring.specs.of_slave_server.Spec.{core_of, profile_of}
-use Rattle.state_exchange.specs.Stated.{Service}
+use Rattle.state_model.specs.Stated.{Service}
 use Rattle.run_frames.specs.Clocks.{reopened}
 use Rattle.run_frames.specs.Fates.{gained_in}
 use Rattle.run_frames.specs.States.{state_of, states_begun}

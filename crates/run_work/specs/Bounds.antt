@@ -10,8 +10,8 @@ use Rattle.run_frames.specs.Clocks.{Clocked}
 use Rattle.run_frames.specs.Fates.{lost_of}
 use Rattle.run_frames.specs.Runs.{Progress}
 use Rattle.run_frames.specs.Toured.{IsToured, AskIn, WaitIn}
-use Rattle.plan_counts.specs.Split.{own_work}
-use Rattle.script_runs.specs.Begun.{work_in}
+use Rattle.life_counts.specs.Split.{own_work}
+use Rattle.run_frames.specs.Begun.{work_in}
 use Rattle.segment_plan.specs.Bound.{slowest}
 use Rattle.segment_plan.specs.declared.plan.Scenario.{Scenario}
 

@@ -2,7 +2,7 @@
 use Rattle.std.specs.Prelude.{◌≡◌, ℕ, true, All, List, Ok}
 use Rattle.gateway_core.specs.Framing.{request_in}
 use Rattle.mailbox_mail.specs.declared.mail.Mail.{Mail}
-use Rattle.served_runs.specs.Served.{Keyed, Serves}
+use Rattle.life_runs.specs.Served.{Keyed, Serves}
 use Rattle.few_replies.specs.Packets.{is_fair}
 
 -- a datagram whose mail, where it has one, begins none

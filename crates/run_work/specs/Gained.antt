@@ -1,15 +1,15 @@
 -- WHAT THE LIVES OF A RUN GAIN.
 use Rattle.std.specs.Prelude.{◌+◌, ◌≤◌, List, [], ◌∷◌, ⊤}
-use Rattle.eoe_model.specs.Network.{Station}
+use Rattle.protocol_models.specs.Network.{Station}
 use Rattle.life_counts.specs.Begun.{life_most}
-use Rattle.life_measure.specs.Gains.{gains}
+use Rattle.life_model.specs.Gains.{gains}
 use Rattle.run_frames.specs.of_life_runs.Led.{Leads}
-use Rattle.plan_counts.specs.Asked.{asked_most}
+use Rattle.life_counts.specs.Asked.{asked_most}
 use Rattle.segment_plan.specs.declared.slave.SlaveSpec.{SlaveSpec}
 use Rattle.few_replies.specs.Shapes.{Shape, shape_of}
 use Rattle.slave_parts.specs.Parts.{Core}
 use Rattle.plan_ring.specs.of_slave_server.Spec.{core_of, profile_of}
-use Rattle.state_exchange.specs.Families.{InState}
+use Rattle.state_model.specs.Families.{InState}
 
 -- the shape of an application, in whatever AL state
 abbrev pub app_shape : InState (Station Core) → Shape

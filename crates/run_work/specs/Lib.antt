@@ -1,8 +1,6 @@
 pub use Rattle.run_frames.specs.of_master_hand as of_master_hand
-pub use Rattle.script_runs.specs as of_script_runs
 pub use Rattle.run_frames.specs as of_run_frames
 pub use Rattle.life_counts.specs as of_life_counts
-pub use Rattle.plan_counts.specs as of_plan_counts
 pub mod Bounds
 pub mod Fair
 pub mod Flows

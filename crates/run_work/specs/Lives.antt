@@ -7,13 +7,13 @@ use Rattle.master_duty.specs.Reply as Master
 use Rattle.run_frames.specs.of_master_hand.Spoken as Spoken
 use Rattle.segment_model.specs.Slaves.{Processor}
 use Rattle.segment_plan.specs.declared.slave.SlaveSpec.{SlaveSpec}
-use Rattle.served_runs.specs.Served.{Serves}
+use Rattle.life_runs.specs.Served.{Serves}
 use Rattle.few_replies.specs.Shapes.{shape_at}
 use Rattle.slave_model.specs.Profile.{Profile}
 use Rattle.slave_model.specs.Server.{Reply}
 use Rattle.slave_parts.specs.Parts.{Server}
 use Rattle.plan_ring.specs.of_slave_server.Spec.{profile_of, server_of}
-use Rattle.state_exchange.specs.Families.{InState}
+use Rattle.state_model.specs.Families.{InState}
 use Rattle.state_model.specs.States.{Table}
 use Rattle.life_counts.specs.Seen.{life_seen}
 use Rattle.life_counts.specs.Worked.{IsWorked}

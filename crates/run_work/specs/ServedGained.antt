@@ -1,14 +1,14 @@
 -- WHAT THE LIVES OF A SERVING GAIN, by the services of its plan and the mails that were asked.
 use Rattle.std.specs.Prelude.{ℕ, ◌+◌, ◌≤◌, if◌then◌else◌, List, [], ◌∷◌, map, length, ⊤}
 use Rattle.life_counts.specs.Begun.{life_most}
-use Rattle.life_measure.specs.Gains.{gains}
+use Rattle.life_model.specs.Gains.{gains}
 use Rattle.run_frames.specs.of_life_runs.Led.{Leads}
 use Rattle.run_frames.specs.of_master_hand.Spoken.{Asked, is_passed}
-use Rattle.plan_counts.specs.Asked.{asked_most}
+use Rattle.life_counts.specs.Asked.{asked_most}
 use Rattle.run_frames.specs.Clocks.{reopened}
 use Rattle.segment_plan.specs.declared.slave.SlaveSpec.{SlaveSpec}
 use Rattle.life_counts.specs.Served.{served_gains}
-use Rattle.served_runs.specs.Served.{Serves}
+use Rattle.life_runs.specs.Served.{Serves}
 use Rattle.few_replies.specs.Shapes.{Shape, shape_of}
 use Rattle.slave_model.specs.Profile.{Profile}
 use Rattle.plan_ring.specs.of_slave_server.Spec.{core_of, profile_of}

@@ -12,9 +12,9 @@ use Rattle.slave_model.specs.Acknowledged.{acknowledged}
 use Rattle.slave_model.specs.Profile.{Protocol, Profile}
 use Rattle.slave_model.specs.Server.{ServiceOf, Reply}
 use Rattle.slave_parts.specs.Parts.{Server, parts}
-use Rattle.slave_served.specs.Served.{product_whole}
-use Rattle.state_exchange.specs.Families.{InState, states_of}
-use Rattle.state_exchange.specs.Stated.{Stated}
+use Rattle.slave_parts.specs.Served.{product_whole}
+use Rattle.state_model.specs.Families.{InState, states_of}
+use Rattle.state_model.specs.Stated.{Stated}
 
 -- a service of one of the protocols
 abbrev pub OwnService : Type 0

@@ -3,8 +3,8 @@ use Rattle.std.specs.Prelude.{ℕ, ◌+◌, ◌*◌, ◌≤◌, List, length, su
 use Rattle.arrayvec.specs.ArrayVec.{ArrayVec}
 use Rattle.run_frames.specs.of_life_runs.Led.{Leads}
 use Rattle.run_work.specs.Packets.{cuts}
-use Rattle.plan_counts.specs.Split.{entering}
-use Rattle.script_runs.specs.Begun.{work_begun}
+use Rattle.life_counts.specs.Split.{entering}
+use Rattle.run_frames.specs.Begun.{work_begun}
 use Rattle.segment_plan.specs.declared.plan.Scenario.{Scenario}
 use Rattle.segment_plan.specs.declared.slave.SlaveSpec.{SlaveSpec}
 use Rattle.run_work.specs.Together.{packets_begun}

@@ -1,10 +1,10 @@
 -- THE PACKETS OF A RUN.
 use Rattle.std.specs.Prelude.{ℕ, ◌+◌, List, [], ◌∷◌, filter}
-use Rattle.book_model.specs.Script.{life_started}
+use Rattle.life_model.specs.Script.{life_started}
 use Rattle.life_counts.specs.Begun.{begun_most}
 use Rattle.run_frames.specs.of_life_runs.Led.{Leads}
-use Rattle.plan_counts.specs.Asked.{asked_most}
-use Rattle.script_runs.specs.Came.{is_packet}
+use Rattle.life_counts.specs.Asked.{asked_most}
+use Rattle.run_frames.specs.Came.{is_packet}
 use Rattle.segment_plan.specs.declared.slave.SlaveSpec.{SlaveSpec}
 use Rattle.few_replies.specs.Shapes.{shape_of}
 use Rattle.plan_ring.specs.of_slave_server.Spec.{core_of, profile_of}

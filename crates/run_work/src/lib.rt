@@ -9,8 +9,8 @@ ghost use Rattle.run_frames.specs.of_life_runs.Led.{Exchanged, Leads, IsLed};
 ghost use Rattle.link_mails.specs.Body.{Body};
 ghost use Rattle.master_duty.specs.Reply.{Reply};
 ghost use Rattle.run_frames.specs.of_master_hand.Spoken.{Asked};
-ghost use Rattle.plan_counts.specs.Asked.{asked_most};
-ghost use Rattle.plan_counts.specs.Split.{own_work};
+ghost use Rattle.life_counts.specs.Asked.{asked_most};
+ghost use Rattle.life_counts.specs.Split.{own_work};
 ghost use Rattle.plan_ring.specs.Asked.{asked};
 ghost use Rattle.plan_ring.specs.Lives.{IsKnown};
 ghost use Rattle.plan_ring.specs.Round.{ring_of, AllRound};
@@ -22,7 +22,7 @@ ghost use Rattle.run_work.specs.Bounds.{IsPlanRun, bound_with};
 ghost use Rattle.run_work.specs.Gained.{app_shape, AllGain};
 ghost use Rattle.run_work.specs.Switched.{AreSwitched, cuts_begun};
 ghost use Rattle.run_work.specs.Together.{packets_begun};
-ghost use Rattle.script_runs.specs.Begun.{work_in};
+ghost use Rattle.run_frames.specs.Begun.{work_in};
 ghost use Rattle.segment_plan.specs.Bound.{slowest, services_work, host_work, bound_of};
 ghost use Rattle.segment_plan.specs.Sound.{IsPlan};
 ghost use Rattle.segment_plan.specs.declared.plan.Scenario.{Scenario};
@@ -62,9 +62,9 @@ pub fn run_work()
         gained_in leads ≤ length plan.slaves + work_in own_work plan.slaves plan.services + (cuts_begun plan.slaves leads + packets_begun plan.slaves leads) }
 {
     run_counts();
-    plan_counts::plan_counts();
-    script_runs::script_run_law();
-    script_runs::script_work::script_law();
+    life_counts::plan_counts::plan_counts();
+    run_frames::script_runs::script_run_law();
+    run_frames::script_work::script_law();
 }
 
 /// THE PACKETS OF A RUN COUNT NO MORE THAN THE FRAME BOUND HAS FOR THEM, where they are those of one switch: what downloads emit and what comes into hand
@@ -74,8 +74,8 @@ pub fn switched_law()
     ensures { (plan : Scenario) → IsPlan plan → (fs : List Exchanged) (missed : ℕ) (leads : List Leads) → IsLed (lens_of plan.slaves) plan.recover plan.retry (first_leads plan) fs missed leads → AreSwitched plan leads →
         work_in own_work plan.slaves plan.services + (cuts_begun plan.slaves leads + packets_begun plan.slaves leads) + length plan.host ≤ services_work plan.slaves plan.services + host_work (length plan.slaves) plan.host }
 {
-    plan_counts::plan_counts();
-    script_runs::script_work::script_law();
+    life_counts::plan_counts::plan_counts();
+    run_frames::script_work::script_law();
 }
 
 /// FRAMES THAT WENT ROUND THE RING OF A PLAN have the fates of the plan's schedule, and no more were lost than that has.

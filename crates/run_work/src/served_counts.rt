@@ -3,26 +3,26 @@
 
 ghost use Rattle.std.specs.Prelude.{◌≡◌, ◌≤◌, ◌+◌, ◌*◌, ℕ, All, List, [], length};
 ghost use Rattle.life_counts.specs.Begun.{life_most, AreUnopened};
-ghost use Rattle.life_measure.specs.Gains.{gains};
+ghost use Rattle.life_model.specs.Gains.{gains};
 ghost use Rattle.life_model.specs.Lives.{Life};
 ghost use Rattle.run_frames.specs.of_life_runs.First.{lens_of, first_leads};
 ghost use Rattle.run_frames.specs.of_life_runs.Led.{Exchanged};
 ghost use Rattle.link_mails.specs.Body.{Body};
 ghost use Rattle.master_duty.specs.Reply.{Reply};
 ghost use Rattle.run_frames.specs.of_master_hand.Spoken.{Asked};
-ghost use Rattle.plan_counts.specs.Split.{own_work};
+ghost use Rattle.life_counts.specs.Split.{own_work};
 ghost use Rattle.run_work.specs.Switched.{cuts_begun};
 ghost use Rattle.run_work.specs.Together.{packets_begun};
-ghost use Rattle.script_runs.specs.Begun.{work_in};
+ghost use Rattle.run_frames.specs.Begun.{work_in};
 ghost use Rattle.segment_plan.specs.Sound.{IsPlan};
 ghost use Rattle.segment_plan.specs.declared.plan.Scenario.{Scenario};
 ghost use Rattle.segment_plan.specs.declared.slave.SlaveSpec.{SlaveSpec};
-ghost use Rattle.served_runs.specs.Served.{Serves, IsServedLed, all_serve};
+ghost use Rattle.life_runs.specs.Served.{Serves, IsServedLed, all_serve};
 ghost use Rattle.run_work.specs.ServedGained.{serving_most, AllPaid, served_in, asked_in, leads_of};
 ghost use Rattle.few_replies.specs.Shapes.{shape_at};
 ghost use Rattle.slave_model.specs.Profile.{Profile, IsProfile};
 ghost use Rattle.slave_parts.specs.Parts.{Server};
-ghost use Rattle.state_exchange.specs.Families.{InState};
+ghost use Rattle.state_model.specs.Families.{InState};
 ghost use Rattle.run_work.specs.Fair.{IsFairGram};
 ghost use Rattle.run_work.specs.Lives.{IsServedLife, AllServedLives};
 
@@ -32,7 +32,7 @@ pub fn slave_law()
     ensures { (p : Profile) → IsProfile p → (first : InState Server) (l : Life Body Asked Reply) → IsServedLife p first l → AreUnopened l → gains l ≤ 1 + life_most (serving_most p (shape_at first)) l }
 {
     few_replies::whole_counts::passed_law();
-    slave_served::parts_served::parts_are_served();
+    slave_parts::parts_served::parts_are_served();
 }
 
 /// THE LIVES OF A SERVING of a plan, which its slaves work: what they have together gained, and how often state services began to reopen their slaves, is no
@@ -44,7 +44,7 @@ pub fn served_law()
         served_in ws ≤ length plan.slaves + work_in own_work plan.slaves plan.services + (cuts_begun plan.slaves (leads_of ws) + packets_begun plan.slaves (leads_of ws)) + 82 * asked_in ws }
 {
     few_replies::whole_counts::passed_law();
-    slave_served::parts_served::parts_are_served();
+    slave_parts::parts_served::parts_are_served();
     crate::served_work::served_work();
 }
 

@@ -5,16 +5,16 @@ ghost use Rattle.std.specs.Prelude.{◌≡◌, ◌≤◌, ◌+◌, ◌*◌, ℕ,
 ghost use Rattle.life_model.specs.Lives.{Spot};
 ghost use Rattle.run_frames.specs.of_life_runs.First.{lens_of, first_leads};
 ghost use Rattle.run_frames.specs.of_life_runs.Led.{Exchanged, new_leads};
-ghost use Rattle.plan_counts.specs.Split.{own_work};
+ghost use Rattle.life_counts.specs.Split.{own_work};
 ghost use Rattle.plan_ring.specs.Round.{ring_of, AllRound};
 ghost use Rattle.run_frames.specs.Answers.{AllReturned};
 ghost use Rattle.run_work.specs.Switched.{AreSwitched, cuts_begun};
 ghost use Rattle.run_work.specs.Together.{packets_begun};
-ghost use Rattle.script_runs.specs.Begun.{work_in};
+ghost use Rattle.run_frames.specs.Begun.{work_in};
 ghost use Rattle.segment_plan.specs.Bound.{services_work, host_work};
 ghost use Rattle.segment_plan.specs.Sound.{IsPlan};
 ghost use Rattle.segment_plan.specs.declared.plan.Scenario.{Scenario};
-ghost use Rattle.served_runs.specs.Served.{Serves, Keyed, IsServedLed, all_serve, new_serves, asked_at};
+ghost use Rattle.life_runs.specs.Served.{Serves, Keyed, IsServedLed, all_serve, new_serves, asked_at};
 ghost use Rattle.run_work.specs.ServedGained.{AllPaid, served_in, asked_in, leads_of};
 
 /// THE LIVES OF A SERVING TOGETHER, where each has gained no more than what came into hand of it counts: what they have gained, and how often state services
@@ -25,8 +25,8 @@ pub fn served_work()
         IsServedLed (lens_of plan.slaves) plan.recover plan.retry (all_serve plan.paces (first_leads plan)) fs missed ws → AllPaid plan.slaves ws →
         served_in ws ≤ length plan.slaves + work_in own_work plan.slaves plan.services + (cuts_begun plan.slaves (leads_of ws) + packets_begun plan.slaves (leads_of ws)) + 82 * asked_in ws }
 {
-    plan_counts::plan_counts();
-    served_runs::asked_law();
+    life_counts::plan_counts::plan_counts();
+    life_runs::served_runs::asked_law();
 }
 
 /// THE PACKETS OF A SERVING COUNT NO MORE THAN THE FRAME BOUND HAS FOR THEM, where they are those of one switch: as those of a run.
@@ -34,7 +34,7 @@ pub fn served_switched()
     ensures { (plan : Scenario) → IsPlan plan → (fs : List Exchanged) (missed : ℕ) (ws : List Serves) → IsServedLed (lens_of plan.slaves) plan.recover plan.retry (all_serve plan.paces (first_leads plan)) fs missed ws → AreSwitched plan (leads_of ws) →
         work_in own_work plan.slaves plan.services + (cuts_begun plan.slaves (leads_of ws) + packets_begun plan.slaves (leads_of ws)) + length plan.host ≤ services_work plan.slaves plan.services + host_work (length plan.slaves) plan.host }
 {
-    plan_counts::plan_counts();
+    life_counts::plan_counts::plan_counts();
 }
 
 /// WHAT CAME BACK OF A SERVING'S FRAMES, which went round the ring of its plan, is the return of what was sent.

@@ -5,10 +5,10 @@ use Rattle.link_model.specs.Slave.{node_look, node_serve}
 use Rattle.seen_slaves.specs.Steps.{IsStanding}
 use Rattle.segment_model.specs.Slaves.{Processor, Registers, Slave, serving}
 use Rattle.serving_model.specs.Erasing.{slave_as}
-use Rattle.state_exchange.specs.Stated.{Stated}
+use Rattle.state_model.specs.Stated.{Stated}
 use Rattle.state_model.specs.States.{Table, carry}
 use Rattle.idle_slaves.specs.Steps.{StepsAlone}
-use Rattle.task_model.specs.Accounts.{Duty}
+use Rattle.state_model.specs.Accounts.{Duty}
 
 pub alone_as : {V A N P S W B M Q R : Type 0} (x : Exchange V A N P S) (s : Stated V A P) (table : Table) (hand : Option Duty) (n : Slave V N) → IsStanding x s table hand n → (f : N → M) (server : V → W) (u : Exchange W B M Q R) (processor : Processor W) (tell : ℕ → W → W) (state : W → ℕ) →
     ((r : Registers) → processor.carry r ≡ carry table r) → ((al : ℕ) (w : W) → processor.tell al w ≡ tell al w) → ((w : W) → tell (state w) w ≡ w) → ((v : V) → state (server v) ≡ s.state (x.app v)) → StepsAlone u processor table hand (slave_as f server n)

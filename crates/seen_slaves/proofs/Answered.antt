@@ -27,7 +27,7 @@ use Rattle.served_rings.specs.of_served_places.Toured.{IsServedToured, back_unde
 use Rattle.served_rings.proofs.of_served_places.Slaves.{all_led_back, all_led_lost, leads_asked}
 use Rattle.served_rings.specs.Rings.{AreServedLived, ServedMember, served_members}
 use Rattle.served_rings.proofs.Lives.{asked_members}
-use Rattle.served_rings.specs.of_served_runs.Served.{Keyed, MayAsk, Serves, ServedTurn, AllServedTurn, IsServedFrame, IsServedLed, all_serve, asked_at}
+use Rattle.served_rings.specs.of_life_runs.Served.{Keyed, MayAsk, Serves, ServedTurn, AllServedTurn, IsServedFrame, IsServedLed, all_serve, asked_at}
 use Rattle.seen_slaves.specs.Eager.{leads_of, turns_of}
 use Rattle.seen_slaves.proofs.Clocks.{RunOn, answers, clocks, run_back, run_lost, stands_on}
 use Rattle.seen_slaves.proofs.Seats.{nodes_are}

@@ -7,7 +7,7 @@ use Rattle.exchange_model.specs.Exchange.{Speech}
 use Rattle.frame_view.specs.Seen.{seen}
 use Rattle.frame_view.specs.View.{Lens}
 use Rattle.idle_slaves.proofs.Fits.{Slave}
-use Rattle.life_measure.specs.Repairs.{way_of}
+use Rattle.life_model.specs.Repairs.{way_of}
 use Rattle.life_model.specs.Lives.{Life, Spot, Stand, gives_up}
 use Rattle.life_model.specs.Own.{own}
 use Rattle.life_runs.specs.First.{lens_of, leads_from}
@@ -37,7 +37,7 @@ use Rattle.served_rings.specs.of_served_places.Toured.{first_served}
 use Rattle.served_rings.specs.Rings.{AllServedAt, AreServedLived, IsServedAt, ServedMember, served_member, served_members}
 use Rattle.served_rings.proofs.All as Every
 use Rattle.served_rings.proofs.One as One
-use Rattle.served_rings.specs.of_served_runs.Served.{Serves, ServedTurn, AllServedTurn, IsServedFrame, IsServedTurn, all_serve, served_behind}
+use Rattle.served_rings.specs.of_life_runs.Served.{Serves, ServedTurn, AllServedTurn, IsServedFrame, IsServedTurn, all_serve, served_behind}
 use Rattle.seen_slaves.specs.Eager.{leads_of, turns_of}
 use Rattle.seen_slaves.proofs.Seats.{nodes_are}
 use Rattle.idle_slaves.specs.of_plan_ring.Clocks.{AllAnswered, AllAsked, AllStand, AnswersAs, AsksAs, clocks_on}
@@ -47,7 +47,7 @@ use Rattle.idle_slaves.proofs.of_plan_ring.Opened.{nothing_awaited}
 use Rattle.idle_slaves.proofs.of_plan_ring.SlaveTurns.{given}
 use Rattle.idle_slaves.specs.of_slave_server.Serving.{Serving}
 use Rattle.idle_slaves.specs.of_slave_server.Spec.{node_of}
-use Rattle.slave_steps.specs.Node.{Node}
+use Rattle.slave_node.specs.Node.{Node}
 use Rattle.whole_ring.specs.Members.{AllLived, Member}
 use Rattle.whole_ring.specs.Turning.{AllTurn, Turn, behind_frame, frame_at, given_up, next_life}
 use Rattle.whole_ring.proofs.Members as Members

@@ -9,7 +9,7 @@ use Rattle.life_runs.specs.Led.{Exchanged}
 use Rattle.life_runs.specs.of_datagrams.Datagram as Raw
 use Rattle.link_mails.specs.Body.{Body}
 use Rattle.master_tour.proofs.Backs.{seen_aims}
-use Rattle.news_kept.specs.Counts.{counts_behind, counts_on}
+use Rattle.master_side.specs.Counts.{counts_behind, counts_on}
 use Rattle.run_frames.specs.Led.{AreLed}
 use Rattle.run_frames.specs.Waits.{Waits, all_anew, all_on, waits_on}
 use Rattle.segment_model.specs.Record.{did_read}
@@ -18,13 +18,13 @@ use Rattle.segment_plan.specs.declared.service.Service as Plan
 use Rattle.segment_plan.specs.declared.slave.SlaveSpec.{SlaveSpec}
 use Rattle.segment_ring.specs.declared.wire.Fate.{Fate}
 use Rattle.segment_ring.specs.declared.wire.Fate.TheVariants.{Pass}
-use Rattle.served_rings.specs.of_served_runs.Served.{Serves, ServedTurn, AllServedTurn, IsServedTurn, recorded, served_behind}
+use Rattle.served_rings.specs.of_life_runs.Served.{Serves, ServedTurn, AllServedTurn, IsServedTurn, recorded, served_behind}
 use Rattle.served_rings.specs.of_served_places.Toured.{back_under}
 use Rattle.seen_slaves.specs.Eager.{leads_of}
 use Rattle.seen_slaves.proofs.Ready.{AllCounted, AllStationed, nexts_then}
 use Rattle.seen_slaves.proofs.Unread.{unread_on}
 use Rattle.idle_slaves.specs.of_slave_server.Serving.{Serving}
-use Rattle.slave_steps.specs.Node.{Node}
+use Rattle.slave_node.specs.Node.{Node}
 use Rattle.idle_slaves.proofs.Fits.{AllReady, IsReady, Slave, next_of, nexts_of}
 use Rattle.idle_slaves.proofs.Lists.{AllStanding, IsStanding}
 

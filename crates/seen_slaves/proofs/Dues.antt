@@ -20,7 +20,7 @@ use Rattle.master_duty.specs.Reply.{Reply}
 use Rattle.master_hand.specs.Spoken.{Asked, acknowledged, hand_speech, is_followed, is_passed}
 use Rattle.master_side.specs.Due.{EachDue}
 use Rattle.master_tour.specs.Brings.{accepted_at}
-use Rattle.never_waits.specs.Hears.{HearsFirst}
+use Rattle.slave_model.specs.Hears.{HearsFirst}
 use Rattle.idle_slaves.specs.of_plan_ring.Dues.{AllDue, IsDueOf}
 use Rattle.idle_slaves.specs.of_plan_ring.PlanMet.{AllMet, IsMet, slave_at}
 use Rattle.idle_slaves.specs.of_plan_ring.Plan.{AllMacs, FitsPlan, step}
@@ -34,18 +34,18 @@ use Rattle.segment_plan.specs.declared.plan.Scenario.{Scenario}
 use Rattle.segment_plan.specs.declared.slave.SlaveSpec.{SlaveSpec}
 use Rattle.served_rings.specs.Serves.{serves}
 use Rattle.served_rings.specs.Rings.{AllServedAt, IsServedAt, counters_of, served_member, served_members}
-use Rattle.served_rings.specs.of_served_runs.Served.{AllServedTurn, IsServedTurn, Serves, ServedTurn}
+use Rattle.served_rings.specs.of_life_runs.Served.{AllServedTurn, IsServedTurn, Serves, ServedTurn}
 use Rattle.seen_slaves.specs.Eager.{leads_of}
 use Rattle.seen_slaves.proofs.Seats.{Laws, all_fair, open_lives, plan_seen}
 use Rattle.slave_lives.specs.Lived.{node_seen}
 use Rattle.slave_model.specs.Profile.{IsProfile, Profile, areas_of}
 use Rattle.slave_parts.specs.Parts.{Server, parts}
-use Rattle.slave_served.specs.Served.{product_whole}
+use Rattle.slave_parts.specs.Served.{product_whole}
 use Rattle.idle_slaves.specs.of_slave_server.Serving.{Serving}
 use Rattle.idle_slaves.specs.of_slave_server.Spec.{profile_of}
-use Rattle.slave_steps.specs.Node.{Node}
-use Rattle.state_exchange.specs.Families.{InState}
-use Rattle.task_model.specs.Accounts.{Pick}
+use Rattle.slave_node.specs.Node.{Node}
+use Rattle.state_model.specs.Families.{InState}
+use Rattle.state_model.specs.Accounts.{Pick}
 use Rattle.whole_ring.specs.Members.{AllLived}
 use Rattle.whole_ring.specs.Whole.{LivesOpenBy}
 

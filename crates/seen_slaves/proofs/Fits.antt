@@ -1,15 +1,15 @@
 -- What an epoch that is seen with what is meant by its mails says of its slave.
 use Rattle.std.proofs.Common.{◌≡◌, ◌≢◌, ℕ, Bool, true, false, Option, Some, None, option_map, List, [], ◌∷◌, ◌++◌, map, length, refl, sym, ap, ◌∙◌, subst, inl, inr, append-nil, if◌then◌else◌}
-use Rattle.never_waits.specs.Moments.{IsMailsLast, WasHeard}
-use Rattle.never_waits.specs.Waits.{NeverWaits}
+use Rattle.slave_model.specs.Moments.{IsMailsLast, WasHeard}
+use Rattle.slave_model.specs.Waits.{NeverWaits}
 use Rattle.exchange_model.specs.Exchange.{Exchange, IsLawful, given, plain}
 use Rattle.exchange_model.specs.Rows.{Row}
 use Rattle.idle_slaves.proofs.Comes.{era_comes}
 use Rattle.idle_slaves.proofs.Links.{era_link}
 use Rattle.life_model.specs.Lives.{Era, Spot}
-use Rattle.passed_whole.specs.Erased.{EndOne}
-use Rattle.passed_whole.specs.Heard.{IsPassedBy}
-use Rattle.passed_whole.specs.Silent.{is_passed}
+use Rattle.few_replies.specs.Erased.{EndOne}
+use Rattle.few_replies.specs.Heard.{IsPassedBy}
+use Rattle.few_replies.specs.Silent.{is_passed}
 use Rattle.seen_slaves.proofs.Comes.{come}
 use Rattle.seen_slaves.proofs.Links.{link}
 use Rattle.seen_slaves.specs.Fits.{FitsSo, HasNone}
@@ -29,13 +29,13 @@ use Rattle.serving_model.specs.Passing.{ends_told}
 use Rattle.serving_model.specs.Tagged.{Asked, Rowed, Tagged, answer_gifts, ends_marked, ideal, is_own, own_gift, real}
 use Rattle.serving_model.proofs.TaggedLaw.{marked-answer}
 use Rattle.seen_slaves.specs.Last.{LastPasses}
-use Rattle.state_exchange.specs.Stated.{IsStated, Service}
+use Rattle.state_model.specs.Stated.{IsStated, Service}
 use Rattle.state_model.specs.States.{Table}
 use Rattle.run_work.specs.of_life_counts.Epochs.{IsRun, IsSeen, IsSpeaker, Speaker, between, era_named, newest_of, seeing, seeing_states}
 use Rattle.run_work.specs.of_life_counts.Spoken.{IsNamed, IsPassed}
 use Rattle.run_work.proofs.of_life_counts.TaggedWhole.{seeing_lawful, seeing_stated}
 use Rattle.seen_slaves.proofs.Never.{never_calm}
-use Rattle.task_model.specs.Accounts.{Started}
+use Rattle.state_model.specs.Accounts.{Started}
 
 -- what came into hand last is the newest
 newest_last : {Q : Type 0} (front : List (Started Q)) (s : Started Q) → newest_of (front ++ s ∷ []) ≡ Some s.service

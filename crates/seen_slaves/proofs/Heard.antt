@@ -1,7 +1,7 @@
 -- The record's counter of the last mail heard is the side's, all along a slave's life: whatever its frames are.
 use Rattle.std.proofs.Common.{◌≡◌, ℕ, ◌==◌, Bool, true, false, Option, None, List, [], ◌∷◌, refl, sym, ap, ◌∙◌, if◌then◌else◌}
 use Rattle.std.specs.Prelude.{nat_le}
-use Rattle.counters_kept.specs.Lives.{came_so, lost_so}
+use Rattle.life_runs.specs.Lives.{came_so, lost_so}
 use Rattle.exchange_model.specs.Exchange.{Speech}
 use Rattle.frame_view.specs.Seen.{seen}
 use Rattle.frame_view.specs.View.{Lens}
@@ -15,14 +15,14 @@ use Rattle.master_duty.specs.Reply.{Reply}
 use Rattle.master_hand.specs.Spoken.{Asked}
 use Rattle.master_side.specs.Passing.{news_back, news_lost}
 use Rattle.master_tour.proofs.Backs.{own_accepted, own_back, seen_aims}
-use Rattle.passed_whole.proofs.Passings.{counted_same}
+use Rattle.few_replies.proofs.Passings.{counted_same}
 use Rattle.run_frames.proofs.Access.{begins_same, holds_same}
 use Rattle.segment_model.specs.Ends.{Passing}
 use Rattle.segment_model.specs.Record.{Kept, News, frame_news, heard_behind, kept_after, mails_heard, nothing_kept}
 use Rattle.segment_model.specs.Seats.{Side, next_mail, side_begins}
 use Rattle.segment_model.specs.Slaves.{grams}
 use Rattle.segment_model.proofs.News.{heard_frame, kept_back}
-use Rattle.task_model.specs.Accounts.{Pick, mails_choice, new_account}
+use Rattle.state_model.specs.Accounts.{Pick, mails_choice, new_account}
 
 abbrev pub Heard : Kept → Option Passing → Side Body Asked Reply → Type 0
 Heard kept passing d = d.halves.inn.last ≡ kept.heard

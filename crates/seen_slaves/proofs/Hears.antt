@@ -4,8 +4,8 @@ use Rattle.std.specs.Prelude.{drop}
 use Rattle.std.proofs.lemmas.List.{length-map}
 use Rattle.exchange_model.specs.Exchange.{Exchange, given, plain}
 use Rattle.served_rings.specs.of_few_replies.Calm.{calm_tagged}
-use Rattle.never_waits.specs.Hears.{HearsFirst}
-use Rattle.never_waits.proofs.HearsDialogues.{not_none}
+use Rattle.slave_model.specs.Hears.{HearsFirst}
+use Rattle.slave_model.proofs.HearsDialogues.{not_none}
 use Rattle.serving_model.specs.Tagged.{IsServed, Asked, Meant, Rowed, Tagged, ideal, is_own, more_of, tagged, told, untag}
 use Rattle.serving_model.proofs.TaggedLaw.{cut_told, told-plain, untag-append, untag-told}
 use Rattle.seen_slaves.proofs.Never.{and_left, told_of}

@@ -5,13 +5,13 @@ use Rattle.exchange_model.specs.Exchange.{Exchange, Speech, plain}
 use Rattle.exchange_model.specs.Rows.{Row, left}
 use Rattle.served_rings.specs.of_few_replies.Calm.{calm_tagged}
 use Rattle.master_side.specs.Due.{EachDue, IsAwaited, IsDue, IsReply}
-use Rattle.passed_whole.specs.Client.{ByContents}
-use Rattle.passed_whole.specs.Erased.{OfRow, row_seen}
-use Rattle.passed_whole.proofs.Clients.{plain_untag}
+use Rattle.few_replies.specs.Client.{ByContents}
+use Rattle.few_replies.specs.Erased.{OfRow, row_seen}
+use Rattle.few_replies.proofs.Clients.{plain_untag}
 use Rattle.seen_slaves.proofs.Left.{left_as}
 use Rattle.serving_model.specs.Passing.{ends_told}
 use Rattle.serving_model.specs.Tagged.{Asked, Tagged, is_own, untag}
-use Rattle.state_exchange.specs.Stated.{Stated}
+use Rattle.state_model.specs.Stated.{Stated}
 use Rattle.run_work.specs.of_life_counts.Spoken.{Naming, Speaks}
 use Rattle.run_work.proofs.of_life_counts.Begins.{NowKnown, RowKnown}
 use Rattle.run_work.proofs.of_life_counts.Clients.{IsKnown, plans}

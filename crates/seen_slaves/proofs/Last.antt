@@ -2,7 +2,7 @@
 use Rattle.std.proofs.Common.{◌≡◌, ℕ, Bool, true, false, Option, Some, None, List, [], length, refl, sym, subst, arith, if◌then◌else◌}
 use Rattle.std.specs.Prelude.{◌&&◌, nat_lt}
 use Rattle.std.proofs.lemmas.Bool.Decides.{nat_tests}
-use Rattle.never_waits.specs.Moments.{IsMailsLast}
+use Rattle.slave_model.specs.Moments.{IsMailsLast}
 use Rattle.exchange_model.specs.Exchange.{Speech}
 use Rattle.life_model.specs.Lives.{Era, Life, Spot, Stand, era_back, granted, life_back, life_lost, life_next, passes, passing_begins}
 use Rattle.life_model.specs.Own.{own}
@@ -12,9 +12,9 @@ use Rattle.segment_model.specs.Seats.{Side}
 use Rattle.segment_model.specs.Slaves.{Datagram, Found}
 use Rattle.seen_slaves.specs.Last.{LastPasses}
 use Rattle.seen_slaves.proofs.Lives.{back_keeps, lost_keeps, next_keeps}
-use Rattle.state_exchange.specs.Stated.{Service}
-use Rattle.task_model.specs.Accounts.{Account, Duty, Pick, Started, account_begins, is_free, starts}
-use Rattle.task_model.proofs.Completed.{started_back}
+use Rattle.state_model.specs.Stated.{Service}
+use Rattle.state_model.specs.Accounts.{Account, Duty, Pick, Started, account_begins, is_free, starts}
+use Rattle.state_model.proofs.Completed.{started_back}
 
 abbrev Lasts : {Q : Type 0} → Option Passing → List (Started Q) → Type 0
 Lasts passing started = (p : Passing) → passing ≡ Some p → IsMailsLast started

@@ -4,7 +4,7 @@ use Rattle.std.specs.Prelude.{drop}
 use Rattle.std.proofs.lemmas.List.{length-map}
 use Rattle.exchange_model.specs.Exchange.{Speech, plain}
 use Rattle.exchange_model.specs.Rows.{Row, left}
-use Rattle.passed_whole.specs.Erased.{PlanOne, row_seen}
+use Rattle.few_replies.specs.Erased.{PlanOne, row_seen}
 use Rattle.segment_model.specs.Laws.{IsSettled}
 use Rattle.segment_model.specs.Slaves.{Slave}
 use Rattle.serving_model.specs.Erasing.{box_as, slave_as}

@@ -41,3 +41,11 @@ pub mod Turns
 mod Unread
 mod Walk
 pub mod WholeHears
+mod Choices
+mod Numbers
+mod OfCoe
+mod OfEoe
+mod OfFoe
+mod OfSoe
+mod CountedRows
+mod Steps

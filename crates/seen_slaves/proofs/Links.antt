@@ -8,7 +8,7 @@ use Rattle.link_model.specs.Link.{Link}
 use Rattle.link_model.specs.Mails.{LinkMail, bodies, counter_in, is_repeat, news, seen}
 use Rattle.link_model.specs.Master.{InHalf, InState, OutHalf}
 use Rattle.link_model.specs.Slave.{InSide, OutSide}
-use Rattle.passed_whole.specs.Erased.{halves_as, row_seen, side_seen}
+use Rattle.few_replies.specs.Erased.{halves_as, row_seen, side_seen}
 use Rattle.segment_model.specs.Seats.{Side}
 use Rattle.segment_model.specs.Slaves.{Serving, Slave}
 use Rattle.serving_model.specs.Erasing.{box_as, in_as, mail_as, node_as, out_as, slave_as}

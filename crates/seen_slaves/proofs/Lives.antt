@@ -5,7 +5,7 @@ use Rattle.exchange_model.specs.Exchange.{Speech}
 use Rattle.life_model.specs.Lives.{Era, Life, Opening, Spot, Stand, clears, era_back, era_lost, era_next, is_shown, last_step, life_back, life_lost, life_next, new_era, opening_back, opens, opens_state, reopening, reopens, reopens_at, returns_to_init, shows_clear, steps_on}
 use Rattle.segment_model.specs.Record.{News}
 use Rattle.segment_model.specs.Slaves.{Datagram, Found}
-use Rattle.task_model.specs.Accounts.{Duty, Pick, Stage}
+use Rattle.state_model.specs.Accounts.{Duty, Pick, Stage}
 
 module _ {M Q R : Type 0} (P : Era M Q R → Type 0) (new : (cleared : Option ℕ) (state : ℕ) → P (new_era cleared state)) (open_too : (e : Era M Q R) (frame : ℕ) → P e → P (record e { opened = Some frame })) where
   -- an opening, and a reopening

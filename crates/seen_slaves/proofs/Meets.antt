@@ -24,14 +24,14 @@ use Rattle.segment_ring.specs.Schedule.{fate_at}
 use Rattle.segment_ring.specs.declared.wire.Fate.TheVariants.{Pass}
 use Rattle.served_rings.specs.Rings.{AllServedAt, AreServedLived, ServedMember, served_member, served_members}
 use Rattle.served_rings.proofs.All as Every
-use Rattle.served_rings.specs.of_served_runs.Served.{Serves, ServedTurn, AllServedTurn, IsServedFrame}
+use Rattle.served_rings.specs.of_life_runs.Served.{Serves, ServedTurn, AllServedTurn, IsServedFrame}
 use Rattle.seen_slaves.specs.Eager.{leads_of}
 use Rattle.seen_slaves.proofs.Seats.{nodes_are, paces_are}
 use Rattle.idle_slaves.specs.of_plan_ring.Met.{AllOpenMet, OpenMet}
 use Rattle.idle_slaves.proofs.of_plan_ring.Each.{meets}
 use Rattle.idle_slaves.proofs.of_plan_ring.OpenEach.{each_met}
 use Rattle.idle_slaves.specs.of_slave_server.Serving.{Serving}
-use Rattle.slave_steps.specs.Node.{Node, node_passed}
+use Rattle.slave_node.specs.Node.{Node, node_passed}
 use Rattle.whole_ring.specs.Turning.{AllTurn, Turn, behind_frame, frame_at}
 use Rattle.whole_ring.proofs.Members as Members
 

@@ -3,7 +3,7 @@ use Rattle.std.proofs.Common.{◌≡◌, ℕ, zero, suc, ◌&&◌, Bool, true, f
 use Rattle.std.specs.Prelude.{drop}
 use Rattle.std.proofs.lemmas.List.{length-map}
 use Rattle.exchange_model.specs.Exchange.{Exchange, given, plain}
-use Rattle.never_waits.specs.Waits.{NeverWaits}
+use Rattle.slave_model.specs.Waits.{NeverWaits}
 use Rattle.served_rings.specs.of_few_replies.Calm.{calm_tagged}
 use Rattle.serving_model.specs.Tagged.{IsServed, Asked, Meant, Rowed, Tagged, ideal, is_own, more_of, tagged, told, untag}
 use Rattle.serving_model.proofs.TaggedLaw.{CutTold, cut_told, told-plain, untag-append, untag-told}

@@ -9,7 +9,7 @@ use Rattle.idle_slaves.proofs.Sent.{counter_is, met, none_sent, one_sent}
 use Rattle.exchange_model.specs.Exchange.{Speech}
 use Rattle.frame_view.specs.Seen.{datagrams_seen, seen}
 use Rattle.frame_view.specs.View.{Lens}
-use Rattle.life_measure.specs.Gains.{gains}
+use Rattle.life_model.specs.Gains.{gains}
 use Rattle.life_model.specs.Lives.{Life, Spot, Stand}
 use Rattle.life_model.specs.Own.{own}
 use Rattle.life_runs.specs.Led.{Exchanged, speech_at, is_passed}
@@ -26,14 +26,14 @@ use Rattle.segment_plan.specs.declared.service.Service as Plan
 use Rattle.segment_plan.specs.declared.slave.SlaveSpec.{SlaveSpec}
 use Rattle.segment_ring.specs.declared.wire.Fate.{Fate}
 use Rattle.segment_ring.specs.declared.wire.Fate.TheVariants.{Pass}
-use Rattle.served_rings.specs.of_served_runs.Served.{Keyed, Serves, ServedTurn, AllServedTurn, IsServedTurn, ServedComes, served_behind, served_life}
-use Rattle.served_rings.specs.of_served_runs.Told.{Passed}
+use Rattle.served_rings.specs.of_life_runs.Served.{Keyed, Serves, ServedTurn, AllServedTurn, IsServedTurn, ServedComes, served_behind, served_life}
+use Rattle.served_rings.specs.of_life_runs.Told.{Passed}
 use Rattle.served_rings.specs.of_served_places.Toured.{back_under}
 use Rattle.seen_slaves.specs.Eager.{AllStill, leads_of, turns_of}
 use Rattle.seen_slaves.proofs.Tells.{tells}
 use Rattle.idle_slaves.specs.of_slave_server.Serving.{Serving}
-use Rattle.slave_steps.specs.Node.{Node}
-use Rattle.state_exchange.specs.Stated.{Service}
+use Rattle.slave_node.specs.Node.{Node}
+use Rattle.state_model.specs.Stated.{Service}
 use Rattle.idle_slaves.proofs.Fits.{AllReady, AllSeated, IsReady, IsSeated, Slave, next_of, nexts_of}
 use Rattle.idle_slaves.proofs.Lists.{AllStanding, SameAll}
 use Rattle.idle_slaves.proofs.Ready.{script_end, state_left}

@@ -6,7 +6,7 @@ use Rattle.std.proofs.lemmas.List.Elements.{All-nil, All-cons, All-head, All-tai
 use Rattle.frame_view.specs.Seen.{seen}
 use Rattle.frame_view.specs.View.{Lens}
 use Rattle.served_rings.proofs.of_served_places.Each.{each}
-use Rattle.life_frames.specs.Shares.{came_at, given_where}
+use Rattle.frame_view.specs.Shares.{came_at, given_where}
 use Rattle.life_model.specs.Lives.{Life, Spot, Stand, life_back, life_lost, life_next}
 use Rattle.life_runs.specs.Led.{Exchanged, Leads, speech_at, is_passed}
 use Rattle.life_runs.specs.of_datagrams.Datagram as Raw
@@ -14,14 +14,14 @@ use Rattle.link_mails.specs.Body.{Body}
 use Rattle.master_duty.specs.Reply.{Reply}
 use Rattle.master_hand.specs.Spoken.{Asked, acknowledged, is_followed}
 use Rattle.master_side.specs.Passing.{news_back, news_lost}
-use Rattle.news_kept.specs.Counts.{kept_on}
-use Rattle.passed_whole.specs.Heard.{EraPasses}
-use Rattle.passed_whole.proofs.Rows as Passing
+use Rattle.master_side.specs.Counts.{kept_on}
+use Rattle.few_replies.specs.Heard.{EraPasses}
+use Rattle.few_replies.proofs.Rows as Passing
 use Rattle.segment_model.specs.Record.{Kept}
 use Rattle.segment_model.specs.Slaves.{Found}
 use Rattle.segment_ring.specs.declared.wire.Fate.{Fate}
 use Rattle.segment_ring.specs.declared.wire.Fate.TheVariants.{Pass, Lost}
-use Rattle.served_rings.specs.of_served_runs.Served.{Serves, ServedTurn, IsServedTurn, IsServedLed, all_serve, new_serves, recorded, served_life}
+use Rattle.served_rings.specs.of_life_runs.Served.{Serves, ServedTurn, IsServedTurn, IsServedLed, all_serve, new_serves, recorded, served_life}
 use Rattle.seen_slaves.specs.Rows.{IsNew, PassesSo}
 use Rattle.seen_slaves.proofs.Heard.{Heard, back_heard, lost_heard, lost_none, new_heard, news_heard, next_heard}
 use Rattle.seen_slaves.proofs.Stands.{At, back_at, lost_at, next_at}

@@ -1,6 +1,6 @@
 -- What was heard of the newest service is its answer, at every frame of a life.
 use Rattle.std.proofs.Common.{◌≡◌, ℕ, ◌&&◌, Bool, true, false, Option, Some, None, option_map, List, [], ◌∷◌, ◌++◌, refl, ap, subst, if◌then◌else◌}
-use Rattle.never_waits.specs.Moments.{NowAnswered}
+use Rattle.slave_model.specs.Moments.{NowAnswered}
 use Rattle.exchange_model.specs.Exchange.{Speech, plain}
 use Rattle.exchange_model.specs.Rows.{Row, answer_after, begun, row_heard, row_told}
 use Rattle.life_model.specs.Lives.{Era, Life, Spot, Stand, granted, life_back, life_lost, life_next}
@@ -10,7 +10,7 @@ use Rattle.segment_model.specs.Record.{News}
 use Rattle.segment_model.specs.Seats.{Choice, Side, is_over, next_mail, side_begins, side_holds, side_next}
 use Rattle.segment_model.specs.Slaves.{Datagram, Found, grams}
 use Rattle.seen_slaves.proofs.Lives.{back_keeps, lost_keeps, next_keeps}
-use Rattle.task_model.specs.Accounts.{Pick, mails_choice}
+use Rattle.state_model.specs.Accounts.{Pick, mails_choice}
 
 module _ {M Q R : Type 0} (x : Speech M Q R) where
   -- of a row

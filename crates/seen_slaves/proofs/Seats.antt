@@ -2,8 +2,8 @@
 use Rattle.std.proofs.Common.{◌≡◌, ◌≢◌, ℕ, suc, ◌&&◌, Bool, true, false, Option, Some, None, List, [], ◌∷◌, map, refl, sym, ap, ap₂, ◌∙◌, subst}
 use Rattle.std.specs.Prelude.{All}
 use Rattle.std.proofs.lemmas.List.Elements.{All-head, All-tail}
-use Rattle.never_waits.specs.Moments.{IsFree, NowAnswered}
-use Rattle.never_waits.specs.Waits.{NeverWaits}
+use Rattle.slave_model.specs.Moments.{IsFree, NowAnswered}
+use Rattle.slave_model.specs.Waits.{NeverWaits}
 use Rattle.idle_slaves.specs.Eager.{MayBegin, NoneLeft}
 use Rattle.idle_slaves.specs.Visited.{IsLeft, LifeSpent, is_boxed, is_served}
 use Rattle.idle_slaves.proofs.Fits.{AllSeated, IsFit, IsSeated, ToldWhole, exchange_at}
@@ -21,7 +21,7 @@ use Rattle.life_runs.specs.Led.{speech_at}
 use Rattle.link_mails.specs.Body.{Body}
 use Rattle.master_duty.specs.Reply.{Reply}
 use Rattle.master_hand.specs.Spoken.{Asked, acknowledged, hand_speech, is_followed, is_passed}
-use Rattle.passed_whole.specs.Heard.{EraPasses}
+use Rattle.few_replies.specs.Heard.{EraPasses}
 use Rattle.idle_slaves.specs.of_plan_ring.PlanMet.{slave_at}
 use Rattle.idle_slaves.specs.of_plan_ring.Plan.{AllMacs, FitsPlan, plan_of, step}
 use Rattle.served_rings.specs.Speakers.{any_speaker, processor_of, seer_of, spoken, table_of}
@@ -37,21 +37,21 @@ use Rattle.segment_plan.specs.declared.slave.SlaveSpec.{SlaveSpec}
 use Rattle.served_rings.specs.Serves.{serves}
 use Rattle.served_rings.specs.Rings.{AllServedAt, IsServedAt, ServedMember, counters_of, served_member, served_members}
 use Rattle.seen_slaves.specs.Rows.{PassesSo, ToldSo}
-use Rattle.served_rings.specs.of_served_runs.Served.{Serves}
+use Rattle.served_rings.specs.of_life_runs.Served.{Serves}
 use Rattle.seen_slaves.specs.Eager.{leads_of}
 use Rattle.slave_lives.specs.Lived.{node_seen}
 use Rattle.slave_model.specs.Profile.{IsProfile, Profile, areas_of}
 use Rattle.slave_parts.specs.Parts.{Server, parts}
-use Rattle.slave_served.specs.Served.{product_whole}
+use Rattle.slave_parts.specs.Served.{product_whole}
 use Rattle.idle_slaves.specs.of_slave_server.Serving.{Serving}
 use Rattle.idle_slaves.specs.of_slave_server.Spec.{profile_of}
-use Rattle.slave_steps.specs.Node.{Node}
+use Rattle.slave_node.specs.Node.{Node}
 use Rattle.seen_slaves.proofs.Told.{none_sent, none_waits}
-use Rattle.state_exchange.specs.Families.{InState}
+use Rattle.state_model.specs.Families.{InState}
 use Rattle.run_work.specs.of_life_counts.Epochs.{AllFair, IsRun, IsSeen, IsSpeaker, between, seeing, seeing_states}
 use Rattle.run_work.proofs.of_life_counts.TaggedWhole.{epoch_seen}
-use Rattle.task_model.specs.Accounts.{Started}
-use Rattle.task_model.specs.Tasks.{IsTaskPlan}
+use Rattle.state_model.specs.Accounts.{Started}
+use Rattle.state_model.specs.Tasks.{IsTaskPlan}
 use Rattle.whole_ring.specs.Members.{AllLived}
 use Rattle.whole_ring.specs.Whole.{LivesOpenBy, StandsBy}
 

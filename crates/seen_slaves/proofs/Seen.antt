@@ -10,16 +10,16 @@ use Rattle.life_model.specs.Own.{own}
 use Rattle.link_model.specs.Frames.{all_accepted}
 use Rattle.link_model.specs.Segment.{RingFate}
 use Rattle.master_side.specs.Due.{EachDue}
-use Rattle.never_waits.specs.Hears.{HearsFirst}
-use Rattle.passed_whole.specs.Client.{ByContents}
-use Rattle.passed_whole.specs.Erased.{OfRow}
-use Rattle.passed_whole.specs.Led.{AreSingle, EraTurn, IsLed, MayTurn}
-use Rattle.passed_whole.specs.Silent.{is_passed}
+use Rattle.slave_model.specs.Hears.{HearsFirst}
+use Rattle.few_replies.specs.Client.{ByContents}
+use Rattle.few_replies.specs.Erased.{OfRow}
+use Rattle.few_replies.specs.Led.{AreSingle, EraTurn, IsLed, MayTurn}
+use Rattle.few_replies.specs.Silent.{is_passed}
 use Rattle.idle_slaves.proofs.of_plan_ring.Eras.{era_due}
 use Rattle.segment_model.specs.Record.{Frame}
 use Rattle.segment_model.specs.Slaves.{Datagram, Processor, Registers, Slave, frame_after, grams, slave_after}
 use Rattle.seen_slaves.specs.Brings.{AllAreFair, SeenBringsDue}
-use Rattle.passed_whole.proofs.Naturals.{accepted_as}
+use Rattle.few_replies.proofs.Naturals.{accepted_as}
 use Rattle.seen_slaves.proofs.Known.{HasRest, each_due}
 use Rattle.seen_slaves.proofs.Ties.{tied}
 use Rattle.serving_model.specs.Erasing.{all_as}
@@ -40,9 +40,9 @@ use Rattle.run_work.proofs.of_life_counts.Turns as Turns
 use Rattle.run_work.proofs.of_life_counts.Ways.{met}
 use Rattle.run_work.proofs.of_life_counts.TaggedWhole.{seeing_lawful, seeing_stated}
 use Rattle.seen_slaves.proofs.Hears.{hears_calm}
-use Rattle.task_model.specs.Accounts.{Pick, Started}
-use Rattle.task_model.specs.Promise.{services_in}
-use Rattle.task_model.specs.Tasks.{IsTaskPlan}
+use Rattle.state_model.specs.Accounts.{Pick, Started}
+use Rattle.state_model.specs.Promise.{services_in}
+use Rattle.state_model.specs.Tasks.{IsTaskPlan}
 
 module _ {V M Q R C T A : Type 0} (w : Speaker V M Q R C T) (k : IsSpeaker w) (hears : HearsFirst w.exchange) (fair : AllAreFair w) (u : Exchange V A M T (Option R)) (processor : Processor V) (seer : Processor (Rowed V M Q)) (tables : ℕ → Table) (spot : Spot)
     (run : IsRun w u processor seer (tables spot.station)) (opened : ℕ) (v : V) (r : Registers) (plan : IsTaskPlan (seeing w) (seeing_states w) seer tables (planned spot (between v) r ∷ [])) (answers : r.station ≡ spot.station) where

@@ -3,7 +3,7 @@ use Rattle.std.proofs.Common.{◌≡◌, ◌==◌, Bool, true, false, Option, So
 use Rattle.exchange_model.specs.Exchange.{Exchange, after}
 use Rattle.serving_model.specs.Tagged.{Rowed, ideal_in, ideal, real}
 use Rattle.serving_model.specs.TaggedStates.{IsStatedServed}
-use Rattle.state_exchange.specs.Stated.{Stated}
+use Rattle.state_model.specs.Stated.{Stated}
 
 module _ {V M Q R : Type 0} (x : Exchange V V M Q R) (s : Stated V V Q) (k : IsStatedServed x s) where
   state_after : (v : V) (ms : List M) → s.state (after x.serve v ms) ≡ s.state v

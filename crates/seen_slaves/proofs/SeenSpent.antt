@@ -1,16 +1,16 @@
 -- Where nothing is left, as another sees it.
 use Rattle.std.proofs.Common.{◌≡◌, ℕ, ◌&&◌, Bool, true, false, not, Option, Some, None, option_map, List, [], ◌∷◌, ◌++◌, map, refl, sym, ap, ◌∙◌, subst, inl, inr, if◌then◌else◌}
 use Rattle.std.specs.Prelude.{is_none, is_some}
-use Rattle.never_waits.specs.Moments.{HasNothing, IsFree, IsMailsLast, WasHeard}
-use Rattle.never_waits.proofs.Laws.{heard, nothing}
+use Rattle.slave_model.specs.Moments.{HasNothing, IsFree, IsMailsLast, WasHeard}
+use Rattle.slave_model.proofs.Laws.{heard, nothing}
 use Rattle.exchange_model.specs.Exchange.{Exchange, Speech, IsLawful}
 use Rattle.exchange_model.specs.Rows.{Row, ends_unheard, left}
 use Rattle.life_model.specs.Eras.{EraIs}
 use Rattle.life_model.specs.Lives.{Era, Spot}
 use Rattle.link_model.specs.Mails.{LinkMail}
-use Rattle.never_waits.specs.Waits.{NeverWaits}
-use Rattle.passed_whole.specs.Erased.{OfRow, PlanOne, row_seen, side_seen}
-use Rattle.passed_whole.specs.Heard.{EraPasses, HeardBy, IsPassedBy}
+use Rattle.slave_model.specs.Waits.{NeverWaits}
+use Rattle.few_replies.specs.Erased.{OfRow, PlanOne, row_seen, side_seen}
+use Rattle.few_replies.specs.Heard.{EraPasses, HeardBy, IsPassedBy}
 use Rattle.seen_slaves.proofs.Left.{left_as}
 use Rattle.served_rings.proofs.SeenSettled.{settled_back}
 use Rattle.seen_slaves.specs.Spent.{IsEndTold, NothingSeen, SpeakOne}
@@ -20,10 +20,10 @@ use Rattle.segment_model.specs.Seats.{Side, is_none_left, is_over}
 use Rattle.segment_model.specs.Slaves.{Processor, Registers, Slave}
 use Rattle.serving_model.specs.Erasing.{box_as}
 use Rattle.seen_slaves.specs.Last.{LastPasses}
-use Rattle.state_exchange.specs.Stated.{Service, Stated, IsStated}
+use Rattle.state_model.specs.Stated.{Service, Stated, IsStated}
 use Rattle.state_model.specs.States.{Table}
 use Rattle.run_work.specs.of_life_counts.Seen.{era_seen, service_seen, started_seen}
-use Rattle.task_model.specs.Accounts.{Started, is_acknowledged, is_free}
+use Rattle.state_model.specs.Accounts.{Started, is_acknowledged, is_free}
 
 map_none : {X Y : Type 0} (f : X → Y) (xs : List X) → map f xs ≡ [] → xs ≡ []
 map_none f [] e = refl

@@ -7,14 +7,14 @@ use Rattle.seen_slaves.specs.Steps.{IsStanding}
 use Rattle.segment_model.specs.Record.{Frame}
 use Rattle.segment_model.specs.Seats.{Seat, Side, Planned, sides_of, ring_of}
 use Rattle.segment_model.specs.Slaves.{Processor, Registers, Ring, Slave}
-use Rattle.state_exchange.specs.Stated.{Stated, IsStated}
+use Rattle.state_model.specs.Stated.{Stated, IsStated}
 use Rattle.state_model.specs.States.{Table, carry}
-use Rattle.task_model.proofs.Sessions.{Whole, session_keeps}
-use Rattle.task_model.proofs.Stately.{StateStep, step_state}
-use Rattle.task_model.proofs.Walks.{EachOne}
-use Rattle.task_model.specs.Accounts.{Account, Duty, Stage}
-use Rattle.task_model.specs.Promise.{EachTask}
-use Rattle.task_model.specs.Tasks.{IsTasked, IsTaskPlan, run, new_tasks}
+use Rattle.state_model.proofs.Sessions.{Whole, session_keeps}
+use Rattle.state_model.proofs.Stately.{StateStep, step_state}
+use Rattle.state_model.proofs.Walks.{EachOne}
+use Rattle.state_model.specs.Accounts.{Account, Duty, Stage}
+use Rattle.state_model.specs.Promise.{EachTask}
+use Rattle.state_model.specs.Tasks.{IsTasked, IsTaskPlan, run, new_tasks}
 use Rattle.idle_slaves.specs.Steps.{Drains, NotGone}
 
 -- the AL state stays

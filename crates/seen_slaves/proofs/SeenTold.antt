@@ -1,15 +1,15 @@
 -- What has its answer was told whole, as another sees it.
 use Rattle.std.proofs.Common.{◌≡◌, ℕ, Bool, false, Option, Some, None, option_map, List, [], map, refl, sym, ap, ◌∙◌, subst}
-use Rattle.never_waits.proofs.Laws.{answered}
+use Rattle.slave_model.proofs.Laws.{answered}
 use Rattle.exchange_model.specs.Exchange.{Exchange, Speech, IsLawful}
 use Rattle.exchange_model.specs.Rows.{Row, ends_unheard, left}
 use Rattle.life_model.specs.Eras.{EraIs}
 use Rattle.life_model.specs.Lives.{Era, Spot}
-use Rattle.passed_whole.specs.Erased.{OfRow, PlanOne, row_seen, side_seen}
+use Rattle.few_replies.specs.Erased.{OfRow, PlanOne, row_seen, side_seen}
 use Rattle.seen_slaves.proofs.Left.{left_as}
 use Rattle.segment_model.specs.Record.{Frame}
 use Rattle.segment_model.specs.Slaves.{Processor, Registers, Slave}
-use Rattle.state_exchange.specs.Stated.{Stated, IsStated}
+use Rattle.state_model.specs.Stated.{Stated, IsStated}
 use Rattle.state_model.specs.States.{Table}
 
 module _ {N M P Q S R V A : Type 0} (f : N → M) (g : P → Q) (h : S → R) (x : Exchange V A N P S) (s : Stated V A P) (y : Speech M Q R) (acknowledged : Q → Bool) (processor : Processor V) (table : ℕ → Table) (spot : Spot) (e : Era N P S) (opened last : ℕ) (fs : List (Frame N)) (v : V) (r : Registers) (n : Slave V N)

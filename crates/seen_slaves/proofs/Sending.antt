@@ -7,7 +7,7 @@ use Rattle.exchange_model.specs.Rows.{Row, row_heard}
 use Rattle.life_model.specs.Lives.{passes}
 use Rattle.link_model.specs.Counters.{next_counter}
 use Rattle.link_model.specs.Mails.{LinkMail, news}
-use Rattle.passed_whole.proofs.Passings.{sends, skips}
+use Rattle.few_replies.proofs.Passings.{sends, skips}
 use Rattle.segment_model.specs.Ends.{Passing, passing_after}
 use Rattle.segment_model.specs.Record.{News}
 use Rattle.segment_model.specs.Seats.{Side}

@@ -3,22 +3,22 @@ use Rattle.std.proofs.Common.{◌≡◌, ℕ, Bool, true, false, None, List, [],
 use Rattle.std.specs.Prelude.{drop}
 use Rattle.exchange_model.specs.Exchange.{given, plain}
 use Rattle.link_mails.specs.Body.{Body}
-use Rattle.never_waits.specs.Waits.{NeverWaits}
-use Rattle.never_waits.proofs.Dialogues.{tells_all}
-use Rattle.never_waits.proofs.Slaves.{slave_never}
+use Rattle.slave_model.specs.Waits.{NeverWaits}
+use Rattle.slave_model.proofs.Dialogues.{tells_all}
+use Rattle.slave_model.proofs.Slaves.{slave_never}
 use Rattle.slave_model.specs.Application.{Parts, ArePartsLawful, station_valid}
 use Rattle.slave_model.specs.Product.{emission, product, protocols, refusal, served, side}
 use Rattle.slave_model.specs.Profile.{Profile, Protocol, IsProfile, serves}
 use Rattle.slave_model.specs.Server.{Server, Seat, ServiceOf, reseated, seat}
 use Rattle.slave_model.proofs.ProductLaw.{one_client}
 use Rattle.slave_model.proofs.Stations.{both, left_of}
-use Rattle.slave_served.specs.Served.{AreFilesServed, core_of, is_fine, product_whole, protocols_whole, served_whole, side_whole, slave_whole}
-use Rattle.slave_served.specs.Whole.{gated_whole}
-use Rattle.slave_served.proofs.JoinedLaw.{given_whole, mine_part}
-use Rattle.slave_served.proofs.Sides.{side_of, side_speech}
-use Rattle.slave_served.proofs.SlaveLaw.{client}
-use Rattle.exchange_sum.specs.Refusing.{gated}
-use Rattle.state_exchange.proofs.FamilyLaw.{plain_given_in}
+use Rattle.slave_parts.specs.Served.{AreFilesServed, core_of, is_fine, product_whole, protocols_whole, served_whole, side_whole, slave_whole}
+use Rattle.slave_parts.specs.Whole.{gated_whole}
+use Rattle.slave_parts.proofs.JoinedLaw.{given_whole, mine_part}
+use Rattle.slave_parts.proofs.Sides.{side_of, side_speech}
+use Rattle.slave_parts.proofs.SlaveLaw.{client}
+use Rattle.exchange_model.specs.Refusing.{gated}
+use Rattle.state_model.proofs.FamilyLaw.{plain_given_in}
 
 -- of elements all mails are told at once, whatever the protocol does, in each AL state
 elements_tell : {T F I : Type 0} (o : Parts T F I) (p : Profile) (al : ℕ) (b c : Bool) (v : Seat T F I Protocol.SoE) (q : ServiceOf Protocol.SoE) (hs : List Body) →

@@ -4,7 +4,7 @@ use Rattle.std.specs.Prelude.{◌&&◌, All}
 use Rattle.frame_view.specs.Seen.{seen}
 use Rattle.frame_view.specs.View.{Lens}
 use Rattle.served_rings.proofs.of_served_places.Each.{each}
-use Rattle.life_frames.specs.Shares.{came_at, given_where}
+use Rattle.frame_view.specs.Shares.{came_at, given_where}
 use Rattle.life_model.specs.Lives.{Life, Spot, life_lost, life_next}
 use Rattle.life_runs.specs.Led.{Exchanged, Leads, speech_at, is_passed}
 use Rattle.life_runs.specs.of_datagrams.Datagram as Raw
@@ -14,10 +14,10 @@ use Rattle.master_hand.specs.Spoken.{Asked, acknowledged, is_followed}
 use Rattle.master_side.specs.Passing.{news_back, news_lost}
 use Rattle.segment_ring.specs.declared.wire.Fate.{Fate}
 use Rattle.segment_ring.specs.declared.wire.Fate.TheVariants.{Pass, Lost}
-use Rattle.served_rings.specs.of_served_runs.Served.{Serves, ServedTurn, IsServedTurn, IsServedLed, all_serve, new_serves, served_life}
+use Rattle.served_rings.specs.of_life_runs.Served.{Serves, ServedTurn, IsServedTurn, IsServedLed, all_serve, new_serves, served_life}
 use Rattle.seen_slaves.specs.Rows.{IsNew, SaidSo}
 use Rattle.seen_slaves.proofs.Rows.{each_first}
-use Rattle.never_waits.specs.Moments.{NowAnswered}
+use Rattle.slave_model.specs.Moments.{NowAnswered}
 use Rattle.seen_slaves.proofs.Said as Said
 
 module _ (lens : ℕ → Lens) (silent : (spot : Spot) (q : Asked) → (speech_at lens spot).ends q [] ≡ None) where

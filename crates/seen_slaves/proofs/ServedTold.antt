@@ -2,7 +2,7 @@
 use Rattle.std.proofs.Common.{◌≡◌, ◌≢◌, ℕ, ◌&&◌, Bool, true, false, Option, Some, None, List, [], ◌∷◌, ◌++◌, length, refl, sym, ap, ◌∙◌, subst, arith, if◌then◌else◌, inl, inr}
 use Rattle.std.specs.Prelude.{nat_le, nat_lt}
 use Rattle.std.proofs.lemmas.Bool.Decides.{nat_tests}
-use Rattle.counters_kept.specs.Lives.{came_so, lost_so}
+use Rattle.life_runs.specs.Lives.{came_so, lost_so}
 use Rattle.exchange_model.specs.Exchange.{Speech}
 use Rattle.exchange_model.specs.Rows.{Row, begun, left}
 use Rattle.frame_view.specs.Seen.{seen}
@@ -17,8 +17,8 @@ use Rattle.master_duty.specs.Reply.{Reply}
 use Rattle.master_hand.specs.Spoken.{Asked}
 use Rattle.master_side.specs.Passing.{news_back, news_lost}
 use Rattle.master_tour.proofs.Backs.{own_back, own_lost, seen_aims}
-use Rattle.passed_whole.proofs.Passings.{counted_same, counted_told}
-use Rattle.passed_whole.specs.Led.{counted_news}
+use Rattle.few_replies.proofs.Passings.{counted_same, counted_told}
+use Rattle.few_replies.specs.Led.{counted_news}
 use Rattle.segment_model.specs.Ends.{Passing}
 use Rattle.segment_model.specs.Record.{Kept, News, all_told, back_news, kept_after, nothing_kept, told_behind}
 use Rattle.segment_model.specs.Returned.{Returns}
@@ -29,8 +29,8 @@ use Rattle.segment_model.proofs.Written.{Tells, back_frees, back_lasts, back_tel
 use Rattle.seen_slaves.proofs.Returned.{SameTold, own_told, returned_told}
 use Rattle.seen_slaves.proofs.Sending.{StageBy, stage_on, untold_heard}
 use Rattle.seen_slaves.specs.Told.{EraTold, IsToldBy, NoneTold}
-use Rattle.state_exchange.specs.Stated.{Service}
-use Rattle.task_model.specs.Accounts.{Account, Duty, Pick, account_begins, is_free, mails_begin, new_account, starts}
+use Rattle.state_model.specs.Stated.{Service}
+use Rattle.state_model.specs.Accounts.{Account, Duty, Pick, account_begins, is_free, mails_begin, new_account, starts}
 
 abbrev Sides : Type 0
 Sides = Side Body Asked Reply

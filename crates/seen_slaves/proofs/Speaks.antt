@@ -1,6 +1,6 @@
 -- What a master that speaks as a slave's clients do says of whatever it asks.
 use Rattle.std.proofs.Common.{◌≡◌, ◌≢◌, true, false, Option, Some, None, option_map, List, [], ◌∷◌, refl, sym, ap, ◌∙◌, inl, inr}
-use Rattle.never_waits.specs.Waits.{NeverWaits}
+use Rattle.slave_model.specs.Waits.{NeverWaits}
 use Rattle.seen_slaves.specs.Told.{PlansSome}
 use Rattle.run_work.specs.of_life_counts.Epochs.{IsSpeaker, Speaker}
 use Rattle.run_work.specs.of_life_counts.Spoken.{IsNamed}

@@ -24,7 +24,7 @@ use Rattle.segment_ring.specs.declared.wire.Fate.{Fate}
 use Rattle.segment_ring.specs.declared.wire.Fate.TheVariants.{Pass, Lost}
 use Rattle.seen_slaves.specs.Rows.{IsNew}
 use Rattle.seen_slaves.proofs.Rows.{each_first}
-use Rattle.served_rings.specs.of_served_runs.Served.{Serves, ServedTurn, IsServedFrame, IsServedTurn, all_serve, served_behind, served_life}
+use Rattle.served_rings.specs.of_life_runs.Served.{Serves, ServedTurn, IsServedFrame, IsServedTurn, all_serve, served_behind, served_life}
 use Rattle.served_rings.specs.of_served_places.Answered.{ServedWaits}
 use Rattle.served_rings.specs.of_served_places.Toured.{IsServedToured}
 use Rattle.served_rings.proofs.of_served_places.Slaves.{begins_so}

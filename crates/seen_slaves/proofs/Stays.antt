@@ -18,12 +18,12 @@ use Rattle.run_frames.specs.Waits.{Waits}
 use Rattle.segment_model.specs.Slaves.{Datagram, grams, serving}
 use Rattle.segment_plan.specs.declared.service.Service as Plan
 use Rattle.segment_plan.specs.declared.slave.SlaveSpec.{SlaveSpec}
-use Rattle.served_rings.specs.of_served_runs.Served.{Keyed, Serves, ServedTurn, AllServedTurn, asked_at, served_behind}
+use Rattle.served_rings.specs.of_life_runs.Served.{Keyed, Serves, ServedTurn, AllServedTurn, asked_at, served_behind}
 use Rattle.served_rings.specs.of_served_places.Toured.{back_under}
 use Rattle.seen_slaves.specs.Eager.{AllStaySo, StaysSo, leads_of, turns_of}
 use Rattle.seen_slaves.proofs.Ready.{AllCounted}
 use Rattle.idle_slaves.specs.of_slave_server.Serving.{Serving}
-use Rattle.slave_steps.specs.Node.{Node}
+use Rattle.slave_node.specs.Node.{Node}
 use Rattle.idle_slaves.specs.WaitEager.{AllSilent}
 use Rattle.idle_slaves.proofs.Fits.{Slave, exchange_at}
 use Rattle.idle_slaves.proofs.Lists.{AllQuiet, AllStanding, IsStanding}

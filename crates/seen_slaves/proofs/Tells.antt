@@ -7,7 +7,7 @@ use Rattle.link_model.specs.Frames.{Ask}
 use Rattle.link_model.specs.Mails.{news as link_news}
 use Rattle.master_side.specs.Passing.{news_back}
 use Rattle.master_tour.proofs.Unders.{SameAim}
-use Rattle.passed_whole.specs.Led.{counted_news}
+use Rattle.few_replies.specs.Led.{counted_news}
 use Rattle.segment_model.specs.Record.{Kept, News, all_told, back_news, datagram_news, found_news, gram_news, is_for, last_heard, mail_told}
 use Rattle.segment_model.specs.Slaves.{Access, Datagram, Found, grams}
 use Rattle.seen_slaves.proofs.Returned.{own_told}

@@ -3,10 +3,10 @@ use Rattle.std.proofs.Common.{◌≡◌, ℕ, Bool, true, Option, List, [], ◌�
 use Rattle.exchange_model.specs.Exchange.{Exchange}
 use Rattle.life_model.specs.Eras.{planned}
 use Rattle.life_model.specs.Lives.{Era, Spot}
-use Rattle.passed_whole.specs.Led.{IsAnswered, IsLed, NoneUnheard, turn_next}
-use Rattle.passed_whole.specs.Silent.{is_passed}
-use Rattle.passed_whole.proofs.Silences.{answered}
-use Rattle.passed_whole.proofs.Turns.{heard_law}
+use Rattle.few_replies.specs.Led.{IsAnswered, IsLed, NoneUnheard, turn_next}
+use Rattle.few_replies.specs.Silent.{is_passed}
+use Rattle.few_replies.proofs.Silences.{answered}
+use Rattle.few_replies.proofs.Turns.{heard_law}
 use Rattle.segment_model.specs.Record.{Frame}
 use Rattle.segment_model.specs.Slaves.{Processor, Registers, Slave}
 use Rattle.seen_slaves.specs.Brings.{AllAreFair}
@@ -16,7 +16,7 @@ use Rattle.run_work.specs.of_life_counts.Epochs.{IsRun, IsSpeaker, Speaker, betw
 use Rattle.run_work.proofs.of_life_counts.Led as Led
 use Rattle.run_work.proofs.of_life_counts.Sessions.{begin}
 use Rattle.run_work.proofs.of_life_counts.TaggedWhole.{seeing_lawful, seeing_stated}
-use Rattle.task_model.specs.Tasks.{IsTaskPlan}
+use Rattle.state_model.specs.Tasks.{IsTaskPlan}
 
 module _ {V M Q R C T A : Type 0} (w : Speaker V M Q R C T) (k : IsSpeaker w) (fair : AllAreFair w) (u : Exchange V A M T (Option R)) (processor : Processor V) (seer : Processor (Rowed V M Q)) (tables : ℕ → Table) (spot : Spot)
     (run : IsRun w u processor seer (tables spot.station)) (opened : ℕ) (v : V) (r : Registers) (plan : IsTaskPlan (seeing w) (seeing_states w) seer tables (planned spot (between v) r ∷ [])) (answers : r.station ≡ spot.station) where

@@ -1,11 +1,11 @@
 -- Where no mail is held and none is left to tell, a mail that is passed on is on its way no more.
 use Rattle.std.proofs.Common.{◌≡◌, ◌≢◌, Bool, Option, Some, None, List, [], length, sym, ap, ◌∙◌, subst, inl, inr}
 use Rattle.std.specs.Prelude.{drop}
-use Rattle.never_waits.specs.Moments.{NoneLeft}
+use Rattle.slave_model.specs.Moments.{NoneLeft}
 use Rattle.exchange_model.specs.Exchange.{Speech, plain}
 use Rattle.exchange_model.specs.Rows.{Row}
 use Rattle.life_model.specs.Lives.{Era}
-use Rattle.passed_whole.specs.Heard.{EraPasses}
+use Rattle.few_replies.specs.Heard.{EraPasses}
 use Rattle.segment_model.specs.Ends.{Passing}
 use Rattle.seen_slaves.specs.Told.{EraTold, NoneTold, PlansSome}
 

@@ -5,7 +5,7 @@ use Rattle.std.proofs.lemmas.Bool.{le-leb}
 use Rattle.std.proofs.lemmas.List.Elements.{All-nil, All-cons, All-head, All-tail}
 use Rattle.frame_view.specs.Seen.{datagrams_seen, seen}
 use Rattle.frame_view.specs.View.{Lens}
-use Rattle.life_frames.specs.Shares.{came_at}
+use Rattle.frame_view.specs.Shares.{came_at}
 use Rattle.life_model.specs.Lives.{AsksOpen, Life, Spot, Stand, life_next}
 use Rattle.life_runs.specs.Led.{Exchanged, Leads, speech_at, gives_up_at, is_passed}
 use Rattle.life_runs.specs.of_datagrams.Datagram as Raw
@@ -13,7 +13,7 @@ use Rattle.link_mails.specs.Body.{Body}
 use Rattle.master_duty.specs.Reply.{Reply}
 use Rattle.master_hand.specs.Spoken.{Asked, acknowledged, is_followed}
 use Rattle.master_side.specs.Passing.{news_back, news_lost}
-use Rattle.news_kept.specs.Counts.{kept_on}
+use Rattle.master_side.specs.Counts.{kept_on}
 use Rattle.run_frames.specs.Answers.{AllReturned}
 use Rattle.run_frames.proofs.Leading.{SeenIs, led_view}
 use Rattle.run_frames.proofs.Toured.{front_returned, last_returned}
@@ -22,7 +22,7 @@ use Rattle.segment_model.specs.Returned.{Returns}
 use Rattle.segment_model.specs.Slaves.{Datagram}
 use Rattle.segment_ring.specs.declared.wire.Fate.{Fate}
 use Rattle.segment_ring.specs.declared.wire.Fate.TheVariants.{Pass, Lost}
-use Rattle.served_rings.specs.of_served_runs.Served.{Keyed, Serves, ServedTurn, AllServedTurn, IsServedLed, IsServedTurn, all_serve, asked_at, new_serves, recorded, served_behind, served_life}
+use Rattle.served_rings.specs.of_life_runs.Served.{Keyed, Serves, ServedTurn, AllServedTurn, IsServedLed, IsServedTurn, all_serve, asked_at, new_serves, recorded, served_behind, served_life}
 use Rattle.seen_slaves.specs.Rows.{IsNew, ToldSo}
 use Rattle.seen_slaves.proofs.Rows.{each_first}
 use Rattle.seen_slaves.proofs.Stands.{At, back_at, lost_at, next_at}

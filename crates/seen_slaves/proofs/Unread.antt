@@ -31,7 +31,7 @@ use Rattle.segment_model.specs.Slaves.{Datagram, frame_after, grams, serving}
 use Rattle.segment_plan.specs.declared.service.Service as Plan
 use Rattle.segment_plan.specs.declared.slave.SlaveSpec.{SlaveSpec}
 use Rattle.idle_slaves.specs.of_slave_server.Serving.{Serving}
-use Rattle.slave_steps.specs.Node.{Node as Real}
+use Rattle.slave_node.specs.Node.{Node as Real}
 use Rattle.idle_slaves.proofs.Fits.{IsFit, IsReady, Slave, exchange_at, next_of}
 use Rattle.idle_slaves.proofs.Lists.{IsStanding}
 use Rattle.idle_slaves.proofs.One.{quiet_at}

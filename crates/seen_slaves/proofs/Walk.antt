@@ -25,7 +25,7 @@ use Rattle.run_frames.specs.Waits.{Waits, all_anew, all_on, waits_behind, SomeWa
 use Rattle.run_frames.proofs.Leading.{SeenIs, led_view}
 use Rattle.segment_plan.specs.declared.plan.Scenario.{Scenario}
 use Rattle.segment_ring.specs.declared.wire.Fate.TheVariants.{Pass, Lost}
-use Rattle.served_rings.specs.of_served_runs.Served.{Keyed, MayAsk, Serves, ServedTurn, IsServedFrame, IsServedLed, all_serve, asked_at}
+use Rattle.served_rings.specs.of_life_runs.Served.{Keyed, MayAsk, Serves, ServedTurn, IsServedFrame, IsServedLed, all_serve, asked_at}
 use Rattle.served_rings.specs.of_served_places.Answered.{ServedWaits}
 use Rattle.served_rings.specs.of_served_places.Toured.{IsServedToured, back_under, first_served, lost_under, serves_on, served_back, served_lost, still_served, waits_served}
 use Rattle.served_rings.proofs.of_served_places.Slaves.{all_led_back, all_led_lost, all_under, leads_asked}
@@ -34,7 +34,7 @@ use Rattle.seen_slaves.proofs.Counted.{counted_anew, counted_on}
 use Rattle.seen_slaves.proofs.Ready.{AllCounted, AllStationed, all_ready, nexts_served, nexts_then}
 use Rattle.seen_slaves.proofs.Stays.{all_silent, all_stay, counted_asked, paces_asked, paces_served}
 use Rattle.idle_slaves.specs.of_slave_server.Serving.{Serving}
-use Rattle.slave_steps.specs.Node.{Node}
+use Rattle.slave_node.specs.Node.{Node}
 use Rattle.idle_slaves.specs.WaitEager.{AllRest, AllSilent}
 use Rattle.idle_slaves.proofs.Fits.{AllReady, AllSeated, Slave, nexts_of}
 use Rattle.idle_slaves.proofs.Lists.{still_same, all_same, AllStanding, all_begin, all_quiet, all_stand, repaired}

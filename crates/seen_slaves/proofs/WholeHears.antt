@@ -4,12 +4,12 @@ use Rattle.std.specs.Prelude.{drop}
 use Rattle.exchange_model.specs.Areas.{Areas, AreMailboxes}
 use Rattle.exchange_model.specs.Exchange.{given, plain}
 use Rattle.exchange_model.proofs.Lists.{prefix_refl}
-use Rattle.exchange_sum.specs.Refusing.{Refusal, refused_serve}
+use Rattle.exchange_model.specs.Refusing.{Refusal, refused_serve}
 use Rattle.link_mails.specs.Body.{Body}
-use Rattle.never_waits.specs.Hears.{HearsFirst}
-use Rattle.never_waits.proofs.HearsDialogues.{at_last, not_none}
-use Rattle.never_waits.proofs.HearsForms.{lifted_hears, refusing_hears}
-use Rattle.never_waits.proofs.HearsSlaves.{slave_hears}
+use Rattle.slave_model.specs.Hears.{HearsFirst}
+use Rattle.slave_model.proofs.HearsDialogues.{at_last, not_none}
+use Rattle.slave_model.proofs.HearsForms.{lifted_hears, refusing_hears}
+use Rattle.slave_model.proofs.HearsSlaves.{slave_hears}
 use Rattle.slave_model.specs.Application.{Parts, ArePartsLawful, station_elements, station_valid}
 use Rattle.slave_model.specs.Product.{emission, protocols, refusal, served, side}
 use Rattle.slave_model.specs.Profile.{Profile, Protocol, IsProfile, areas_of, serves}
@@ -17,18 +17,18 @@ use Rattle.slave_model.specs.Server.{Server, Seat, ServiceOf, heard_by, reseated
 use Rattle.slave_model.proofs.ProductLaw.{refusals}
 use Rattle.slave_model.proofs.Sides.{sized, told_spells}
 use Rattle.slave_model.proofs.Stations.{both, elements_law, left_of}
-use Rattle.slave_served.specs.Served.{AreFilesServed, core_of, is_fine, product_whole, protocols_whole, served_whole, side_whole, slave_whole}
-use Rattle.slave_served.specs.SoeServed.{soe_served}
-use Rattle.slave_served.specs.Whole.{gated_whole}
-use Rattle.slave_served.proofs.JoinedLaw.{mine_part, plain_whole, told_part}
-use Rattle.slave_served.proofs.ServedLaw.{kept}
-use Rattle.slave_served.proofs.Sides.{side_of, side_speech}
-use Rattle.slave_served.proofs.SlaveLaw.{client}
-use Rattle.slave_served.proofs.SoeSpelled.{served_spells}
-use Rattle.soe_model.specs.Elements.{Elements, AreLawful}
-use Rattle.soe_model.specs.Mails as SoeMails
-use Rattle.soe_model.specs.Octets as SoeOctets
-use Rattle.state_exchange.proofs.FamilyLaw.{plain_given_in}
+use Rattle.slave_parts.specs.Served.{AreFilesServed, core_of, is_fine, product_whole, protocols_whole, served_whole, side_whole, slave_whole}
+use Rattle.slave_parts.specs.SoeServed.{soe_served}
+use Rattle.slave_parts.specs.Whole.{gated_whole}
+use Rattle.slave_parts.proofs.JoinedLaw.{mine_part, plain_whole, told_part}
+use Rattle.slave_parts.proofs.ServedLaw.{kept}
+use Rattle.slave_parts.proofs.Sides.{side_of, side_speech}
+use Rattle.slave_parts.proofs.SlaveLaw.{client}
+use Rattle.slave_parts.proofs.SoeSpelled.{served_spells}
+use Rattle.protocol_models.specs.Elements.{Elements, AreLawful}
+use Rattle.protocol_models.specs.SoeMails as SoeMails
+use Rattle.protocol_models.specs.SoeOctets as SoeOctets
+use Rattle.state_model.proofs.FamilyLaw.{plain_given_in}
 use Rattle.seen_slaves.proofs.Served.{alone, full_same, heard_same}
 
 -- of elements nothing comes before the last mail, whatever join stood before

@@ -5,11 +5,11 @@ use Rattle.life_model.specs.Lives.{AsksOpen, Era, Spot, era_next}
 use Rattle.life_model.specs.Own.{own}
 use Rattle.link_model.specs.Frames.{all_accepted}
 use Rattle.master_side.specs.Due.{EachDue}
-use Rattle.passed_whole.specs.Led.{AreSingle}
+use Rattle.few_replies.specs.Led.{AreSingle}
 use Rattle.segment_model.specs.Record.{Frame}
 use Rattle.segment_model.specs.Slaves.{Datagram, Slave, frame_after, grams}
 use Rattle.run_work.specs.of_life_counts.Epochs.{AllFair, Speaker}
-use Rattle.task_model.specs.Accounts.{Pick, Started}
+use Rattle.state_model.specs.Accounts.{Pick, Started}
 
 module _ {V M Q R C T : Type 0} (w : Speaker V M Q R C T) where
   -- each mail is fair to the slave, whatever comes into hand

@@ -7,7 +7,7 @@ use Rattle.idle_slaves.specs.of_plan_ring.Dues.{AllDue}
 use Rattle.idle_slaves.specs.of_plan_ring.Round.{AllRound, ring_of}
 use Rattle.segment_plan.specs.declared.plan.Scenario.{Scenario}
 use Rattle.segment_ring.specs.declared.wire.Fate.TheVariants.{Pass}
-use Rattle.served_rings.specs.of_served_runs.Served.{Serves, ServedTurn, IsServedFrame, IsServedLed, all_serve}
+use Rattle.served_rings.specs.of_life_runs.Served.{Serves, ServedTurn, IsServedFrame, IsServedLed, all_serve}
 
 -- THE SLAVES OF A PLAN SEND NO MAIL THAT ISN'T DUE, by each frame of a serving that came back
 abbrev pub ServedMailsAreDue : Scenario → Type 0

@@ -11,7 +11,7 @@ use Rattle.idle_slaves.specs.of_plan_ring.Round.{ring_of, ring_after}
 use Rattle.run_frames.specs.Clocks.{Clocked}
 use Rattle.run_frames.specs.Runs.{Progress}
 use Rattle.segment_plan.specs.declared.plan.Scenario.{Scenario}
-use Rattle.served_rings.specs.of_served_runs.Served.{Serves, ServedTurn, served_behind}
+use Rattle.served_rings.specs.of_life_runs.Served.{Serves, ServedTurn, served_behind}
 use Rattle.served_rings.specs.of_served_places.Toured.{IsServedToured, still_served}
 use Rattle.idle_slaves.specs.WaitEager.{AllRest, AllSilent}
 

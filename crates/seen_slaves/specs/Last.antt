@@ -1,16 +1,16 @@
 -- THE NEWEST SERVICE while a mail that is passed on isn't over.
 use Rattle.std.specs.Prelude.{◌≡◌, ℕ, true, Bool, Some, List}
-use Rattle.never_waits.specs.Moments.{HasNothing, IsMailsLast}
+use Rattle.slave_model.specs.Moments.{HasNothing, IsMailsLast}
 use Rattle.exchange_model.specs.Exchange.{Exchange, IsLawful}
 use Rattle.exchange_model.specs.Rows.{Row}
 use Rattle.life_model.specs.Eras.{EraIs}
 use Rattle.life_model.specs.Lives.{Era, Spot}
-use Rattle.never_waits.specs.Waits.{NeverWaits}
-use Rattle.passed_whole.specs.Heard.{EraPasses, LastTold}
+use Rattle.slave_model.specs.Waits.{NeverWaits}
+use Rattle.few_replies.specs.Heard.{EraPasses, LastTold}
 use Rattle.segment_model.specs.Ends.{Passing}
 use Rattle.segment_model.specs.Record.{Frame}
 use Rattle.segment_model.specs.Slaves.{Processor, Registers, Slave}
-use Rattle.state_exchange.specs.Stated.{Stated, IsStated}
+use Rattle.state_model.specs.Stated.{Stated, IsStated}
 use Rattle.state_model.specs.States.{Table}
 
 -- it is by mails

@@ -1,5 +1,5 @@
 pub use Rattle.idle_slaves.specs as of_idle_slaves
-pub use Rattle.never_waits.specs as of_never_waits
+pub use Rattle.slave_model.specs as of_slave_model
 pub mod Brings
 pub mod Dues
 pub mod Eager
@@ -9,3 +9,4 @@ pub mod Rows
 pub mod Spent
 pub mod Steps
 pub mod Told
+pub mod Counted

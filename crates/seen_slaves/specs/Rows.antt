@@ -4,10 +4,10 @@ use Rattle.frame_view.specs.View.{Lens}
 use Rattle.life_model.specs.Lives.{Stand, new_life}
 use Rattle.life_runs.specs.Led.{Leads, speech_at, is_passed}
 use Rattle.master_hand.specs.Spoken.{is_followed}
-use Rattle.passed_whole.specs.Heard.{EraPasses}
-use Rattle.served_rings.specs.of_served_runs.Served.{Serves}
+use Rattle.few_replies.specs.Heard.{EraPasses}
+use Rattle.served_rings.specs.of_life_runs.Served.{Serves}
 use Rattle.seen_slaves.specs.Last.{LastPasses}
-use Rattle.never_waits.specs.Moments.{NowAnswered}
+use Rattle.slave_model.specs.Moments.{NowAnswered}
 use Rattle.seen_slaves.specs.Told.{EraTold}
 
 -- a slave before the first frame: it has a station, and nothing happened in its life

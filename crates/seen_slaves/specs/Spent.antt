@@ -1,11 +1,11 @@
 -- AN OPEN SLAVE WITH NOTHING LEFT, as another sees its mails, its services and its replies.
 use Rattle.std.specs.Prelude.{◌≡◌, ◌⊎◌, Bool, true, None, [], map}
-use Rattle.never_waits.specs.Moments.{NoneLeft, NowAnswered}
+use Rattle.slave_model.specs.Moments.{NoneLeft, NowAnswered}
 use Rattle.exchange_model.specs.Exchange.{Speech, plain}
 use Rattle.exchange_model.specs.Rows.{Row}
 use Rattle.life_model.specs.Lives.{Era}
 use Rattle.link_model.specs.Master.{InState}
-use Rattle.passed_whole.specs.Erased.{OfRow, PlanOne, side_seen}
+use Rattle.few_replies.specs.Erased.{OfRow, PlanOne, side_seen}
 use Rattle.segment_model.specs.Laws.{IsSettled}
 use Rattle.segment_model.specs.Slaves.{Slave}
 use Rattle.serving_model.specs.Erasing.{slave_as}

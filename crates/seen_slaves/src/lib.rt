@@ -1,19 +1,8 @@
-//! An open slave as another sees its mails and services: its link, what is left of it, and its state services are the same. Definitions and laws, no running
-//! code: the functions here do nothing, and their contracts state the laws.
+//! An open slave as another sees its mails and services: its link, what is left of it, and its state services are the same; and what the number of
+//! services that it handled tells of them. Definitions and laws, no running code: the functions here do nothing, and their contracts state the laws.
 #![tactic(auto)]
 
-ghost use Rattle.exchange_model.specs.Exchange.{Speech};
-ghost use Rattle.exchange_model.specs.Rows.{Row, left};
-ghost use Rattle.idle_slaves.specs.Going.{IsCome};
-ghost use Rattle.idle_slaves.specs.Links.{HasLink};
-ghost use Rattle.passed_whole.specs.Erased.{PlanOne, row_seen, side_seen};
-ghost use Rattle.segment_model.specs.Laws.{IsSettled};
-ghost use Rattle.segment_model.specs.Seats.{Side};
-ghost use Rattle.segment_model.specs.Slaves.{Registers, Slave};
-ghost use Rattle.serving_model.specs.Erasing.{slave_as};
-ghost use Rattle.state_model.specs.States.{Phase, Table};
-ghost use Rattle.std.specs.Prelude.{◌≡◌, ℕ, List, [], map};
-
+pub mod counted_mails;
 pub mod seen_dues;
 pub mod seen_spent;
 pub mod seen_steps;
@@ -21,6 +10,19 @@ pub mod served_rows;
 pub mod served_waits;
 pub mod spent_rows;
 pub mod tagged_waits;
+
+ghost use Rattle.exchange_model.specs.Exchange.{Speech};
+ghost use Rattle.exchange_model.specs.Rows.{Row, left};
+ghost use Rattle.idle_slaves.specs.Going.{IsCome};
+ghost use Rattle.idle_slaves.specs.Links.{HasLink};
+ghost use Rattle.few_replies.specs.Erased.{PlanOne, row_seen, side_seen};
+ghost use Rattle.segment_model.specs.Laws.{IsSettled};
+ghost use Rattle.segment_model.specs.Seats.{Side};
+ghost use Rattle.segment_model.specs.Slaves.{Registers, Slave};
+ghost use Rattle.serving_model.specs.Erasing.{slave_as};
+ghost use Rattle.state_model.specs.States.{Phase, Table};
+ghost use Rattle.std.specs.Prelude.{◌≡◌, ℕ, List, [], map};
+
 
 /// THE LINK of an open slave: mails that went between its master and it agree with both, also as another sees them, who has other forms of them.
 pub fn link_seen<N, M, P, Q, S, R, W, V>()

@@ -3,8 +3,8 @@
 
 ghost use Rattle.exchange_model.specs.Exchange.{Exchange};
 ghost use Rattle.life_model.specs.Lives.{Era, Spot};
-ghost use Rattle.never_waits.specs.Hears.{HearsFirst};
-ghost use Rattle.passed_whole.specs.Led.{IsLed};
+ghost use Rattle.slave_model.specs.Hears.{HearsFirst};
+ghost use Rattle.few_replies.specs.Led.{IsLed};
 ghost use Rattle.seen_slaves.specs.Brings.{AllAreFair, SeenBringsDue};
 ghost use Rattle.segment_model.specs.Record.{Frame};
 ghost use Rattle.segment_model.specs.Slaves.{Processor, Registers, Slave};
@@ -13,7 +13,7 @@ ghost use Rattle.life_model.specs.Eras.{planned};
 ghost use Rattle.serving_model.specs.Tagged.{Rowed};
 ghost use Rattle.state_model.specs.States.{Table};
 ghost use Rattle.run_work.specs.of_life_counts.Epochs.{IsRun, IsSpeaker, Speaker, between, seeing, seeing_states};
-ghost use Rattle.task_model.specs.Tasks.{IsTaskPlan};
+ghost use Rattle.state_model.specs.Tasks.{IsTaskPlan};
 
 /// EACH MAIL THAT A FRAME MORE BRINGS of an open epoch is due to its master, where the client hears first: of services, and of mails that are passed on, each as
 /// fair as the laws ask.

@@ -2,15 +2,15 @@
 //! a reply. Definitions and laws, no running code: the functions here do nothing, and their contracts state the laws.
 
 ghost use Rattle.std.specs.Prelude.{◌≡◌, ℕ, Bool, true, false, Option, Some, None, List, []};
-ghost use Rattle.never_waits.specs.Moments.{IsFree, NowAnswered, WasHeard};
+ghost use Rattle.slave_model.specs.Moments.{IsFree, NowAnswered, WasHeard};
 ghost use Rattle.exchange_model.specs.Exchange.{Exchange, Speech, IsLawful};
 ghost use Rattle.exchange_model.specs.Rows.{Row, ends_unheard, left};
 ghost use Rattle.life_model.specs.Eras.{EraIs};
 ghost use Rattle.life_model.specs.Lives.{Era, Spot};
-ghost use Rattle.never_waits.specs.Waits.{NeverWaits};
-ghost use Rattle.passed_whole.specs.Erased.{OfRow, PlanOne, row_seen, side_seen};
-ghost use Rattle.passed_whole.specs.Led.{IsLed};
-ghost use Rattle.passed_whole.specs.Heard.{EraPasses};
+ghost use Rattle.slave_model.specs.Waits.{NeverWaits};
+ghost use Rattle.few_replies.specs.Erased.{OfRow, PlanOne, row_seen, side_seen};
+ghost use Rattle.few_replies.specs.Led.{IsLed};
+ghost use Rattle.few_replies.specs.Heard.{EraPasses};
 ghost use Rattle.seen_slaves.specs.Fits.{FitsSo};
 ghost use Rattle.seen_slaves.specs.Spent.{IsEndTold, NothingSeen, SpeakOne};
 ghost use Rattle.segment_model.specs.Ends.{Passing};
@@ -18,7 +18,7 @@ ghost use Rattle.segment_model.specs.Record.{Frame};
 ghost use Rattle.segment_model.specs.Slaves.{Processor, Registers, Slave};
 ghost use Rattle.serving_model.specs.Tagged.{Rowed};
 ghost use Rattle.seen_slaves.specs.Last.{LastPasses};
-ghost use Rattle.state_exchange.specs.Stated.{Stated, IsStated};
+ghost use Rattle.state_model.specs.Stated.{Stated, IsStated};
 ghost use Rattle.state_model.specs.States.{Table};
 ghost use Rattle.run_work.specs.of_life_counts.Epochs.{IsRun, IsSeen, IsSpeaker, Speaker};
 ghost use Rattle.run_work.specs.of_life_counts.Seen.{era_seen};

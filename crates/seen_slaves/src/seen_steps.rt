@@ -11,10 +11,10 @@ ghost use Rattle.segment_model.specs.Slaves.{Processor, Registers, Slave};
 ghost use Rattle.serving_model.specs.Erasing.{slave_as};
 ghost use Rattle.serving_model.specs.Tagged.{Rowed, ideal, real};
 ghost use Rattle.serving_model.specs.TaggedStates.{IsStatedServed};
-ghost use Rattle.state_exchange.specs.Stated.{Stated, IsStated};
+ghost use Rattle.state_model.specs.Stated.{Stated, IsStated};
 ghost use Rattle.state_model.specs.States.{Table, carry};
 ghost use Rattle.idle_slaves.specs.Steps.{StepsAlone};
-ghost use Rattle.task_model.specs.Accounts.{Duty};
+ghost use Rattle.state_model.specs.Accounts.{Duty};
 
 /// OF AN OPEN EPOCH the slave's server stands in the AL state of its registers, which the word that it carries out leaves while no state service is past its drain.
 pub fn stands_law<V, A, M, Q, R>()

@@ -8,7 +8,7 @@ ghost use Rattle.life_runs.specs.Led.{Exchanged, Leads, speech_at};
 ghost use Rattle.master_hand.specs.Spoken.{Asked};
 ghost use Rattle.run_frames.specs.Answers.{AllReturned};
 ghost use Rattle.seen_slaves.specs.Rows.{IsNew, PassesSo, SaidSo, ToldSo};
-ghost use Rattle.served_rings.specs.of_served_runs.Served.{Serves, IsServedLed, all_serve};
+ghost use Rattle.served_rings.specs.of_life_runs.Served.{Serves, IsServedLed, all_serve};
 
 /// WHILE A MAIL THAT IS PASSED ON ISN'T OVER it is the newest row of its slave's epoch, and the newest service, and no reply of it was heard, or others follow
 /// the last that was: over all frames of a serving, whatever comes back.

@@ -17,7 +17,7 @@ ghost use Rattle.segment_plan.specs.Sound.{IsPlan};
 ghost use Rattle.segment_plan.specs.declared.plan.Scenario.{Scenario};
 ghost use Rattle.served_rings.specs.of_served_places.Answered.{ServedAnswers, ServedAsks, ServedWaits};
 ghost use Rattle.served_rings.specs.of_served_places.Toured.{IsServedToured};
-ghost use Rattle.served_rings.specs.of_served_runs.Served.{Serves, all_serve};
+ghost use Rattle.served_rings.specs.of_life_runs.Served.{Serves, all_serve};
 ghost use Rattle.seen_slaves.specs.Dues.{ServedMailsAreDue};
 ghost use Rattle.seen_slaves.specs.Eager.{ServedEagerIn};
 

@@ -3,12 +3,12 @@
 
 ghost use Rattle.exchange_model.specs.Exchange.{Exchange};
 ghost use Rattle.served_rings.specs.of_few_replies.Calm.{calm_tagged};
-ghost use Rattle.never_waits.specs.Hears.{HearsFirst};
-ghost use Rattle.never_waits.specs.Waits.{NeverWaits};
+ghost use Rattle.slave_model.specs.Hears.{HearsFirst};
+ghost use Rattle.slave_model.specs.Waits.{NeverWaits};
 ghost use Rattle.serving_model.specs.Tagged.{IsServed, tagged};
 ghost use Rattle.slave_model.specs.Profile.{Profile, IsProfile};
 ghost use Rattle.slave_parts.specs.Parts.{parts};
-ghost use Rattle.slave_served.specs.Served.{product_whole};
+ghost use Rattle.slave_parts.specs.Served.{product_whole};
 ghost use Rattle.std.specs.Prelude.{Bool};
 
 /// A CLIENT THAT NEVER WAITS IN VAIN never does where mails are passed on beside its services: such a mail is told at once, whatever was heard.
@@ -23,7 +23,7 @@ pub fn parts_never()
     ensures { (p : Profile) → IsProfile p → NeverWaits (product_whole parts p) }
 {
     slave_parts::parts_are_lawful();
-    slave_served::parts_served::files_are_served();
+    slave_parts::parts_served::files_are_served();
 }
 
 /// A CLIENT THAT HEARS FIRST does so over calm servers, with fair mails passed on beside its services: behind such a mail none is told.
@@ -36,5 +36,5 @@ pub fn parts_hear()
     ensures { (p : Profile) → IsProfile p → HearsFirst (product_whole parts p) }
 {
     slave_parts::parts_are_lawful();
-    slave_served::parts_served::files_are_served();
+    slave_parts::parts_served::files_are_served();
 }

@@ -3,24 +3,24 @@ use Rattle.std.proofs.Common.{◌≡◌, ◌≤◌, ℕ, suc, Bool, true, false,
 use Rattle.std.specs.Prelude.{◌&&◌, if◌then◌else◌, not, All}
 use Rattle.std.proofs.lemmas.Bool.{le-leb}
 use Rattle.std.proofs.lemmas.List.Elements.{All-nil, All-head, All-tail, All-push}
-use Rattle.counters_kept.proofs.Lives.{next_life}
-use Rattle.counters_kept.specs.Lives.{LifeKept, StandsKept}
-use Rattle.life_frames.proofs.Frames.{own_behind, own_none}
-use Rattle.life_frames.proofs.Twice.{still_stands}
-use Rattle.life_frames.specs.of_exchange_model.Exchange.{Speech, plain}
-use Rattle.life_frames.specs.of_life_model.Lives.{Era, Life, Spot, Stand, era_back, life_back, life_lost, passes}
-use Rattle.life_frames.specs.of_life_model.Own.{own}
-use Rattle.life_frames.specs.of_segment_model.Ends.{Passing, passing_after}
-use Rattle.life_frames.specs.of_segment_model.Record.{News, all_told, is_for, mails_heard}
-use Rattle.life_frames.specs.of_segment_model.Returned.{Returns}
-use Rattle.life_frames.specs.of_segment_model.Slaves.{Datagram, Found, grams}
-use Rattle.life_frames.specs.of_state_exchange.Stated.{Service}
-use Rattle.life_frames.specs.Frames.{FrameFor, Share}
+use Rattle.life_runs.proofs.Lives.{next_life}
+use Rattle.life_runs.specs.Lives.{LifeKept, StandsKept}
+use Rattle.frame_view.proofs.Frames.{own_behind, own_none}
+use Rattle.frame_view.proofs.Twice.{still_stands}
+use Rattle.frame_view.specs.of_exchange_model.Exchange.{Speech, plain}
+use Rattle.frame_view.specs.of_life_model.Lives.{Era, Life, Spot, Stand, era_back, life_back, life_lost, passes}
+use Rattle.frame_view.specs.of_life_model.Own.{own}
+use Rattle.frame_view.specs.of_segment_model.Ends.{Passing, passing_after}
+use Rattle.frame_view.specs.of_segment_model.Record.{News, all_told, is_for, mails_heard}
+use Rattle.frame_view.specs.of_segment_model.Returned.{Returns}
+use Rattle.frame_view.specs.of_segment_model.Slaves.{Datagram, Found, grams}
+use Rattle.frame_view.specs.of_state_model.Stated.{Service}
+use Rattle.frame_view.specs.Frames.{FrameFor, Share}
 use Rattle.run_frames.specs.of_life_runs.of_datagrams.Datagram as Raw
 use Rattle.run_frames.specs.of_life_runs.of_datagrams.Frame.{IsFrame, chained}
 use Rattle.run_frames.specs.of_life_runs.of_frame_view.Seen.{datagrams_seen, seen}
 use Rattle.run_frames.specs.of_life_runs.of_frame_view.View.{Lens, datagram_seen}
-use Rattle.run_frames.specs.of_life_runs.of_life_frames.Shares.{came_at, given_where}
+use Rattle.run_frames.specs.of_life_runs.of_frame_view.Shares.{came_at, given_where}
 use Rattle.run_frames.specs.of_life_runs.of_link_mails.Body.{Body}
 use Rattle.run_frames.specs.of_life_runs.of_master_duty.Reply.{Reply}
 use Rattle.run_frames.specs.of_life_runs.of_master_hand.Spoken.{Asked, acknowledged, emission, is_followed, is_passed, passed}
@@ -29,12 +29,12 @@ use Rattle.run_frames.specs.of_life_runs.of_segment_plan.declared.service.Servic
 use Rattle.run_frames.specs.of_life_runs.of_segment_ring.declared.wire.Fate.{Fate}
 use Rattle.run_frames.specs.of_life_runs.of_segment_ring.declared.wire.Fate.TheVariants.{Pass, Lost}
 use Rattle.run_frames.specs.of_life_runs.Led.{Exchanged, speech_at}
-use Rattle.life_frames.proofs.of_frame_view.Octets.{seen_chained, seen_is}
-use Rattle.counters_kept.proofs.of_master_tour.Backs.{seen_aims}
-use Rattle.counters_kept.specs.of_master_tour.Brings.{accepted_at}
+use Rattle.frame_view.proofs.Octets.{seen_chained, seen_is}
+use Rattle.life_runs.proofs.of_master_tour.Backs.{seen_aims}
+use Rattle.life_runs.specs.of_master_tour.Brings.{accepted_at}
 use Rattle.serving_model.specs.Passing.{ends_told}
-use Rattle.served_runs.specs.Served.{Keyed, Serves, ServedTurn, ServedComes, IsServedTurn, accepted_by, gives_it, served_behind, served_life}
-use Rattle.served_runs.specs.Told.{Passed, replies_in, told_on}
+use Rattle.life_runs.specs.Served.{Keyed, Serves, ServedTurn, ServedComes, IsServedTurn, accepted_by, gives_it, served_behind, served_life}
+use Rattle.life_runs.specs.Told.{Passed, replies_in, told_on}
 use Rattle.served_places.specs.Rows.{IsHeld, StandsTold, ToldAll}
 use Rattle.served_places.proofs.Behind.{reopens_keeps}
 use Rattle.served_places.proofs.Next.{next_open, next_passing}

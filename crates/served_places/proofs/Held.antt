@@ -2,12 +2,12 @@
 use Rattle.std.proofs.Common.{◌≡◌, ℕ, Bool, true, false, Option, Some, None, List, [], ◌∷◌, ◌++◌, refl, ap, sym, ◌∙◌, subst}
 use Rattle.std.specs.Prelude.{◌&&◌, if◌then◌else◌, All}
 use Rattle.std.proofs.lemmas.List.Elements.{All-nil, All-cons, All-weaker}
-use Rattle.life_frames.specs.of_life_model.Lives.{Life, life_lost, life_next}
-use Rattle.life_frames.specs.of_state_exchange.Stated.{Service}
+use Rattle.frame_view.specs.of_life_model.Lives.{Life, life_lost, life_next}
+use Rattle.frame_view.specs.of_state_model.Stated.{Service}
 use Rattle.run_frames.specs.of_life_runs.of_datagrams.Datagram as Raw
 use Rattle.run_frames.specs.of_life_runs.of_frame_view.View.{Lens}
 use Rattle.run_frames.specs.of_life_runs.of_frame_view.Seen.{seen}
-use Rattle.run_frames.specs.of_life_runs.of_life_frames.Shares.{came_at, given_where}
+use Rattle.run_frames.specs.of_life_runs.of_frame_view.Shares.{came_at, given_where}
 use Rattle.run_frames.specs.of_life_runs.of_link_mails.Body.{Body}
 use Rattle.run_frames.specs.of_life_runs.of_master_duty.Reply.{Reply}
 use Rattle.run_frames.specs.of_life_runs.of_master_hand.Spoken.{Asked, acknowledged, is_followed, is_passed, passed}
@@ -16,9 +16,9 @@ use Rattle.run_frames.specs.of_life_runs.of_segment_plan.declared.service.Servic
 use Rattle.run_frames.specs.of_life_runs.of_segment_ring.declared.wire.Fate.{Fate}
 use Rattle.run_frames.specs.of_life_runs.of_segment_ring.declared.wire.Fate.TheVariants.{Pass, Lost}
 use Rattle.run_frames.specs.of_life_runs.Led.{Exchanged, Leads, Took, speech_at}
-use Rattle.served_runs.specs.Served.{Keyed, Serves, ServedTurn, ServedComes, IsServedTurn, IsServedLed, accepted_by, all_serve, gives_it, served_life}
-use Rattle.served_runs.specs.Told.{Passed, replies_in, told_on}
-use Rattle.served_runs.proofs.Tells.{HasPassed, back_has, lost_has, mail_next, none_next}
+use Rattle.life_runs.specs.Served.{Keyed, Serves, ServedTurn, ServedComes, IsServedTurn, IsServedLed, accepted_by, all_serve, gives_it, served_life}
+use Rattle.life_runs.specs.Told.{Passed, replies_in, told_on}
+use Rattle.life_runs.proofs.Tells.{HasPassed, back_has, lost_has, mail_next, none_next}
 use Rattle.served_places.specs.Rows.{IsHeld}
 use Rattle.served_places.proofs.Each.{each}
 

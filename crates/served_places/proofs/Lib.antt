@@ -1,7 +1,6 @@
-pub use Rattle.passed_whole.proofs as of_passed_whole
+pub use Rattle.few_replies.proofs as of_few_replies
 pub use Rattle.exchange_model.proofs as of_exchange_model
-pub use Rattle.run_frames.proofs.of_life_runs as of_life_runs
-pub use Rattle.served_runs.proofs as of_served_runs
+pub use Rattle.life_runs.proofs as of_life_runs
 pub mod All
 pub mod Behind
 pub mod Each

@@ -1,17 +1,17 @@
 -- WHAT A FRAME TELLS OF A SLAVE OF WHICH IT HAS AT MOST ONE DATAGRAM: the mails that its halves accept, and at most one read of mailbox 1.
 use Rattle.std.proofs.Common.{◌≡◌, ◌≤◌, ℕ, ◌==◌, Bool, true, false, Option, Some, None, List, [], ◌∷◌, ◌++◌, length, map, refl, sym, ap, ◌∙◌, subst, append-nil, arith}
 use Rattle.std.specs.Prelude.{if◌then◌else◌, ⊤}
-use Rattle.life_frames.specs.of_life_model.Own.{own}
-use Rattle.life_frames.specs.of_link_mails.Body.{Body}
-use Rattle.life_frames.specs.of_link_model.Frames.{Ask, Gram, all_accepted, halves_accept, halves_answered}
-use Rattle.life_frames.specs.of_link_model.Link.{Halves}
-use Rattle.life_frames.specs.of_link_model.Mails.{LinkMail, is_repeat, news}
-use Rattle.life_frames.specs.of_link_model.Segment.{RingFate}
-use Rattle.life_frames.specs.of_segment_model.Record.{Kept, News, all_told, back_news, found_news, frame_news, gram_news, is_for, last_heard, mails_heard, without_empty}
-use Rattle.life_frames.specs.of_segment_model.Slaves.{Datagram, Found, grams}
+use Rattle.frame_view.specs.of_life_model.Own.{own}
+use Rattle.frame_view.specs.of_link_mails.Body.{Body}
+use Rattle.frame_view.specs.of_link_model.Frames.{Ask, Gram, all_accepted, halves_accept, halves_answered}
+use Rattle.frame_view.specs.of_link_model.Link.{Halves}
+use Rattle.frame_view.specs.of_link_model.Mails.{LinkMail, is_repeat, news}
+use Rattle.frame_view.specs.of_link_model.Segment.{RingFate}
+use Rattle.frame_view.specs.of_segment_model.Record.{Kept, News, all_told, back_news, found_news, frame_news, gram_news, is_for, last_heard, mails_heard, without_empty}
+use Rattle.frame_view.specs.of_segment_model.Slaves.{Datagram, Found, grams}
 use Rattle.run_frames.specs.of_master_side.Passing.{news_back}
-use Rattle.counters_kept.proofs.of_master_tour.Unders.{SameAim}
-use Rattle.passed_whole.proofs.Passings.{counted_same}
+use Rattle.life_runs.proofs.of_master_tour.Unders.{SameAim}
+use Rattle.few_replies.proofs.Passings.{counted_same}
 
 abbrev Grams : Type 0
 Grams = List (Datagram Body)

@@ -16,7 +16,7 @@ use Rattle.run_frames.proofs.Toured.{front_returned, last_returned}
 use Rattle.run_frames.proofs.Touring.{AgainOf}
 use Rattle.run_frames.proofs.Visiting.{visit_again, visit_carries, visit_rounds}
 use Rattle.segment_ring.specs.declared.wire.Fate.TheVariants.{Pass, Lost}
-use Rattle.served_runs.specs.Served.{Serves, ServedTurn, IsServedFrame}
+use Rattle.life_runs.specs.Served.{Serves, ServedTurn, IsServedFrame}
 use Rattle.served_places.specs.Answered.{ServedAsks, ServedAnswers, ServedWaits}
 use Rattle.served_places.specs.Toured.{IsServedToured, back_under, first_served, lost_under, serves_on, served_back, served_lost}
 use Rattle.served_places.proofs.Slaves.{Slave, all_bring, all_led_back, all_led_lost, all_under, leads_asked, leads_in}

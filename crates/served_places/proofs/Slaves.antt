@@ -3,7 +3,7 @@ use Rattle.std.proofs.Common.{◌≡◌, ℕ, zero, suc, ◌&&◌, Bool, false, 
 use Rattle.datagrams.specs.Datagram as Raw
 use Rattle.frame_view.specs.Seen.{seen, datagrams_seen}
 use Rattle.frame_view.specs.View.{Lens}
-use Rattle.life_frames.specs.Shares.{came_at}
+use Rattle.frame_view.specs.Shares.{came_at}
 use Rattle.life_model.specs.Lives.{life_back, life_lost}
 use Rattle.run_frames.specs.of_life_runs.First.{first_leads, leads_from}
 use Rattle.run_frames.specs.of_life_runs.Led.{Exchanged, Leads, speech_at, is_passed}
@@ -27,7 +27,7 @@ use Rattle.segment_plan.specs.declared.plan.Scenario.{Scenario}
 use Rattle.segment_plan.specs.declared.service.Service as Plan
 use Rattle.segment_plan.specs.declared.slave.SlaveSpec.{SlaveSpec}
 use Rattle.segment_ring.specs.declared.wire.Fate.TheVariants.{Pass, Lost}
-use Rattle.served_runs.specs.Served.{Keyed, Serves, ServedTurn, AllServedTurn, all_serve, asked_at, served_behind, served_life}
+use Rattle.life_runs.specs.Served.{Keyed, Serves, ServedTurn, AllServedTurn, all_serve, asked_at, served_behind, served_life}
 use Rattle.served_places.specs.Toured.{back_under, first_served, lost_under}
 
 abbrev pub Slave : Type 0

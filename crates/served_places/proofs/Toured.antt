@@ -7,7 +7,7 @@ use Rattle.master_duty.specs.Reply.{Reply}
 use Rattle.run_frames.specs.of_master_hand.Spoken.{Asked}
 use Rattle.run_frames.specs.Clocks.{Clocked}
 use Rattle.run_frames.specs.Runs.{Progress}
-use Rattle.served_runs.specs.Served.{Serves, IsServedLed}
+use Rattle.life_runs.specs.Served.{Serves, IsServedLed}
 use Rattle.served_places.specs.Toured.{IsServedToured}
 
 pub one_more : (fs : List Exchanged) (f : Exchanged) (n : ℕ) → n ≡ length fs → suc n ≡ length (fs ++ f ∷ [])

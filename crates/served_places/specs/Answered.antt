@@ -10,7 +10,7 @@ use Rattle.run_frames.specs.Answers.{AllAsk, AllAnswer}
 use Rattle.run_frames.specs.Clocks.{Clocked}
 use Rattle.run_frames.specs.Runs.{Progress}
 use Rattle.run_frames.specs.Waits.{SomeWaits}
-use Rattle.served_runs.specs.Served.{Serves, ServedTurn}
+use Rattle.life_runs.specs.Served.{Serves, ServedTurn}
 use Rattle.served_places.specs.Toured.{IsServedToured, served_back, still_served, waits_served}
 
 module _ {lens : ℕ → Lens} {recover retry slowest : ℕ} {first : List Serves} where

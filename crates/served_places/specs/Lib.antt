@@ -1,6 +1,5 @@
-pub use Rattle.passed_whole.specs as of_passed_whole
-pub use Rattle.counters_kept.specs as of_counters_kept
-pub use Rattle.served_runs.specs as of_served_runs
+pub use Rattle.few_replies.specs as of_few_replies
+pub use Rattle.life_runs.specs as of_life_runs
 pub mod Answered
 pub mod Places
 pub mod Rows

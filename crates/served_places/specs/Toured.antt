@@ -2,7 +2,7 @@
 use Rattle.std.specs.Prelude.{◌≡◌, ◌≤◌, ◌<◌, ℕ, suc, nat_lt, Bool, false, Option, None, List, [], ◌∷◌, ◌++◌, map, length}
 use Rattle.frame_view.specs.Seen.{seen}
 use Rattle.frame_view.specs.View.{Lens}
-use Rattle.life_frames.specs.Shares.{came_at}
+use Rattle.frame_view.specs.Shares.{came_at}
 use Rattle.run_frames.specs.of_life_runs.Led.{Exchanged, speech_at, is_passed, gives_up_at, missed_behind}
 use Rattle.link_mails.specs.Body.{Body}
 use Rattle.master_duty.specs.Reply.{Reply}
@@ -16,7 +16,7 @@ use Rattle.run_frames.specs.Tours.{IsVisited, again_behind, last_lost}
 use Rattle.run_frames.specs.Waits.{Waits, all_anew, waits_behind}
 use Rattle.segment_model.specs.Slaves.{Datagram}
 use Rattle.segment_ring.specs.declared.wire.Fate.TheVariants.{Pass, Lost}
-use Rattle.served_runs.specs.Served.{Keyed, Serves, ServedTurn, IsServedFrame, MayAsk, asked_at, served_behind}
+use Rattle.life_runs.specs.Served.{Keyed, Serves, ServedTurn, IsServedFrame, MayAsk, asked_at, served_behind}
 
 -- a slave before a frame, with its share of that, which came back so, and with what that tells of a mail that is passed on
 abbrev pub back_under : List (Datagram Body) → ServedTurn → Under Body Asked Reply

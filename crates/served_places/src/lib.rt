@@ -5,7 +5,7 @@
 ghost use Rattle.run_frames.specs.of_life_runs.Led.{Exchanged, Leads};
 ghost use Rattle.run_frames.specs.of_life_runs.of_frame_view.View.{Lens};
 ghost use Rattle.served_places.specs.Places.{MayWait, spot_at};
-ghost use Rattle.served_runs.specs.Served.{Serves, IsServedLed, all_serve};
+ghost use Rattle.life_runs.specs.Served.{Serves, IsServedLed, all_serve};
 ghost use Rattle.std.specs.Prelude.{◌≡◌, ℕ, List, map, All};
 
 pub mod kept_rows;

@@ -14,7 +14,7 @@ ghost use Rattle.run_frames.specs.Runs.{Progress, IsRun};
 ghost use Rattle.segment_plan.specs.Bound.{slowest};
 ghost use Rattle.segment_plan.specs.Sound.{IsPlan};
 ghost use Rattle.segment_plan.specs.declared.plan.Scenario.{Scenario};
-ghost use Rattle.served_runs.specs.Served.{Serves, IsServedLed, all_serve};
+ghost use Rattle.life_runs.specs.Served.{Serves, IsServedLed, all_serve};
 ghost use Rattle.served_places.specs.Answered.{ServedAsks, ServedAnswers, ServedWaits};
 ghost use Rattle.served_places.specs.Toured.{IsServedToured, first_served};
 

@@ -2,15 +2,15 @@
 use Rattle.std.proofs.Common.{◌≡◌, ℕ, suc, ◌&&◌, Bool, true, false, List, [], ◌∷◌, map, refl, ap₂, sym, ◌∙◌, subst, if◌then◌else◌}
 use Rattle.std.specs.Prelude.{All}
 use Rattle.datagrams.specs.Datagram as Raw
-use Rattle.frame_pass.specs.Passing.{datagrams_after}
+use Rattle.slave_node.specs.Passing.{datagrams_after}
 use Rattle.frame_view.specs.View.{Lens}
 use Rattle.served_rings.specs.Lives.{news_of}
 use Rattle.served_rings.proofs.Stood as Stood
 use Rattle.served_rings.specs.StoodLives.{AllStoodMembers, IsFirst, StoodMember, others}
 use Rattle.served_rings.specs.LedRings.{Counters, AllTold, all_counters}
 use Rattle.life_model.specs.Lives.{gives_up}
-use Rattle.served_runs.specs.of_life_runs.First.{lens_of}
-use Rattle.served_runs.specs.of_life_runs.Led.{Exchanged}
+use Rattle.life_runs.specs.First.{lens_of}
+use Rattle.life_runs.specs.Led.{Exchanged}
 use Rattle.link_mails.specs.Body.{Body}
 use Rattle.run_work.specs.of_master_hand.Spoken.{Asked, is_followed, is_passed}
 use Rattle.plan_ring.specs.Plan.{FitsPlan, step}
@@ -25,11 +25,11 @@ use Rattle.segment_ring.specs.Schedule.{fate_at}
 use Rattle.segment_ring.specs.declared.wire.Fate.{Fate}
 use Rattle.segment_ring.specs.declared.wire.Fate.TheVariants.{Pass, Lost}
 use Rattle.plan_ring.specs.Real.{running_as}
-use Rattle.served_runs.specs.Served.{Serves, ServedTurn, AllServedTurn, served_behind}
+use Rattle.life_runs.specs.Served.{Serves, ServedTurn, AllServedTurn, served_behind}
 use Rattle.plan_ring.specs.of_slave_lives.Rings.{is_met_at, met, turned}
 use Rattle.plan_ring.specs.of_slave_server.Serving.{Serving}
 use Rattle.plan_ring.specs.of_slave_server.Spec.{profile_of}
-use Rattle.slave_steps.specs.Node.{Node}
+use Rattle.slave_node.specs.Node.{Node}
 use Rattle.plan_ring.specs.of_whole_ring.Members.{AllLived}
 use Rattle.plan_ring.specs.of_whole_ring.Turning.{AllTurn, Turn, behind_frame, frame_at, given_up}
 use Rattle.served_rings.specs.Rings.{AllServedAt, ServedMember, counters_of, served_members}

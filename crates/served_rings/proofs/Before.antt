@@ -13,26 +13,26 @@ use Rattle.life_model.proofs.Eras.{frames_push, of_one, session_of}
 use Rattle.life_model.specs.Eras.{EraIs, OpenEra, era_frames, planned}
 use Rattle.life_model.specs.Lives.{Spot, Era}
 use Rattle.life_model.specs.Own.{own_frame}
-use Rattle.served_places.specs.of_passed_whole.Led.{IsLed, frame_in, news_in, turn_next}
+use Rattle.served_places.specs.of_few_replies.Led.{IsLed, frame_in, news_in, turn_next}
 use Rattle.segment_model.proofs.Answers.{Open, OpenNow, news_each-push}
 use Rattle.segment_model.proofs.News.{mails_heard-append}
 use Rattle.segment_model.specs.Ends.{Outcome}
 use Rattle.segment_model.specs.Record.{Frame, Kept, heard, joined, kept_after, mails_heard, news_each, news_from, nothing_kept}
 use Rattle.segment_model.specs.Seats.{Seat, Side}
 use Rattle.segment_model.specs.Slaves.{Processor, Registers, Slave}
-use Rattle.state_exchange.proofs.Acts.{acts_append}
-use Rattle.state_exchange.proofs.StatedLaw.{stated_law}
-use Rattle.state_exchange.specs.Stated.{Act, Counting, IsStated, Service, Stated, acts, with_states}
+use Rattle.state_model.proofs.Acts.{acts_append}
+use Rattle.state_model.proofs.StatedLaw.{stated_law}
+use Rattle.state_model.specs.Stated.{Act, Counting, IsStated, Service, Stated, acts, with_states}
 use Rattle.state_model.specs.Promises.{IsTable}
 use Rattle.state_model.specs.States.{Table}
-use Rattle.task_model.proofs.Ghosts as Ghosts
-use Rattle.task_model.proofs.Ghosts.{counting, start_of, starts_append, starts_of}
-use Rattle.task_model.proofs.Newest.{Holds}
-use Rattle.task_model.proofs.Sessions.{of_slaves}
-use Rattle.task_model.proofs.Stately.{state_over}
-use Rattle.task_model.specs.Accounts.{Account, Started}
-use Rattle.task_model.specs.Promise.{mails_in, services_in}
-use Rattle.task_model.specs.Tasks.{IsTaskPlan}
+use Rattle.state_model.proofs.Ghosts as Ghosts
+use Rattle.state_model.proofs.Ghosts.{counting, start_of, starts_append, starts_of}
+use Rattle.state_model.proofs.Newest.{Holds}
+use Rattle.state_model.proofs.Sessions.{of_slaves}
+use Rattle.state_model.proofs.Stately.{state_over}
+use Rattle.state_model.specs.Accounts.{Account, Started}
+use Rattle.state_model.specs.Promise.{mails_in, services_in}
+use Rattle.state_model.specs.Tasks.{IsTaskPlan}
 use Rattle.run_work.proofs.of_life_counts.Steps.{started_services}
 use Rattle.served_rings.proofs.Newest.{snoc_same}
 use Rattle.served_rings.proofs.Sessions.{led_later, led_session}

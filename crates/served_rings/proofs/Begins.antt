@@ -2,12 +2,12 @@
 use Rattle.std.proofs.Common.{◌≡◌, ◌≤◌, ℕ, suc, ◌&&◌, Bool, true, List, [], ◌∷◌, map, length, refl, ap, ap₂, sym, ◌∙◌, arith}
 use Rattle.std.specs.Prelude.{None, All}
 use Rattle.std.proofs.lemmas.List.Elements.{All-head, All-tail}
-use Rattle.slave_served.specs.FoeServed.{has_its_room}
+use Rattle.slave_parts.specs.FoeServed.{has_its_room}
 use Rattle.frame_view.specs.View.{Lens}
 use Rattle.served_rings.proofs.Stood as Stood
 use Rattle.served_rings.specs.StoodLives.{AllStoodMembers, IsFirst, StoodMember, others}
-use Rattle.served_runs.specs.of_life_runs.First.{first_leads, leads_from, lens_of, script_for, spot_of}
-use Rattle.served_runs.specs.of_life_runs.Led.{new_leads}
+use Rattle.life_runs.specs.First.{first_leads, leads_from, lens_of, script_for, spot_of}
+use Rattle.life_runs.specs.Led.{new_leads}
 use Rattle.run_work.specs.of_master_hand.Spoken.{Asked, sdo, file, drive, net, passed, is_followed, is_passed}
 use Rattle.plan_ring.specs.Lives.{IsKnown}
 use Rattle.plan_ring.specs.Plan.{AllMacs, FitsPlan, members_of, new_member, new_members, step}
@@ -20,7 +20,7 @@ use Rattle.segment_plan.specs.declared.plan.Scenario.{Scenario}
 use Rattle.segment_plan.specs.declared.service.Service as Row
 use Rattle.segment_plan.specs.declared.slave.SlaveSpec.{SlaveSpec}
 use Rattle.served_rings.specs.Serves.{serves}
-use Rattle.served_runs.specs.Served.{Serves, all_serve, new_serves}
+use Rattle.life_runs.specs.Served.{Serves, all_serve, new_serves}
 use Rattle.plan_ring.specs.Rooms.{IsSound}
 use Rattle.plan_ring.specs.of_slave_lives.Lived.{IsBehind}
 use Rattle.slave_model.specs.Profile.{Profile, IsProfile}
@@ -28,8 +28,8 @@ use Rattle.slave_model.specs.Application.{station_files, station_valid}
 use Rattle.slave_parts.specs.Parts.{parts}
 use Rattle.plan_ring.specs.of_slave_server.Serving.{Serving, cleared}
 use Rattle.plan_ring.specs.of_slave_server.Spec.{node_of, profile_of, server_of}
-use Rattle.slave_steps.specs.Node.{Node}
-use Rattle.state_exchange.specs.Stated.{IsStated}
+use Rattle.slave_node.specs.Node.{Node}
+use Rattle.state_model.specs.Stated.{IsStated}
 use Rattle.plan_ring.specs.of_whole_ring.Whole.{IsWhole}
 use Rattle.plan_ring.proofs.of_whole_ring.WholeTurning as Turning
 use Rattle.plan_ring.specs.of_whole_ring.Members.{MemberIs, AllLived, AreDistinct, IsElsewhere, IsRing, first_ring}

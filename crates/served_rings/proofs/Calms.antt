@@ -6,8 +6,8 @@ use Rattle.coe_codec.specs.Fields.{service_in, specifier_in, flag_in, opcode_in}
 use Rattle.coe_codec.specs.declared.message.Coe.TheVariants.{Emergency, Expedited, First, Upload, DownloadAnswer, ExpeditedAnswer, FirstAnswer, Segment, SegmentAnswer, UploadSegment, UploadSegmentAnswer, ListRequest, ObjectRequest, EntryRequest, Information, InformationError}
 use Rattle.coe_codec.specs.declared.message.CoeFault.TheVariants.{Short, Service, Command, Size}
 use Rattle.coe_codec.specs.Reading.{expedited_part, first_fits, segment_fits, segment_part, abort_in, is_information, download_read, upload_answer_read, request_read, answer_read, information_read, coe_read}
-use Rattle.coe_model.specs.Mails.{Coe, CoeFault, is_emission}
-use Rattle.coe_model.specs.Octets.{heard}
+use Rattle.protocol_models.specs.CoeMails.{Coe, CoeFault, is_emission}
+use Rattle.protocol_models.specs.CoeOctets.{heard}
 
 -- what reads as no emergency
 abbrev Calm : List ℕ → Result Coe CoeFault → Type 0

@@ -4,7 +4,7 @@ use Rattle.life_model.specs.Own.{own, IsSeen, AreSeen}
 use Rattle.life_model.proofs.Owns.{own-told}
 use Rattle.link_model.specs.Frames.{Ask, gram_meets}
 use Rattle.link_model.proofs.Own.{station-gram_meets, ask-gram_meets}
-use Rattle.served_places.specs.of_passed_whole.Led.{counted_news}
+use Rattle.served_places.specs.of_few_replies.Led.{counted_news}
 use Rattle.segment_model.specs.Record.{News, is_for, is_read, mail_told, last_told, all_told, told_behind, did_read, without_empty}
 use Rattle.segment_model.specs.Slaves.{Slave, Datagram, Ring, grams, slave_meets, datagram_meets, frame_after, all_back}
 

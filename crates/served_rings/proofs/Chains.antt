@@ -4,12 +4,12 @@ use Rattle.std.proofs.lemmas.List.{map-append}
 use Rattle.exchange_model.specs.Exchange.{Exchange}
 use Rattle.life_model.specs.Eras.{WasOpen, planned}
 use Rattle.life_model.specs.Lives.{Spot, Era, Life, new_era}
-use Rattle.served_places.specs.of_passed_whole.Led.{IsLed}
+use Rattle.served_places.specs.of_few_replies.Led.{IsLed}
 use Rattle.segment_model.specs.Record.{Frame}
 use Rattle.segment_model.specs.Slaves.{Registers, Processor, Slave}
 use Rattle.serving_model.specs.Tagged.{Tagged, Asked, Rowed, real, ideal}
 use Rattle.state_model.specs.States.{Table}
-use Rattle.task_model.specs.Tasks.{IsTaskPlan}
+use Rattle.state_model.specs.Tasks.{IsTaskPlan}
 use Rattle.run_work.specs.of_life_counts.Epochs.{Speaker, AllFair, IsSeen, between, seeing, seeing_states, era_named}
 use Rattle.run_work.specs.of_life_counts.Worked.{AllWorked, IsNewest}
 use Rattle.served_rings.specs.SeenLed.{ErasFair, IsFairLife, IsSeenLife, WasLed, AllLed, IsNewestLed, IsLedLife}

@@ -9,8 +9,8 @@ use Rattle.life_model.proofs.Owns.{own-news}
 use Rattle.link_mails.specs.Body.{Body}
 use Rattle.link_model.specs.Segment.{RingFate}
 use Rattle.master_side.specs.Passing.{news_back, news_lost}
-use Rattle.news_kept.specs.Counts as Record
-use Rattle.served_places.specs.of_passed_whole.Led.{EraTurn, counts_behind, counted_news, frame_in, has_step, news_in}
+use Rattle.master_side.specs.Counts as Record
+use Rattle.served_places.specs.of_few_replies.Led.{EraTurn, counts_behind, counted_news, frame_in, has_step, news_in}
 use Rattle.segment_model.specs.Record.{Frame, News, Kept, all_told, back_news, did_read, frame_news, heard_behind, kept_after, kept_all, nothing_kept, told_behind, without_empty}
 use Rattle.segment_model.specs.Slaves.{Slave, grams, ring_back}
 use Rattle.segment_model.proofs.Answers.{kept_all-push}

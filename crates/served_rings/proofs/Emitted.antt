@@ -28,10 +28,10 @@ use Rattle.serving_model.specs.Tagged.{asked_emits, asked_exec, is_own, no_reply
 use Rattle.slave_model.specs.Profile.{Profile, Protocol}
 use Rattle.slave_model.specs.Server as SlaveReply
 use Rattle.slave_parts.specs.Parts.{Server, parts}
-use Rattle.slave_served.specs.Served.{product_whole}
-use Rattle.state_exchange.proofs.Acts.{mails_acts, mails_append}
-use Rattle.state_exchange.specs.Families.{InState}
-use Rattle.state_exchange.specs.Stated.{Act, Counting, Service, acts, mails, service_valid, with_states}
+use Rattle.slave_parts.specs.Served.{product_whole}
+use Rattle.state_model.proofs.Acts.{mails_acts, mails_append}
+use Rattle.state_model.specs.Families.{InState}
+use Rattle.state_model.specs.Stated.{Act, Counting, Service, acts, mails, service_valid, with_states}
 use Rattle.state_model.specs.Promises.{state_behind}
 
 -- where none of these replies, all are sent of themselves

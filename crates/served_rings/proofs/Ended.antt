@@ -7,11 +7,11 @@ use Rattle.link_model.specs.Mails.{first_of}
 use Rattle.segment_model.specs.Ends.{Outcome, mails_end, state_ends}
 use Rattle.segment_model.specs.Laws.{AllAnswered, IsAnswered, as_outcome}
 use Rattle.segment_model.specs.Record.{Frame, News, first_end, mails_heard, news_from, or_later}
-use Rattle.state_exchange.specs.Stated.{Service, Stated, service_exec, service_reply}
+use Rattle.state_model.specs.Stated.{Service, Stated, service_exec, service_reply}
 use Rattle.state_model.specs.Promises.{answer_of, state_behind}
 use Rattle.state_model.specs.States.{Table}
-use Rattle.task_model.specs.Accounts.{Change, Started}
-use Rattle.task_model.specs.Promise.{AllDone, AllEnded, AllFound, AllReplied, IsReply, changes_in, mail_of, mails_started, outcome_of, rows_started, services_in, state_found, state_of, states_started}
+use Rattle.state_model.specs.Accounts.{Change, Started}
+use Rattle.state_model.specs.Promise.{AllDone, AllEnded, AllFound, AllReplied, IsReply, changes_in, mail_of, mails_started, outcome_of, rows_started, services_in, state_found, state_of, states_started}
 
 -- ---- the outcome of a state service tells that it was carried out
 same_reply : {R : Type 0} (r o : Outcome R) → Some r ≡ Some o → IsReply r → IsReply o

@@ -10,7 +10,7 @@ use Rattle.life_model.specs.Lives.{Spot, Era}
 use Rattle.link_mails.specs.Body.{Body}
 use Rattle.master_duty.specs.Reply.{Reply}
 use Rattle.run_work.specs.of_master_hand.Spoken.{Asked, is_followed, is_passed}
-use Rattle.served_places.specs.of_passed_whole.Clearing.{Forgets}
+use Rattle.served_places.specs.of_few_replies.Clearing.{Forgets}
 use Rattle.served_rings.specs.Speakers.{cleared_whole, seer_of, speaker, table_of, whole_states}
 use Rattle.run_work.specs.Sessions.{named_wanted}
 use Rattle.segment_model.specs.Record.{Frame, heard}
@@ -22,12 +22,12 @@ use Rattle.plan_ring.specs.of_slave_lives.Lived as Lived
 use Rattle.plan_ring.specs.of_slave_lives.Lived.{IsBehind, node_seen}
 use Rattle.slave_model.specs.Profile.{Profile}
 use Rattle.slave_parts.specs.Parts.{Server, parts}
-use Rattle.slave_served.specs.Served.{product_whole}
+use Rattle.slave_parts.specs.Served.{product_whole}
 use Rattle.plan_ring.specs.of_slave_server.Serving.{Serving}
-use Rattle.slave_steps.specs.Node.{Node}
-use Rattle.state_exchange.specs.Families.{InState}
+use Rattle.slave_node.specs.Node.{Node}
+use Rattle.state_model.specs.Families.{InState}
 use Rattle.run_work.specs.of_life_counts.Epochs.{IsSpeaker, IsSeen}
-use Rattle.task_model.specs.Promise.{services_in}
+use Rattle.state_model.specs.Promise.{services_in}
 use Rattle.served_rings.specs.Served.{IsServedEra, NothingLeft, RestsIf, WasServed, server_behind}
 use Rattle.served_rings.proofs.Mails.{AllNamed, behind_named, is_mail, mailer, mailer_speaks, named_take, services_named, start_named}
 use Rattle.plan_ring.proofs.Settled.{settled_seen}

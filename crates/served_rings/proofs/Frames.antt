@@ -10,8 +10,8 @@ use Rattle.life_model.specs.Lives.{Spot, Era}
 use Rattle.life_model.specs.Own.{own, own_fate}
 use Rattle.link_mails.specs.Body.{Body}
 use Rattle.link_model.specs.Segment.{RingFate}
-use Rattle.news_kept.specs.Counts as Record
-use Rattle.served_places.specs.of_passed_whole.Led.{counts_behind, has_step, news_in}
+use Rattle.master_side.specs.Counts as Record
+use Rattle.served_places.specs.of_few_replies.Led.{counts_behind, has_step, news_in}
 use Rattle.segment_model.specs.Record.{Frame, Kept, kept_after}
 use Rattle.segment_model.specs.Slaves.{ring_back}
 use Rattle.segment_ring.specs.Ring.{is_in_pace}
@@ -19,7 +19,7 @@ use Rattle.segment_ring.specs.declared.wire.Fate.{Fate}
 use Rattle.segment_ring.specs.declared.wire.Fate.TheVariants.{Pass, Lost}
 use Rattle.plan_ring.specs.of_slave_lives.Lived.{Behind, IsBehind, RingFrame, fate_of, frame_of, node_seen, octets_back, returned}
 use Rattle.plan_ring.specs.of_slave_lives.Rings.{fate_seen}
-use Rattle.task_model.specs.Accounts.{Pick}
+use Rattle.state_model.specs.Accounts.{Pick}
 use Rattle.served_rings.specs.Lives.{recorded_as, news_as}
 
 steps_has : (b : Bool) → has_step (steps_at b) ≡ b

@@ -13,21 +13,21 @@ use Rattle.eoe.specs.declared.joining.Joined.{Joined}
 use Rattle.eoe.specs.declared.joining.Joined.TheVariants.{More, Whole, Dropped}
 use Rattle.exchange_model.specs.Exchange.{plain, emitted}
 use Rattle.exchange_model.specs.Lifted.{EachOf}
-use Rattle.exchange_sum.specs.Refusing.{gated}
-use Rattle.coe_model.specs.Mails as Coe
-use Rattle.coe_model.specs.Mails.{CoeMail, mail, unread, failed, fragment, other, Abort, DownloadAnswer, SegmentAnswer, ExpeditedAnswer, FirstAnswer, UploadSegmentAnswer, Information, InformationError}
-use Rattle.coe_model.specs.Octets as CoeOctets
-use Rattle.coe_model.specs.Tables.{Target, nowhere, Ask, list, object, entry, Tables}
-use Rattle.coe_model.specs.Server as Server
-use Rattle.coe_model.specs.Server.{Transfer, idle, downloading, uploading, Outcome, ended, goes_on, abort, download_answer, same, stored, takes_whole, begins, takes_first, takes_segment, is_expedited, opened, takes_upload_segment, parts_of, information_parts, informed, unknown_command, takes_unread, coe_takes, coe_outcome, Emission, emergency, packet, issued}
-use Rattle.foe_model.specs.Mails as Foe
-use Rattle.foe_model.specs.Octets as FoeOctets
-use Rattle.soe_model.specs.Mails as Soe
-use Rattle.soe_model.specs.Octets as SoeOctets
-use Rattle.eoe_model.specs.Mails as Eoe
-use Rattle.eoe_model.specs.Server as EoeServer
-use Rattle.eoe_model.specs.Network.{Network, Station}
-use Rattle.eoe_model.specs.Octets as EoeOctets
+use Rattle.exchange_model.specs.Refusing.{gated}
+use Rattle.protocol_models.specs.CoeMails as Coe
+use Rattle.protocol_models.specs.CoeMails.{CoeMail, mail, unread, failed, fragment, other, Abort, DownloadAnswer, SegmentAnswer, ExpeditedAnswer, FirstAnswer, UploadSegmentAnswer, Information, InformationError}
+use Rattle.protocol_models.specs.CoeOctets as CoeOctets
+use Rattle.protocol_models.specs.Tables.{Target, nowhere, Ask, list, object, entry, Tables}
+use Rattle.protocol_models.specs.CoeServer as Server
+use Rattle.protocol_models.specs.CoeServer.{Transfer, idle, downloading, uploading, Outcome, ended, goes_on, abort, download_answer, same, stored, takes_whole, begins, takes_first, takes_segment, is_expedited, opened, takes_upload_segment, parts_of, information_parts, informed, unknown_command, takes_unread, coe_takes, coe_outcome, Emission, emergency, packet, issued}
+use Rattle.protocol_models.specs.FoeMails as Foe
+use Rattle.protocol_models.specs.FoeOctets as FoeOctets
+use Rattle.protocol_models.specs.SoeMails as Soe
+use Rattle.protocol_models.specs.SoeOctets as SoeOctets
+use Rattle.protocol_models.specs.EoeMails as Eoe
+use Rattle.protocol_models.specs.EoeServer as EoeServer
+use Rattle.protocol_models.specs.Network.{Network, Station}
+use Rattle.protocol_models.specs.EoeOctets as EoeOctets
 use Rattle.slave_model.specs.Profile.{Protocol, Profile, serves}
 use Rattle.slave_model.specs.Application.{Core, Parts, station_tables, network}
 use Rattle.slave_model.specs.Server.{Server as SlaveServer, Seat, seat, failure, told_by, heard_by, refused_gives, soe_quiet, eoe_quiet}

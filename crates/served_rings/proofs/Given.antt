@@ -17,11 +17,11 @@ use Rattle.served_rings.specs.Speakers.{spoken, table_of}
 use Rattle.slave_model.specs.Profile.{Profile}
 use Rattle.slave_parts.specs.Parts.{Server}
 use Rattle.plan_ring.specs.of_slave_server.Serving.{Serving}
-use Rattle.slave_steps.specs.Node.{Node}
-use Rattle.state_exchange.specs.Families.{InState}
-use Rattle.state_exchange.specs.Stated.{Service}
+use Rattle.slave_node.specs.Node.{Node}
+use Rattle.state_model.specs.Families.{InState}
+use Rattle.state_model.specs.Stated.{Service}
 use Rattle.state_model.specs.Promises.{state_behind}
-use Rattle.task_model.specs.Promise.{services_in}
+use Rattle.state_model.specs.Promise.{services_in}
 
 abbrev RowHere : Type 0
 RowHere = Row Body Asked Reply

@@ -19,10 +19,10 @@ use Rattle.mailbox_mail.specs.declared.mail.Mail.{Mail}
 use Rattle.master_duty.specs.Reply.{Reply}
 use Rattle.run_work.specs.of_master_hand.Spoken as Spoken
 use Rattle.run_work.specs.of_master_hand.Spoken.{Asked, emission, is_followed, is_passed, passed}
-use Rattle.served_places.specs.of_passed_whole.Client.{ByContents}
-use Rattle.served_places.specs.of_passed_whole.Erased.{OfRow, PlanOne, row_seen}
-use Rattle.served_places.specs.of_passed_whole.Led.{IsLed, EraTurn, MayTurn, counts_behind, frame_in, news_in, turn_after, turn_next}
-use Rattle.served_places.proofs.of_passed_whole.Clients.{plain_untag}
+use Rattle.served_places.specs.of_few_replies.Client.{ByContents}
+use Rattle.served_places.specs.of_few_replies.Erased.{OfRow, PlanOne, row_seen}
+use Rattle.served_places.specs.of_few_replies.Led.{IsLed, EraTurn, MayTurn, counts_behind, frame_in, news_in, turn_after, turn_next}
+use Rattle.served_places.proofs.of_few_replies.Clients.{plain_untag}
 use Rattle.served_rings.specs.Speakers.{naming_of, processor_of, seer_of, speaker, spoken, spoken_states, table_of, whole_states}
 use Rattle.run_work.specs.Sessions.{OwnService, Wanted, named_wanted}
 use Rattle.segment_model.specs.Ends.{Passing}
@@ -36,17 +36,17 @@ use Rattle.plan_ring.specs.of_slave_lives.Lived as Lived
 use Rattle.slave_model.specs.Profile.{Profile, Protocol}
 use Rattle.slave_model.specs.Server as SlaveReply
 use Rattle.slave_parts.specs.Parts.{Server, parts}
-use Rattle.slave_served.specs.Served.{product_whole}
-use Rattle.state_exchange.specs.Families.{InState}
-use Rattle.state_exchange.specs.Stated.{Service}
+use Rattle.slave_parts.specs.Served.{product_whole}
+use Rattle.state_model.specs.Families.{InState}
+use Rattle.state_model.specs.Stated.{Service}
 use Rattle.state_model.specs.Promises.{state_behind}
 use Rattle.run_work.specs.of_life_counts.Epochs.{IsSpeaker, IsSeen, seeing}
 use Rattle.run_work.specs.of_life_counts.Foreseen as Foreseen
 use Rattle.run_work.proofs.of_life_counts.TaggedWhole.{epoch_seen}
-use Rattle.task_model.proofs.Completed.{started_back}
-use Rattle.task_model.specs.Accounts.{Account, Pick, Started}
-use Rattle.task_model.specs.Promise.{mails_in, services_in}
-use Rattle.task_model.specs.Tasks.{IsTaskPlan}
+use Rattle.state_model.proofs.Completed.{started_back}
+use Rattle.state_model.specs.Accounts.{Account, Pick, Started}
+use Rattle.state_model.specs.Promise.{mails_in, services_in}
+use Rattle.state_model.specs.Tasks.{IsTaskPlan}
 use Rattle.served_rings.specs.Served.{AllHeard, IsHeardOf, IsHeardOne, passing_before, replies_to, server_behind}
 use Rattle.served_rings.proofs.Mails.{AllNamed, IsNamedMail, all_mails, behind_named, mailer, mailer_runs, mailer_speaks, named_front, named_mail, named_mails, services_named, start_named}
 use Rattle.served_rings.proofs.Newest as Newest

@@ -2,9 +2,9 @@
 use Rattle.std.proofs.Common.{◌≡◌, ℕ, Bool, true, false, cond, List, [], ◌∷◌, ◌++◌, map, refl, ap, ap₂, sym, ◌∙◌}
 use Rattle.std.proofs.lemmas.List.{map-append}
 use Rattle.exchange_model.specs.Exchange.{emitted}
-use Rattle.served_places.proofs.of_passed_whole.Naturals.{each_of}
-use Rattle.served_places.specs.of_passed_whole.Client.{ByContents}
-use Rattle.served_places.specs.of_passed_whole.Erased.{all_news_as, frame_as, news_as}
+use Rattle.served_places.proofs.of_few_replies.Naturals.{each_of}
+use Rattle.served_places.specs.of_few_replies.Client.{ByContents}
+use Rattle.served_places.specs.of_few_replies.Erased.{all_news_as, frame_as, news_as}
 use Rattle.segment_model.specs.Record.{Frame, News, heard, joined, mails_heard, news_each, nothing_kept}
 use Rattle.serving_model.specs.Tagged.{Tagged, is_own, untag}
 

@@ -22,10 +22,10 @@ use Rattle.segment_model.specs.Record.{Frame, heard, heard_behind, nothing_kept}
 use Rattle.segment_model.specs.Seats.{Choice, IsFrame, IsOpening, Planned, Seat, Side, is_over, link_of, new_seats, newest, next_mail, ring_of, rows_of, seat_back, seat_next, seat_steps, seat_steps_at, seats_after, seats_next, seats_step, side_back, side_begins, side_holds, side_lost, side_next, side_takes_up, sides_of}
 use Rattle.segment_model.specs.Slaves.{Datagram, Processor, Registers, Slave, grams, ring_back, serving, slave_after, slave_steps, state_told}
 use Rattle.served_rings.proofs.SideHeard.{next_heard, next_inn}
-use Rattle.state_exchange.specs.Stated.{Stated}
+use Rattle.state_model.specs.Stated.{Stated}
 use Rattle.state_model.specs.States.{Table}
-use Rattle.task_model.proofs.Moves.{server_after}
-use Rattle.task_model.specs.Tasks.{MayRun, TaskSession, TaskTurn, happens, mails_choices, new_tasks, run}
+use Rattle.state_model.proofs.Moves.{server_after}
+use Rattle.state_model.specs.Tasks.{MayRun, TaskSession, TaskTurn, happens, mails_choices, new_tasks, run}
 
 -- ---- what is heard in the rows of a side
 module _ {V A M Q R : Type 0} (x : Exchange V A M Q R) where

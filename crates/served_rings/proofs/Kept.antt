@@ -11,16 +11,16 @@ use Rattle.life_model.specs.Eras.{Clearing}
 use Rattle.life_model.specs.Lives.{Spot, Era, Opening, Stand, new_era}
 use Rattle.life_model.specs.Own.{own}
 use Rattle.link_mails.specs.Body.{Body}
-use Rattle.news_kept.specs.Counts as Record
-use Rattle.news_kept.specs.Counts.{counts_on, kept_on}
-use Rattle.served_places.specs.of_passed_whole.Led.{counts_behind, turn_after}
+use Rattle.master_side.specs.Counts as Record
+use Rattle.master_side.specs.Counts.{counts_on, kept_on}
+use Rattle.served_places.specs.of_few_replies.Led.{counts_behind, turn_after}
 use Rattle.segment_model.specs.Record.{Frame, News, Kept, kept_after, nothing_kept}
 use Rattle.plan_ring.specs.of_slave_lives.Ends.{YetFrame, no_pick}
 use Rattle.plan_ring.specs.of_slave_lives.Lived.{Behind, RingFrame, LivesEra, OpenFrame, OpensEra, frame_of, node_behind, opened_era}
 use Rattle.plan_ring.specs.of_slave_lives.Opening.{Plan}
 use Rattle.run_work.proofs.of_slave_lives.Quiets.{asks_none}
-use Rattle.slave_steps.specs.Node.{Node}
-use Rattle.task_model.specs.Accounts.{Pick}
+use Rattle.slave_node.specs.Node.{Node}
+use Rattle.state_model.specs.Accounts.{Pick}
 use Rattle.plan_ring.specs.of_whole_ring.Turns.{era_before, era_behind}
 use Rattle.plan_ring.specs.of_whole_ring.Whole.{IsWhole, Living, Passing}
 use Rattle.plan_ring.proofs.of_whole_ring.Keeps.{Keeps}

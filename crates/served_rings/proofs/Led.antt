@@ -14,8 +14,8 @@ use Rattle.plan_ring.specs.of_slave_lives.Lived.{node_seen}
 use Rattle.slave_model.specs.Profile.{Profile}
 use Rattle.slave_parts.specs.Parts.{Server}
 use Rattle.plan_ring.specs.of_slave_server.Serving.{Serving}
-use Rattle.slave_steps.specs.Node.{Node}
-use Rattle.state_exchange.specs.Families.{InState}
+use Rattle.slave_node.specs.Node.{Node}
+use Rattle.state_model.specs.Families.{InState}
 use Rattle.served_rings.specs.Serves.{serves}
 
 -- `at` is the server that it began with, up to the AL state that is told

@@ -7,7 +7,7 @@ use Rattle.life_model.specs.Eras.{EraIs, era_frames}
 use Rattle.life_model.specs.Lives.{Spot, Era, era_next, era_after}
 use Rattle.life_model.specs.Own.{own, own_fate, own_frame}
 use Rattle.link_mails.specs.Body.{Body}
-use Rattle.served_places.specs.of_passed_whole.Led.{IsLed, MayTurn, EraTurn, frame_in, news_in, turn_after, counts_behind, counted_news}
+use Rattle.served_places.specs.of_few_replies.Led.{IsLed, MayTurn, EraTurn, frame_in, news_in, turn_after, counts_behind, counted_news}
 use Rattle.segment_model.specs.Record.{Frame, News, Kept, all_told, back_news, frame_news, kept_all, nothing_kept, without_empty}
 use Rattle.segment_model.specs.Slaves.{Datagram, grams, ring_after, ring_back, ring_steps}
 use Rattle.segment_ring.specs.Ring.{is_in_pace}
@@ -18,10 +18,10 @@ use Rattle.run_work.proofs.of_slave_lives.EraBegins as Begins
 use Rattle.run_work.proofs.of_slave_lives.EraFrames as Frames
 use Rattle.run_work.proofs.of_slave_lives.Quiets as Quiets
 use Rattle.run_work.proofs.of_slave_lives.RingLives.{sent_is, back_is}
-use Rattle.slave_steps.specs.Node.{Node}
-use Rattle.state_exchange.specs.Stated.{IsStated}
-use Rattle.task_model.specs.Accounts.{Pick}
-use Rattle.task_model.specs.Steady.{IsSteady, NoneToInit, HandToInit}
+use Rattle.slave_node.specs.Node.{Node}
+use Rattle.state_model.specs.Stated.{IsStated}
+use Rattle.state_model.specs.Accounts.{Pick}
+use Rattle.state_model.specs.Steady.{IsSteady, NoneToInit, HandToInit}
 use Rattle.plan_ring.proofs.of_whole_ring.Steadied.{era_steady}
 use Rattle.served_rings.specs.Led.{LedEra, LedFrame, steps_at, turn_of}
 use Rattle.served_rings.proofs.Sessions.{led_session}

@@ -9,8 +9,8 @@ use Rattle.served_rings.specs.LedRings.{Counters, all_counters}
 use Rattle.served_rings.specs.StoodLives.{AllStoodMembers}
 use Rattle.served_rings.proofs.Rings.{all_led, led_turns}
 use Rattle.served_rings.proofs.Stood.{longer}
-use Rattle.served_runs.specs.of_life_runs.First.{first_leads, lens_of}
-use Rattle.served_runs.specs.of_life_runs.Led.{Exchanged, gives_up_at}
+use Rattle.life_runs.specs.First.{first_leads, lens_of}
+use Rattle.life_runs.specs.Led.{Exchanged, gives_up_at}
 use Rattle.link_mails.specs.Body.{Body}
 use Rattle.run_work.specs.of_master_hand.Spoken.{Asked, is_followed, is_passed}
 use Rattle.plan_ring.specs.Lives.{IsKnown}
@@ -27,10 +27,10 @@ use Rattle.segment_ring.specs.Schedule.{fate_at}
 use Rattle.segment_ring.specs.declared.wire.Fate.{Fate}
 use Rattle.segment_ring.specs.declared.wire.Fate.TheVariants.{Lost, Pass}
 use Rattle.served_rings.proofs.Reopened.{AllOpened, AllReopen, all_back, all_first, all_given, all_lost, all_reopen, none_given}
-use Rattle.served_runs.specs.Served.{Keyed, Serves, ServedTurn, AllServedTurn, IsServedFrame, IsServedLed, all_serve, asked_at, served_behind}
+use Rattle.life_runs.specs.Served.{Keyed, Serves, ServedTurn, AllServedTurn, IsServedFrame, IsServedLed, all_serve, asked_at, served_behind}
 use Rattle.plan_ring.specs.of_slave_lives.Rings.{fate_seen}
 use Rattle.plan_ring.specs.of_slave_server.Serving.{Serving}
-use Rattle.slave_steps.specs.Node.{Node, node_passed}
+use Rattle.slave_node.specs.Node.{Node, node_passed}
 use Rattle.plan_ring.specs.of_whole_ring.Members.{IsRing}
 use Rattle.plan_ring.specs.of_whole_ring.Turning.{AllTurn, Turn, behind_frame, frame_at, given_up}
 use Rattle.plan_ring.proofs.of_whole_ring.Begins as Begins

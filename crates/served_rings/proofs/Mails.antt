@@ -11,17 +11,17 @@ use Rattle.run_work.specs.Sessions.{OwnService, Wanted, named_wanted}
 use Rattle.slave_model.specs.Profile.{Protocol, Profile}
 use Rattle.slave_model.specs.Server.{Reply}
 use Rattle.slave_parts.specs.Parts.{Core, Server, parts}
-use Rattle.slave_parts.specs.of_eoe_model.Network.{Station}
-use Rattle.slave_served.specs.Served.{product_whole}
-use Rattle.state_exchange.specs.Families.{InState}
-use Rattle.state_exchange.specs.Stated.{Service, service_valid}
+use Rattle.slave_parts.specs.of_protocol_models.Network.{Station}
+use Rattle.slave_parts.specs.Served.{product_whole}
+use Rattle.state_model.specs.Families.{InState}
+use Rattle.state_model.specs.Stated.{Service, service_valid}
 use Rattle.state_model.specs.Promises.{state_behind}
 use Rattle.serving_model.specs.Tagged.{Asked, asked_exec}
 use Rattle.run_work.specs.of_life_counts.Epochs.{Speaker, IsSpeaker, IsRun, AllFair}
 use Rattle.run_work.specs.of_life_counts.Foreseen as Foreseen
 use Rattle.run_work.specs.of_life_counts.Spoken.{IsPassed}
-use Rattle.task_model.specs.Accounts.{Started}
-use Rattle.task_model.specs.Promise.{services_in}
+use Rattle.state_model.specs.Accounts.{Started}
+use Rattle.state_model.specs.Promise.{services_in}
 use Rattle.served_rings.specs.Served.{server_behind}
 use Rattle.served_rings.proofs.Newest.{AllValid}
 

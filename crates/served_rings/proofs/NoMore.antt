@@ -13,14 +13,14 @@ use Rattle.run_work.specs.of_life_counts.Epochs.{IsSpeaker}
 use Rattle.life_model.specs.Eras.{Clearing}
 use Rattle.life_model.specs.Lives.{Spot, Era, Life, Stand, era_next, life_next}
 use Rattle.life_model.specs.Own.{own}
-use Rattle.served_runs.specs.of_life_runs.First.{lens_of}
-use Rattle.served_runs.specs.of_life_runs.Led.{Exchanged}
+use Rattle.life_runs.specs.First.{lens_of}
+use Rattle.life_runs.specs.Led.{Exchanged}
 use Rattle.link_mails.specs.Body.{Body}
 use Rattle.link_model.specs.Frames.{all_accepted}
 use Rattle.link_model.specs.Segment.{RingFate}
 use Rattle.master_duty.specs.Reply.{Reply}
 use Rattle.run_work.specs.of_master_hand.Spoken.{Asked, acknowledged, emission, is_followed, is_passed}
-use Rattle.served_places.specs.of_counters_kept.of_master_tour.Brings.{accepted_in}
+use Rattle.served_places.specs.of_life_runs.of_master_tour.Brings.{accepted_in}
 use Rattle.plan_ring.proofs.Known.{AllBoot, all_boot, macs_in}
 use Rattle.plan_ring.specs.Lives.{IsKnown}
 use Rattle.plan_ring.specs.Plan.{AllMacs, FitsPlan, step}
@@ -44,7 +44,7 @@ use Rattle.served_rings.specs.LedRings.{AllLedMembers, Counters, LedMember}
 use Rattle.served_rings.specs.Lives.{AllLeds, LedKept, LedLeft, LedYet, news_as, news_of}
 use Rattle.served_rings.specs.Rings.{AllServedAt, AreServedLived, IsServedAt, ServedMember, counters_of, served_member, served_members}
 use Rattle.served_rings.specs.Speakers.{speaker}
-use Rattle.served_runs.specs.Served.{AllServedTurn, IsServedFrame, IsServedTurn, Serves, ServedTurn, accepted_by}
+use Rattle.life_runs.specs.Served.{AllServedTurn, IsServedFrame, IsServedTurn, Serves, ServedTurn, accepted_by}
 use Rattle.run_work.proofs.of_slave_lives.AllSeats.{all_meet_first}
 use Rattle.plan_ring.specs.of_slave_lives.Lived.{Behind, RingFrame, frame_of, node_seen}
 use Rattle.plan_ring.specs.of_slave_lives.Opening.{Plan}
@@ -53,8 +53,8 @@ use Rattle.plan_ring.specs.of_slave_lives.Seats.{AllMeet}
 use Rattle.slave_model.specs.Profile.{IsProfile, Profile}
 use Rattle.plan_ring.specs.of_slave_server.Serving.{Serving}
 use Rattle.plan_ring.specs.of_slave_server.Spec.{profile_of}
-use Rattle.slave_steps.specs.Node.{Node}
-use Rattle.task_model.specs.Accounts.{Pick}
+use Rattle.slave_node.specs.Node.{Node}
+use Rattle.state_model.specs.Accounts.{Pick}
 use Rattle.plan_ring.proofs.of_whole_ring.Keeps.{Keeps}
 use Rattle.plan_ring.proofs.of_whole_ring.Members as Members
 use Rattle.plan_ring.proofs.of_whole_ring.Members.{all_come, joined, many, one_more, seat_of, seats_distinct, seats_known}

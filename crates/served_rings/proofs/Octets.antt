@@ -4,11 +4,11 @@ use Rattle.ec_fields.specs.Fields.{number_at}
 use Rattle.coe_codec.specs.Fields.{service_in, specifier_in, flag_in}
 use Rattle.coe_codec.specs.Reading.{segment_fits, first_fits, upload_answer_read, answer_read, download_read, request_read, coe_read}
 use Rattle.coe_codec.specs.Writing.{coe_text}
-use Rattle.coe_model.specs.Client.{is_incomplete}
-use Rattle.coe_model.specs.Mails.{Coe, CoeFault, Information, InformationError, is_emission}
-use Rattle.coe_model.specs.Octets.{heard}
-use Rattle.coe_model.specs.Server.{answer_opcode}
-use Rattle.coe_model.specs.Tables.{Ask, list, object, entry}
+use Rattle.protocol_models.specs.CoeClient.{is_incomplete}
+use Rattle.protocol_models.specs.CoeMails.{Coe, CoeFault, Information, InformationError, is_emission}
+use Rattle.protocol_models.specs.CoeOctets.{heard}
+use Rattle.protocol_models.specs.CoeServer.{answer_opcode}
+use Rattle.protocol_models.specs.Tables.{Ask, list, object, entry}
 
 -- what reads as a reply that no other follows
 abbrev pub Ends : List ℕ → Result Coe CoeFault → Type 0

@@ -4,11 +4,11 @@ use Rattle.std.specs.Prelude.{◌⊎◌}
 use Rattle.exchange_model.specs.Lifted.{EachOf}
 use Rattle.coe_codec.specs.Fields.{service_in}
 use Rattle.coe_codec.specs.Writing.{coe_text}
-use Rattle.coe_model.specs.Mails as Coe
-use Rattle.coe_model.specs.Mails.{CoeMail, mail, unread, failed, fragment, other, Abort, DownloadAnswer, SegmentAnswer, ExpeditedAnswer, FirstAnswer, UploadSegmentAnswer, Information, InformationError}
-use Rattle.coe_model.specs.Octets.{AreSpelled, coe_mail_written}
-use Rattle.coe_model.specs.Server.{Transfer, idle, downloading, uploading, Outcome, ended, goes_on, silent, abort, download_answer, same, stored, takes_whole, begins, takes_first, takes_segment, is_expedited, opened, takes_upload_segment, parts_of, information_parts, answer_opcode, informed, unknown_command, takes_unread, coe_takes, coe_outcome, emergency}
-use Rattle.coe_model.specs.Tables.{Target, nowhere, Ask, list, object, entry, Tables}
+use Rattle.protocol_models.specs.CoeMails as Coe
+use Rattle.protocol_models.specs.CoeMails.{CoeMail, mail, unread, failed, fragment, other, Abort, DownloadAnswer, SegmentAnswer, ExpeditedAnswer, FirstAnswer, UploadSegmentAnswer, Information, InformationError}
+use Rattle.protocol_models.specs.CoeOctets.{AreSpelled, coe_mail_written}
+use Rattle.protocol_models.specs.CoeServer.{Transfer, idle, downloading, uploading, Outcome, ended, goes_on, silent, abort, download_answer, same, stored, takes_whole, begins, takes_first, takes_segment, is_expedited, opened, takes_upload_segment, parts_of, information_parts, answer_opcode, informed, unknown_command, takes_unread, coe_takes, coe_outcome, emergency}
+use Rattle.protocol_models.specs.Tables.{Target, nowhere, Ask, list, object, entry, Tables}
 use Rattle.run_work.specs.of_master_hand.Spoken.{is_followed}
 use Rattle.serving_model.specs.Passing.{ends_told}
 use Rattle.slave_model.specs.Product.{emission}

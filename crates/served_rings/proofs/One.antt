@@ -6,16 +6,16 @@ use Rattle.frame_view.specs.Seen.{seen}
 use Rattle.frame_view.specs.View.{Lens}
 use Rattle.served_rings.specs.Lives.{news_by, news_of, recorded_by, recorded_of}
 use Rattle.served_rings.specs.LedRings.{counters_next}
-use Rattle.life_frames.specs.Shares.{Asked as AskedFor, came_at, given_where}
+use Rattle.frame_view.specs.Shares.{Asked as AskedFor, came_at, given_where}
 use Rattle.life_model.specs.Lives.{Spot, Life, life_back, life_lost, life_next, gives_up}
-use Rattle.served_runs.specs.of_life_runs.First.{lens_of, spot_of}
-use Rattle.served_runs.specs.of_life_runs.Led.{Exchanged, speech_at}
+use Rattle.life_runs.specs.First.{lens_of, spot_of}
+use Rattle.life_runs.specs.Led.{Exchanged, speech_at}
 use Rattle.link_mails.specs.Body.{Body}
 use Rattle.link_model.specs.Segment.{RingFate}
 use Rattle.master_duty.specs.Reply.{Reply}
 use Rattle.run_work.specs.of_master_hand.Spoken.{Asked, acknowledged, hand_speech, is_followed, is_passed}
 use Rattle.master_side.specs.Passing.{news_back, news_lost}
-use Rattle.news_kept.specs.Counts.{counts_on, kept_on}
+use Rattle.master_side.specs.Counts.{counts_on, kept_on}
 use Rattle.plan_ring.specs.Round.{WentRound}
 use Rattle.plan_ring.proofs.Known.{Boots}
 use Rattle.plan_ring.proofs.Turns.{boots_is}
@@ -27,12 +27,12 @@ use Rattle.segment_ring.specs.Ring.{RingState}
 use Rattle.segment_ring.specs.Schedule.{fate_at}
 use Rattle.segment_ring.specs.declared.wire.Fate.{Fate}
 use Rattle.segment_ring.specs.declared.wire.Fate.TheVariants.{Pass, Lost}
-use Rattle.served_runs.specs.Served.{Keyed, Serves, ServedTurn, ServedComes, IsServedTurn, served_behind, served_life, recorded}
-use Rattle.served_runs.specs.Told.{Passed}
+use Rattle.life_runs.specs.Served.{Keyed, Serves, ServedTurn, ServedComes, IsServedTurn, served_behind, served_life, recorded}
+use Rattle.life_runs.specs.Told.{Passed}
 use Rattle.plan_ring.specs.of_slave_lives.Rings.{fate_seen}
 use Rattle.plan_ring.specs.of_slave_server.Serving.{Serving}
-use Rattle.slave_steps.specs.Node.{Node}
-use Rattle.state_exchange.specs.Stated.{Service}
+use Rattle.slave_node.specs.Node.{Node}
+use Rattle.state_model.specs.Stated.{Service}
 use Rattle.plan_ring.specs.of_whole_ring.Turning.{BeginBoots, Turn, TurnsFor, frame_at, life_by, next_life}
 use Rattle.plan_ring.proofs.of_whole_ring.Turning as Ring
 use Rattle.served_rings.specs.Rings.{IsServedAt, ServedMember, counters_of, served_member}

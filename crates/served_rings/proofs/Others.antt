@@ -4,23 +4,23 @@ use Rattle.std.specs.Prelude.{◌⊎◌}
 use Rattle.link_mails.specs.Body.{Body}
 use Rattle.eoe.specs.declared.message.Fragment.{Fragment}
 use Rattle.eoe.specs.Message.{eoe_text}
-use Rattle.coe_model.specs.Mails as Coe
+use Rattle.protocol_models.specs.CoeMails as Coe
 use Rattle.eoe.specs.Cutting.{fragments_of}
 use Rattle.eoe.specs.Joining.{taken}
 use Rattle.eoe.specs.declared.joining.Joined.{Joined}
 use Rattle.eoe.specs.declared.joining.Joined.TheVariants.{More, Whole, Dropped}
 use Rattle.exchange_model.specs.Exchange.{plain}
 use Rattle.exchange_model.specs.Lifted.{EachOf}
-use Rattle.foe_model.specs.Mails as Foe
-use Rattle.foe_model.specs.Octets as FoeOctets
-use Rattle.soe_model.specs.Elements.{Elements, Target}
-use Rattle.soe_model.specs.Mails as Soe
-use Rattle.soe_model.specs.Octets as SoeOctets
-use Rattle.soe_model.specs.Server as SoeServer
-use Rattle.eoe_model.specs.Mails as Eoe
-use Rattle.eoe_model.specs.Octets as EoeOctets
-use Rattle.eoe_model.specs.Server as EoeServer
-use Rattle.eoe_model.specs.Network.{Network, Station}
+use Rattle.protocol_models.specs.FoeMails as Foe
+use Rattle.protocol_models.specs.FoeOctets as FoeOctets
+use Rattle.protocol_models.specs.Elements.{Elements, Target}
+use Rattle.protocol_models.specs.SoeMails as Soe
+use Rattle.protocol_models.specs.SoeOctets as SoeOctets
+use Rattle.protocol_models.specs.SoeServer as SoeServer
+use Rattle.protocol_models.specs.EoeMails as Eoe
+use Rattle.protocol_models.specs.EoeOctets as EoeOctets
+use Rattle.protocol_models.specs.EoeServer as EoeServer
+use Rattle.protocol_models.specs.Network.{Network, Station}
 use Rattle.run_work.specs.of_master_hand.Spoken.{is_followed}
 use Rattle.serving_model.specs.Passing.{ends_told}
 use Rattle.slave_model.specs.Product.{emission}

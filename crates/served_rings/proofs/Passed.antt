@@ -2,7 +2,7 @@
 use Rattle.std.proofs.Common.{◌≡◌, inl, inr, not, cond, Bool, true, false, List, [], ◌∷◌, map, refl, ap, sym, ◌∙◌, subst, append-nil, if◌then◌else◌}
 use Rattle.std.specs.Prelude.{◌⊎◌}
 use Rattle.exchange_model.specs.Exchange.{Exchange, plain}
-use Rattle.served_places.specs.of_passed_whole.Heard.{LastTold}
+use Rattle.served_places.specs.of_few_replies.Heard.{LastTold}
 use Rattle.serving_model.specs.Passing.{ends_told, LastTells}
 use Rattle.serving_model.specs.Tagged.{Meant, Tagged, Asked, untag, own_gift, is_own, no_reply, last_gifts, answer_gifts, ideal, tagged}
 use Rattle.served_rings.proofs.Ends.{ends_mapped}

@@ -32,12 +32,12 @@ use Rattle.serving_model.specs.Tagged.{asked_exec, untag}
 use Rattle.slave_model.specs.Profile.{Profile}
 use Rattle.slave_model.specs.Server as SlaveReply
 use Rattle.slave_parts.specs.Parts.{Server, parts}
-use Rattle.slave_served.specs.Served.{product_whole}
-use Rattle.state_exchange.specs.Families.{InState}
-use Rattle.state_exchange.specs.Stated.{Service, service_valid}
+use Rattle.slave_parts.specs.Served.{product_whole}
+use Rattle.state_model.specs.Families.{InState}
+use Rattle.state_model.specs.Stated.{Service, service_valid}
 use Rattle.state_model.specs.Promises.{state_behind}
-use Rattle.task_model.specs.Accounts.{Change}
-use Rattle.task_model.specs.Promise.{duty_in, services_in}
+use Rattle.state_model.specs.Accounts.{Change}
+use Rattle.state_model.specs.Promise.{duty_in, services_in}
 
 module _ (p : Profile) (boot : Bool) (station : ℕ) where
   abbrev replies_there : ℕ → ℕ → InState Server × ℕ → List (Service Wanted) → List (RowHere p) → List (Change (Option SlaveReply.Reply)) → Type 0

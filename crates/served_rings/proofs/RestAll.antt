@@ -2,12 +2,12 @@
 use Rattle.std.proofs.Common.{◌≡◌, ℕ, suc, true, None, List, [], ◌∷◌, ◌++◌, length, ap, ◌∙◌, subst, append-nil}
 use Rattle.std.specs.Prelude.{All}
 use Rattle.std.proofs.lemmas.List.Elements.{All-head, All-tail}
-use Rattle.book_model.specs.Script.{life_started}
+use Rattle.life_model.specs.Script.{life_started}
 use Rattle.exchange_model.specs.Exchange.{Speech}
 use Rattle.frame_view.specs.View.{Lens}
 use Rattle.life_model.specs.Lives.{Era, Spot, Stand}
-use Rattle.served_runs.specs.of_life_runs.First.{HaveLens, lens_of, script_for}
-use Rattle.served_runs.specs.of_life_runs.Led.{speech_at}
+use Rattle.life_runs.specs.First.{HaveLens, lens_of, script_for}
+use Rattle.life_runs.specs.Led.{speech_at}
 use Rattle.link_mails.specs.Body.{Body}
 use Rattle.master_duty.specs.Reply.{Reply}
 use Rattle.run_work.specs.of_master_hand.Spoken.{Asked, hand_speech}
@@ -22,13 +22,13 @@ use Rattle.served_rings.specs.Stood.{AllHeld, ServeStood}
 use Rattle.served_rings.specs.StoodLives.{IsFirst, others}
 use Rattle.served_rings.specs.Speakers.{spoken}
 use Rattle.run_work.specs.Lives.{first_server}
-use Rattle.served_runs.specs.Came.{AreAmong, HasServed, ServedCame}
-use Rattle.served_runs.specs.Served.{Serves}
+use Rattle.life_runs.specs.Came.{AreAmong, HasServed, ServedCame}
+use Rattle.life_runs.specs.Served.{Serves}
 use Rattle.slave_parts.specs.Parts.{Server}
 use Rattle.plan_ring.specs.of_slave_server.Serving.{Serving, next_mail}
 use Rattle.plan_ring.specs.of_slave_server.Spec.{profile_of}
-use Rattle.slave_steps.specs.Node.{Node, is_settled}
-use Rattle.state_exchange.specs.Families.{InState}
+use Rattle.slave_node.specs.Node.{Node, is_settled}
+use Rattle.state_model.specs.Families.{InState}
 
 module _ (s : SlaveSpec) (from : InState Server) (e : Era Body Asked Reply) (n : Node Serving) (settled : is_settled next_mail n ≡ true) (wants : WantsNothing (spoken (profile_of s)).speech e.side) (hand : e.account.hand ≡ None) (over : e.passing ≡ None) where
   -- of an open epoch nothing is left

@@ -10,8 +10,8 @@ use Rattle.link_mails.specs.Body.{Body}
 use Rattle.link_model.specs.Mails.{LinkMail}
 use Rattle.master_duty.specs.Reply.{Reply}
 use Rattle.run_work.specs.of_master_hand.Spoken.{Asked, emission}
-use Rattle.served_places.proofs.of_passed_whole.Naturals.{none_of}
-use Rattle.served_places.specs.of_passed_whole.Erased.{OfRow, PlanOne, row_seen, side_seen}
+use Rattle.served_places.proofs.of_few_replies.Naturals.{none_of}
+use Rattle.served_places.specs.of_few_replies.Erased.{OfRow, PlanOne, row_seen, side_seen}
 use Rattle.run_work.specs.Sessions.{Meant, Wanted, named_wanted}
 use Rattle.segment_model.proofs.Overs.{over_parts}
 use Rattle.segment_model.specs.Laws.{IsSettled, NothingInHand, WantsNothing}
@@ -36,12 +36,12 @@ use Rattle.serving_model.specs.Tagged.{asked_exec, asked_reply, ideal, real, unt
 use Rattle.slave_model.specs.Profile.{Profile, Protocol}
 use Rattle.slave_model.specs.Server as SlaveReply
 use Rattle.slave_parts.specs.Parts.{Server, parts}
-use Rattle.slave_served.specs.Served.{product_whole}
-use Rattle.state_exchange.specs.Families.{InState}
-use Rattle.state_exchange.specs.Stated.{Service, service_valid}
+use Rattle.slave_parts.specs.Served.{product_whole}
+use Rattle.state_model.specs.Families.{InState}
+use Rattle.state_model.specs.Stated.{Service, service_valid}
 use Rattle.state_model.specs.Promises.{answer_of, state_behind}
-use Rattle.task_model.specs.Accounts.{Change}
-use Rattle.task_model.specs.Promise.{changes_in, duty_in, services_in}
+use Rattle.state_model.specs.Accounts.{Change}
+use Rattle.state_model.specs.Promise.{changes_in, duty_in, services_in}
 
 module _ (p : Profile) where
   abbrev pub RowHere : Type 0

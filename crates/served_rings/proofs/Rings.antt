@@ -5,13 +5,13 @@ use Rattle.datagrams.specs.Frame.{IsFrame, chained}
 use Rattle.frame_view.specs.View.{Lens}
 use Rattle.life_model.specs.Lives.{Spot, Life, new_life}
 use Rattle.link_mails.specs.Body.{Body}
-use Rattle.news_kept.specs.Counts.{counts_on, kept_on}
+use Rattle.master_side.specs.Counts.{counts_on, kept_on}
 use Rattle.segment_model.specs.Record.{Frame, News}
 use Rattle.segment_ring.specs.Ring.{RingState}
 use Rattle.plan_ring.specs.of_slave_lives.Lived.{RingFrame, frame_of, node_behind}
 use Rattle.plan_ring.specs.of_slave_lives.Rings.{come_to, fate_seen, is_met_at, met, turned}
 use Rattle.plan_ring.specs.of_slave_lives.Seats.{AllMeet}
-use Rattle.slave_steps.specs.Node.{Node}
+use Rattle.slave_node.specs.Node.{Node}
 use Rattle.plan_ring.specs.of_whole_ring.Turns as Whole
 use Rattle.plan_ring.specs.of_whole_ring.Members.{Member, MemberIs, AllLived, IsRing, IsNew, AllNew}
 use Rattle.plan_ring.specs.of_whole_ring.Turning.{Turn, TurnsFor, AllTurn, frame_at, life_by, behind_frame}

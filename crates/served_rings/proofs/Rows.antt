@@ -1,7 +1,7 @@
 -- WORKED ROWS: a mail of a protocol that its slave doesn't serve.
 use Rattle.std.proofs.Common.{◌≡◌, ◌&&◌, not, ◌==◌, ℕ, suc, Bool, false, [], ◌∷◌, ap, ◌∙◌, Ok}
 use Rattle.exchange_model.specs.Exchange.{plain}
-use Rattle.exchange_sum.specs.Refusing.{gated}
+use Rattle.exchange_model.specs.Refusing.{gated}
 use Rattle.mailbox_mail.specs.declared.mail.Kind.{Kind}
 use Rattle.mailbox_mail.specs.declared.mail.Mail.{Mail}
 use Rattle.run_work.specs.of_master_hand.Spoken.{emission, passed}
@@ -9,8 +9,8 @@ use Rattle.slave_model.specs.Product.{protocol_of, refusal, serve_by, served}
 use Rattle.slave_model.specs.Profile.{Protocol, Profile, serves}
 use Rattle.slave_model.specs.Server.{failure, reseated, seat}
 use Rattle.slave_parts.specs.Parts.{Server, parts}
-use Rattle.state_exchange.specs.Families.{InState}
-use Rattle.state_exchange.specs.Stated.{Service}
+use Rattle.state_model.specs.Families.{InState}
+use Rattle.state_model.specs.Stated.{Service}
 use Rattle.served_rings.specs.Served.{replies_to, server_behind}
 
 module _ (p : Profile) (boot : Bool) (station : ℕ) (v : InState Server) (m : Mail) (none : p.has_coe ≡ false) (kind : m.kind ≡ Kind.CoE) where

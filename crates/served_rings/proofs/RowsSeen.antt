@@ -2,7 +2,7 @@
 use Rattle.std.proofs.Common.{◌≡◌, Option, None, Some, ◌++◌, map, option_map, refl, ap, sym, ◌∙◌}
 use Rattle.std.proofs.lemmas.List.{map-append}
 use Rattle.exchange_model.specs.Rows.{Row}
-use Rattle.served_places.specs.of_passed_whole.Erased.{row_seen, side_seen}
+use Rattle.served_places.specs.of_few_replies.Erased.{row_seen, side_seen}
 use Rattle.segment_model.specs.Seats.{Side, newest, rows_of}
 
 module _ {N M P Q S R : Type 0} (f : N → M) (g : P → Q) (h : S → R) where

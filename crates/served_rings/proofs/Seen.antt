@@ -3,22 +3,22 @@ use Rattle.std.proofs.Common.{◌≡◌, ℕ, Bool, false, Option, Some, List, [
 use Rattle.life_model.specs.Eras.{OpenEra, era_frames, frames_of}
 use Rattle.life_model.specs.Lives.{Spot, Era}
 use Rattle.life_model.proofs.Eras.{session_of, of_one}
-use Rattle.served_places.specs.of_passed_whole.Clearing.{Forgets}
-use Rattle.served_places.proofs.of_passed_whole.Clears.{clears}
+use Rattle.served_places.specs.of_few_replies.Clearing.{Forgets}
+use Rattle.served_places.proofs.of_few_replies.Clears.{clears}
 use Rattle.served_rings.proofs.SeenRows.{era_in}
 use Rattle.segment_model.specs.Record.{Frame}
 use Rattle.segment_model.specs.Seats.{Side}
 use Rattle.segment_model.specs.Slaves.{Registers, Processor, Slave}
 use Rattle.serving_model.specs.Tagged.{Tagged, Asked, Rowed, ideal, real}
-use Rattle.state_exchange.specs.Stated.{Service}
+use Rattle.state_model.specs.Stated.{Service}
 use Rattle.state_model.specs.States.{Table}
 use Rattle.run_work.specs.of_life_counts.Epochs.{Speaker, IsSpeaker, IsSeen, between, seeing, seeing_states}
 use Rattle.run_work.specs.of_life_counts.Foreseen.{AllRight, server_behind}
 use Rattle.run_work.proofs.of_life_counts.Rights.{Between}
 use Rattle.run_work.proofs.of_life_counts.TaggedWhole.{seeing_lawful, seeing_stated}
-use Rattle.task_model.specs.Accounts.{Account, Started}
-use Rattle.task_model.specs.Promise.{TasksPromised, services_in}
-use Rattle.task_model.proofs.Sessions.{of_slaves, tasks_promised}
+use Rattle.state_model.specs.Accounts.{Account, Started}
+use Rattle.state_model.specs.Promise.{TasksPromised, services_in}
+use Rattle.state_model.proofs.Sessions.{of_slaves, tasks_promised}
 use Rattle.exchange_model.specs.Rows.{Row}
 use Rattle.served_rings.proofs.Newest.{AllValid, IsHeard, all_valid, newest_heard}
 

@@ -8,8 +8,8 @@ use Rattle.segment_model.specs.Record.{Frame}
 use Rattle.segment_model.specs.Slaves.{Registers, Processor, Slave}
 use Rattle.serving_model.specs.Tagged.{Tagged, Asked, Rowed}
 use Rattle.state_model.specs.States.{Table}
-use Rattle.task_model.specs.Promise.{TasksAnswered, TasksRestIf}
-use Rattle.task_model.proofs.Sessions.{tasks_answered, tasks_rest}
+use Rattle.state_model.specs.Promise.{TasksAnswered, TasksRestIf}
+use Rattle.state_model.proofs.Sessions.{tasks_answered, tasks_rest}
 use Rattle.served_rings.proofs.Seen.{epoch}
 
 module _ {V M Q R C T : Type 0} (w : Speaker V M Q R C T) (k : IsSpeaker w) (seer : Processor (Rowed V M Q)) (table : ℕ → Table) (spot : Spot) (opened : ℕ) (v : V) (r : Registers) (fs : List (Frame M)) (counts : Bool) (e : Era M T (Option R)) (n : Slave V M)

@@ -10,22 +10,22 @@ use Rattle.life_model.specs.Eras.{EraIs, OpenEra, era_frames}
 use Rattle.life_model.specs.Lives.{Spot, Era}
 use Rattle.life_model.proofs.Eras.{session_of, of_one}
 use Rattle.few_replies.specs.Calm.{calm_tagged}
-use Rattle.served_places.specs.of_passed_whole.Clearing.{InRowOf, InRow}
+use Rattle.served_places.specs.of_few_replies.Clearing.{InRowOf, InRow}
 use Rattle.segment_model.specs.Ends.{Outcome}
 use Rattle.segment_model.specs.Record.{Frame}
 use Rattle.segment_model.specs.Seats.{Side, Seat}
 use Rattle.segment_model.specs.Slaves.{Registers, Processor, Slave}
 use Rattle.serving_model.specs.Tagged.{Meant, Tagged, Asked, Rowed, more_of, told, ideal, rows_done}
 use Rattle.serving_model.specs.TaggedStates.{told_state, tagged_states}
-use Rattle.state_exchange.specs.Stated.{Stated, IsStated, Act, acts, Service, Counting, with_states}
-use Rattle.state_exchange.proofs.Acts.{after_acts}
-use Rattle.state_exchange.proofs.StatedLaw.{stated_law}
+use Rattle.state_model.specs.Stated.{Stated, IsStated, Act, acts, Service, Counting, with_states}
+use Rattle.state_model.proofs.Acts.{after_acts}
+use Rattle.state_model.proofs.StatedLaw.{stated_law}
 use Rattle.state_model.specs.States.{Table}
-use Rattle.task_model.specs.Accounts.{Account}
-use Rattle.task_model.proofs.Ghosts as Ghosts
-use Rattle.task_model.proofs.Ghosts.{counting, Carried}
-use Rattle.task_model.proofs.Sessions.{of_slaves}
-use Rattle.task_model.proofs.Stately.{state_over}
+use Rattle.state_model.specs.Accounts.{Account}
+use Rattle.state_model.proofs.Ghosts as Ghosts
+use Rattle.state_model.proofs.Ghosts.{counting, Carried}
+use Rattle.state_model.proofs.Sessions.{of_slaves}
+use Rattle.state_model.proofs.Stately.{state_over}
 
 both_true : (a b : Bool) → (a && b) ≡ true → a ≡ true
 both_true true b e = refl

@@ -2,8 +2,8 @@
 use Rattle.std.proofs.Common.{ℕ, Option, length, refl}
 use Rattle.exchange_model.specs.Exchange.{Exchange}
 use Rattle.life_model.specs.Lives.{Spot, Life}
-use Rattle.served_places.specs.of_passed_whole.Clearing.{Forgets}
-use Rattle.served_places.proofs.of_passed_whole.Clears.{clears}
+use Rattle.served_places.specs.of_few_replies.Clearing.{Forgets}
+use Rattle.served_places.proofs.of_few_replies.Clears.{clears}
 use Rattle.segment_model.specs.Slaves.{Processor}
 use Rattle.serving_model.specs.Tagged.{Rowed}
 use Rattle.state_model.specs.States.{Table}

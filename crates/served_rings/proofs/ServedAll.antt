@@ -3,10 +3,10 @@ use Rattle.std.proofs.Common.{◌≡◌, ℕ, suc, Bool, List, [], ◌∷◌, ma
 use Rattle.std.specs.Prelude.{All}
 use Rattle.std.proofs.lemmas.List.Elements.{All-head, All-tail}
 use Rattle.frame_view.specs.View.{Lens}
-use Rattle.served_runs.specs.of_life_runs.First.{lens_of, spot_of}
+use Rattle.life_runs.specs.First.{lens_of, spot_of}
 use Rattle.link_mails.specs.Body.{Body}
 use Rattle.run_work.specs.of_master_hand.Spoken.{is_followed, is_passed}
-use Rattle.served_places.specs.of_passed_whole.Clearing.{Forgets}
+use Rattle.served_places.specs.of_few_replies.Clearing.{Forgets}
 use Rattle.plan_ring.specs.Plan.{AllMacs, plan_of}
 use Rattle.served_rings.specs.Speakers.{cleared_whole, speaker}
 use Rattle.run_work.specs.Lives.{first_server}
@@ -15,12 +15,12 @@ use Rattle.segment_plan.specs.Sound.{IsSlave}
 use Rattle.segment_plan.specs.declared.plan.Scenario.{Scenario}
 use Rattle.segment_plan.specs.declared.slave.SlaveSpec.{SlaveSpec}
 use Rattle.served_rings.specs.Rings.{AllServedAt, ServedMember, counters_of, served_members}
-use Rattle.served_runs.specs.Served.{Serves}
+use Rattle.life_runs.specs.Served.{Serves}
 use Rattle.plan_ring.specs.of_slave_lives.Lived.{IsBehind}
 use Rattle.slave_model.specs.Profile.{Profile, IsProfile}
 use Rattle.plan_ring.specs.of_slave_server.Serving.{Serving}
 use Rattle.plan_ring.specs.of_slave_server.Spec.{profile_of}
-use Rattle.slave_steps.specs.Node.{Node}
+use Rattle.slave_node.specs.Node.{Node}
 use Rattle.run_work.specs.of_life_counts.Epochs.{IsSpeaker}
 use Rattle.served_rings.specs.Stood.{ServeStood}
 use Rattle.served_rings.specs.StoodLives.{AllStoodMembers, IsFirst, others}

@@ -7,7 +7,7 @@ use Rattle.life_model.specs.Lives.{Spot, Era, Life, Opening, Stand, new_era}
 use Rattle.link_mails.specs.Body.{Body}
 use Rattle.master_duty.specs.Reply.{Reply}
 use Rattle.run_work.specs.of_master_hand.Spoken.{Asked, is_followed, is_passed}
-use Rattle.served_places.specs.of_passed_whole.Clearing.{Forgets}
+use Rattle.served_places.specs.of_few_replies.Clearing.{Forgets}
 use Rattle.served_rings.specs.Speakers.{cleared_whole, speaker}
 use Rattle.segment_model.specs.Record.{Frame, Kept}
 use Rattle.segment_model.specs.Seats.{rows_of}
@@ -19,8 +19,8 @@ use Rattle.plan_ring.specs.of_slave_lives.Stands.{opening_again}
 use Rattle.slave_model.specs.Profile.{Profile}
 use Rattle.slave_parts.specs.Parts.{Server}
 use Rattle.plan_ring.specs.of_slave_server.Serving.{Serving, fresh}
-use Rattle.slave_steps.specs.Node.{Node}
-use Rattle.state_exchange.specs.Families.{InState}
+use Rattle.slave_node.specs.Node.{Node}
+use Rattle.state_model.specs.Families.{InState}
 use Rattle.run_work.specs.of_life_counts.Epochs.{IsSpeaker}
 use Rattle.plan_ring.specs.of_whole_ring.Whole.{OpensBy, StandsBy}
 use Rattle.served_rings.specs.Served.{AreServedEras, Holds, IsServedEra, IsServedNewest, IsServedLife, NothingCame}

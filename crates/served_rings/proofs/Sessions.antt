@@ -4,12 +4,12 @@ use Rattle.exchange_model.specs.Exchange.{Exchange}
 use Rattle.life_model.specs.Eras.{EraIs, planned}
 use Rattle.life_model.specs.Lives.{Spot, Era}
 use Rattle.life_model.proofs.Eras as Eras
-use Rattle.served_places.specs.of_passed_whole.Led.{IsLed, frame_in, news_in, turn_after}
+use Rattle.served_places.specs.of_few_replies.Led.{IsLed, frame_in, news_in, turn_after}
 use Rattle.segment_model.specs.Record.{Frame}
 use Rattle.segment_model.specs.Slaves.{Registers, Processor, Slave}
-use Rattle.state_exchange.specs.Stated.{Stated}
+use Rattle.state_model.specs.Stated.{Stated}
 use Rattle.state_model.specs.States.{Table}
-use Rattle.task_model.specs.Tasks.{IsTaskPlan}
+use Rattle.state_model.specs.Tasks.{IsTaskPlan}
 
 module _ {V A M Q R : Type 0} (x : Exchange V A M Q R) (s : Stated V A Q) (processor : Processor V) (table : ℕ → Table) (more : M → Bool) (passed : Q → Bool) (spot : Spot) (opened : ℕ) (v : V) (r : Registers)
     (plan : IsTaskPlan x s processor table (planned spot v r ∷ [])) (answers : r.station ≡ spot.station) where

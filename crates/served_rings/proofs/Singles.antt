@@ -13,7 +13,7 @@ use Rattle.life_model.specs.Own.{own, AreSeen}
 use Rattle.link_mails.specs.Body.{Body, link_read, bit_1}
 use Rattle.link_model.specs.Frames.{Ask}
 use Rattle.mailbox_mail.specs.Mail.{mail_read}
-use Rattle.served_places.specs.of_passed_whole.Led.{AreSingle}
+use Rattle.served_places.specs.of_few_replies.Led.{AreSingle}
 use Rattle.segment_model.specs.Record.{is_for}
 use Rattle.segment_model.specs.Slaves.{Access, Address, Datagram}
 

@@ -8,24 +8,24 @@ use Rattle.eoe.specs.Message.{eoe_text}
 use Rattle.eoe.specs.Cutting.{fragments_of}
 use Rattle.exchange_model.specs.Exchange.{plain}
 use Rattle.exchange_model.specs.Lifted.{EachOf}
-use Rattle.exchange_sum.specs.Refusing.{gated}
-use Rattle.coe_model.specs.Mails as Coe
-use Rattle.coe_model.specs.Octets as CoeOctets
-use Rattle.coe_model.specs.Server.{Emission, emergency, packet, coe_outcome, issued}
-use Rattle.coe_model.proofs.Spelling.{reads_back}
-use Rattle.foe_model.specs.Mails as Foe
-use Rattle.foe_model.specs.Octets as FoeOctets
-use Rattle.foe_model.specs.Server as FoeServer
-use Rattle.foe_model.proofs.Speaks as FoeSpeaks
-use Rattle.soe_model.specs.Mails as Soe
-use Rattle.soe_model.specs.Octets as SoeOctets
-use Rattle.soe_model.specs.Server as SoeServer
-use Rattle.eoe_model.specs.Mails as Eoe
-use Rattle.eoe_model.specs.Octets as EoeOctets
-use Rattle.eoe_model.specs.Network.{Station}
+use Rattle.exchange_model.specs.Refusing.{gated}
+use Rattle.protocol_models.specs.CoeMails as Coe
+use Rattle.protocol_models.specs.CoeOctets as CoeOctets
+use Rattle.protocol_models.specs.CoeServer.{Emission, emergency, packet, coe_outcome, issued}
+use Rattle.protocol_models.proofs.Spelling.{reads_back}
+use Rattle.protocol_models.specs.FoeMails as Foe
+use Rattle.protocol_models.specs.FoeOctets as FoeOctets
+use Rattle.protocol_models.specs.FoeServer as FoeServer
+use Rattle.protocol_models.proofs.FoeSpeaks as FoeSpeaks
+use Rattle.protocol_models.specs.SoeMails as Soe
+use Rattle.protocol_models.specs.SoeOctets as SoeOctets
+use Rattle.protocol_models.specs.SoeServer as SoeServer
+use Rattle.protocol_models.specs.EoeMails as Eoe
+use Rattle.protocol_models.specs.EoeOctets as EoeOctets
+use Rattle.protocol_models.specs.Network.{Station}
 use Rattle.run_work.specs.of_master_hand.Spoken.{is_followed}
 use Rattle.serving_model.specs.Passing.{LastTells}
-use Rattle.slave_served.specs.Served.{product_whole}
+use Rattle.slave_parts.specs.Served.{product_whole}
 use Rattle.slave_model.specs.Application.{Core, Parts, ArePartsLawful, station_valid, station_tables, station_files, station_elements, network}
 use Rattle.slave_model.specs.Product.{emission, served, side, refusal, protocol_of, serve_by, serve_other, serve}
 use Rattle.slave_model.specs.Profile.{Protocol, Profile, IsProfile, serves, areas_of}

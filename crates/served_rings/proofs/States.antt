@@ -4,19 +4,19 @@ use Rattle.std.proofs.lemmas.List.{map-append}
 use Rattle.exchange_model.specs.Exchange.{Exchange, after, plain}
 use Rattle.exchange_model.specs.Rows.{Row, told_all}
 use Rattle.life_model.specs.Lives.{Spot, Era}
-use Rattle.served_places.specs.of_passed_whole.Silent.{is_passed}
+use Rattle.served_places.specs.of_few_replies.Silent.{is_passed}
 use Rattle.segment_model.specs.Record.{Frame}
 use Rattle.segment_model.specs.Slaves.{Registers, Processor, Slave}
 use Rattle.serving_model.specs.Tagged.{Meant, Tagged, Asked, Rowed, is_own, untag}
-use Rattle.state_exchange.proofs.Acts.{acts_same, plain_acts}
-use Rattle.state_exchange.specs.Stated.{Service, with_states}
+use Rattle.state_model.proofs.Acts.{acts_same, plain_acts}
+use Rattle.state_model.specs.Stated.{Service, with_states}
 use Rattle.state_model.specs.States.{Table}
 use Rattle.run_work.specs.of_life_counts.Epochs.{Speaker, IsSpeaker, IsSeen, between, seeing, seeing_states}
 use Rattle.run_work.specs.of_life_counts.Foreseen.{AllRight, server_behind}
 use Rattle.run_work.proofs.of_life_counts.TaggedWhole.{seeing_lawful, seeing_stated}
-use Rattle.task_model.proofs.Ghosts.{counting}
-use Rattle.task_model.specs.Accounts.{Started}
-use Rattle.task_model.specs.Promise.{mails_in, services_in}
+use Rattle.state_model.proofs.Ghosts.{counting}
+use Rattle.state_model.specs.Accounts.{Started}
+use Rattle.state_model.specs.Promise.{mails_in, services_in}
 use Rattle.served_rings.proofs.Before.{led_behind}
 use Rattle.served_rings.proofs.Newest.{behind, gifts_are, given_one, replies, right_at}
 use Rattle.served_rings.proofs.Turned.{by_mails}

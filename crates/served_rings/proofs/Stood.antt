@@ -2,24 +2,24 @@
 use Rattle.std.proofs.Common.{◌≡◌, ◌⊎◌, inl, inr, ℕ, suc, ◌<◌, ◌≤◌, ◌==◌, ◌&&◌, Bool, true, false, List, [], ◌∷◌, ◌++◌, length, refl, ap, sym, ◌∙◌, subst, arith, length-append}
 use Rattle.std.specs.Prelude.{All, Option, Some, None, nat_lt, if◌then◌else◌}
 use Rattle.std.proofs.lemmas.List.Elements.{All-cons, All-head, All-nil, All-tail}
-use Rattle.frame_pass.specs.Passing.{datagrams_after}
+use Rattle.slave_node.specs.Passing.{datagrams_after}
 use Rattle.frames_seen.specs.Own.{own_of}
 use Rattle.frames_seen.specs.Ring.{AllApart}
 use Rattle.frames_seen.specs.Slaves.{registers_seen}
 use Rattle.life_model.specs.Eras.{Clearing}
 use Rattle.life_model.specs.Lives.{Spot, Era, Life, Opening, Stand, clears, gives_up, is_shown, last_step, new_era, new_life, opens, opens_state, reopening, reopens, reopens_at, returns_to_init, shows_clear, steps_on}
-use Rattle.served_runs.specs.of_life_runs.Causes.{since}
+use Rattle.life_runs.specs.Causes.{since}
 use Rattle.link_mails.specs.Body.{Body}
 use Rattle.link_model.specs.Segment.{RingFate}
-use Rattle.news_kept.specs.Counts.{counts_on, kept_on}
+use Rattle.master_side.specs.Counts.{counts_on, kept_on}
 use Rattle.segment_model.specs.Record.{Frame, Kept, News}
 use Rattle.segment_model.specs.Slaves.{Found}
 use Rattle.plan_ring.specs.of_slave_lives.Ends.{YetFrame}
 use Rattle.plan_ring.specs.of_slave_lives.Lived.{Behind, LivesEra, RingFrame, frame_of, node_behind}
 use Rattle.plan_ring.specs.of_slave_lives.Rings.{come_to, registers_of}
 use Rattle.plan_ring.specs.of_slave_lives.Opening.{Plan}
-use Rattle.slave_steps.specs.Node.{Node, new_node}
-use Rattle.task_model.specs.Accounts.{Duty, Pick, Stage}
+use Rattle.slave_node.specs.Node.{Node, new_node}
+use Rattle.state_model.specs.Accounts.{Duty, Pick, Stage}
 use Rattle.plan_ring.specs.of_whole_ring.Turns.{FrameComes, TurnsAs, era_behind, life_by}
 use Rattle.plan_ring.specs.of_whole_ring.Whole.{IsLivedBy, IsWhole, Leaving, Living, LivesStillBy, OpensBy, Passing, StandsBy}
 use Rattle.plan_ring.proofs.of_whole_ring.Open.{steady_of}

@@ -14,8 +14,8 @@ use Rattle.life_model.specs.Own as Own
 use Rattle.life_model.specs.Own.{own_fate, own_frame}
 use Rattle.link_model.specs.Frames.{all_accepted}
 use Rattle.link_model.specs.Segment.{RingFate}
-use Rattle.served_places.proofs.of_passed_whole.Founds.{AllFindNone, empty_was, late_tells, sees_empty, sees_late}
-use Rattle.served_places.specs.of_passed_whole.Led.{AreSingle, EraTurn, IsLed, MayTurn, frame_in, news_in, turn_after, turn_next}
+use Rattle.served_places.proofs.of_few_replies.Founds.{AllFindNone, empty_was, late_tells, sees_empty, sees_late}
+use Rattle.served_places.specs.of_few_replies.Led.{AreSingle, EraTurn, IsLed, MayTurn, frame_in, news_in, turn_after, turn_next}
 use Rattle.segment_model.proofs.Answers.{kept_of}
 use Rattle.segment_model.proofs.News.{heard_told, mails_heard-append}
 use Rattle.segment_model.proofs.Posts.{news-push}
@@ -26,13 +26,13 @@ use Rattle.segment_model.specs.Record.{Frame, News, all_told, back_news, joined,
 use Rattle.segment_model.specs.Seats.{Side, newest, rows_of}
 use Rattle.segment_model.specs.Slaves.{Datagram, Processor, Registers, Slave, frame_after, grams, ring_back}
 use Rattle.serving_model.specs.Tagged.{no_reply}
-use Rattle.state_exchange.specs.Stated.{IsStated, Service, Stated}
+use Rattle.state_model.specs.Stated.{IsStated, Service, Stated}
 use Rattle.state_model.specs.States.{Table}
-use Rattle.task_model.proofs.Completed.{started_back}
-use Rattle.task_model.proofs.Sessions.{of_slaves}
-use Rattle.task_model.specs.Accounts.{Account, Duty, account_begins, duty_access, is_free, mails_choice, starts}
-use Rattle.task_model.specs.Promise.{mails_in, services_in}
-use Rattle.task_model.specs.Tasks.{IsTaskPlan}
+use Rattle.state_model.proofs.Completed.{started_back}
+use Rattle.state_model.proofs.Sessions.{of_slaves}
+use Rattle.state_model.specs.Accounts.{Account, Duty, account_begins, duty_access, is_free, mails_choice, starts}
+use Rattle.state_model.specs.Promise.{mails_in, services_in}
+use Rattle.state_model.specs.Tasks.{IsTaskPlan}
 use Rattle.served_rings.proofs.Sessions.{led_later, led_session}
 use Rattle.served_rings.proofs.TakenNow.{AtMoment, IsByMails, at_moment}
 use Rattle.served_rings.proofs.Turned.{Comes, Goes, GoesOn, NowGoes, accepted_of, by_mails, turned}

@@ -7,18 +7,18 @@ use Rattle.exchange_model.specs.Exchange.{Exchange, IsLawful, Speech}
 use Rattle.life_model.specs.Lives.{passes}
 use Rattle.link_model.specs.Segment.{RingFate}
 use Rattle.link_model.specs.Slave.{node_look, node_takes}
-use Rattle.served_places.proofs.of_passed_whole.Founds.{AllFindNone, sees_empty, sees_late}
-use Rattle.served_places.proofs.of_passed_whole.Passings.{boxed, counted_same, counted_told, sends, sent, sent_boxed, skips, waiting}
-use Rattle.served_places.specs.of_passed_whole.Led.{counted_news}
+use Rattle.served_places.proofs.of_few_replies.Founds.{AllFindNone, sees_empty, sees_late}
+use Rattle.served_places.proofs.of_few_replies.Passings.{boxed, counted_same, counted_told, sends, sent, sent_boxed, skips, waiting}
+use Rattle.served_places.specs.of_few_replies.Led.{counted_news}
 use Rattle.segment_model.proofs.Links.{served_server}
 use Rattle.segment_model.proofs.Written.{all_written-append, all_written-back, all_written-told, has_written, mails_told, mails_told-append, told_told}
 use Rattle.segment_model.specs.Ends.{Passing, all_written}
 use Rattle.segment_model.specs.Record.{News, is_for, mails_heard}
 use Rattle.segment_model.specs.Slaves.{Access, Datagram, Processor, Ring, Slave, first_meet, frame_after, ring_after, ring_steps, serving, slave_after, slave_steps, state_told}
 use Rattle.serving_model.specs.Tagged.{no_reply}
-use Rattle.state_exchange.specs.Stated.{IsStated, Stated}
-use Rattle.task_model.proofs.Moves.{server_after}
-use Rattle.task_model.specs.Accounts.{IsServed, IsServed.nothing, IsServed.other, IsServed.own, IsServed.quiet}
+use Rattle.state_model.specs.Stated.{IsStated, Stated}
+use Rattle.state_model.proofs.Moves.{server_after}
+use Rattle.state_model.specs.Accounts.{IsServed, IsServed.nothing, IsServed.other, IsServed.own, IsServed.quiet}
 
 -- ---- what the slave counts never falls
 one_slave : {V M : Type 0} (a b : ℕ) (s n : Slave V M) → ◌≡◌ {A = Ring V M} ((a, s) ∷ []) ((b, n) ∷ []) → s ≡ n

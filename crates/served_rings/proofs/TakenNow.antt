@@ -25,19 +25,19 @@ use Rattle.segment_model.specs.Ends.{Outcome, all_written}
 use Rattle.segment_model.specs.Record.{Frame, News, joined, mails_heard, news_from}
 use Rattle.segment_model.specs.Seats.{Seat, Side, link_of, rows_of}
 use Rattle.segment_model.specs.Slaves.{Slave}
-use Rattle.state_exchange.proofs.Acts.{acts_same, executed, left_mails, plain_acts}
-use Rattle.state_exchange.proofs.StatedLaw.{stated_law}
-use Rattle.state_exchange.specs.Stated.{Act, Counting, IsStated, Service, Stated, acts, service_handed, states_in, with_states}
+use Rattle.state_model.proofs.Acts.{acts_same, executed, left_mails, plain_acts}
+use Rattle.state_model.proofs.StatedLaw.{stated_law}
+use Rattle.state_model.specs.Stated.{Act, Counting, IsStated, Service, Stated, acts, service_handed, states_in, with_states}
 use Rattle.state_model.specs.Promises.{IsTable}
 use Rattle.state_model.specs.States.{Table}
-use Rattle.task_model.proofs.Booked
-use Rattle.task_model.proofs.Dones.{by_kind, services_length}
-use Rattle.task_model.proofs.Ghosts as Ghosts
-use Rattle.task_model.proofs.Ghosts.{GhostRow, counting, start_of, starts_append, starts_of}
-use Rattle.task_model.proofs.Newest.{Holds, side_facts}
-use Rattle.task_model.proofs.Stately.{state_over}
-use Rattle.task_model.specs.Accounts.{Account, Started}
-use Rattle.task_model.specs.Promise.{mail_of, mails_in, mails_started, rows_started, services_in}
+use Rattle.state_model.proofs.Booked
+use Rattle.state_model.proofs.Dones.{by_kind, services_length}
+use Rattle.state_model.proofs.Ghosts as Ghosts
+use Rattle.state_model.proofs.Ghosts.{GhostRow, counting, start_of, starts_append, starts_of}
+use Rattle.state_model.proofs.Newest.{Holds, side_facts}
+use Rattle.state_model.proofs.Stately.{state_over}
+use Rattle.state_model.specs.Accounts.{Account, Started}
+use Rattle.state_model.specs.Promise.{mail_of, mails_in, mails_started, rows_started, services_in}
 use Rattle.served_rings.proofs.Turned.{mails_both}
 
 -- as many rows as services by mails

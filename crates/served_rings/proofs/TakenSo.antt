@@ -2,7 +2,7 @@
 use Rattle.std.proofs.Common.{◌≡◌, ◌≢◌, ◌⊎◌, inl, inr, ℕ, zero, suc, ◌+◌, ◌-◌, ◌<◌, ◌≤◌, Bool, true, false, is_some, Option, None, Some, List, [], ◌∷◌, ◌++◌, drop, length, map, take, refl, ap, sym, ◌∙◌, subst, arith, length-append, Ok, Err}
 use Rattle.std.specs.Prelude.{⊤}
 use Rattle.std.proofs.lemmas.Bool.Decides.{leb_tells}
-use Rattle.eoe_model.specs.Client as EoeClient
+use Rattle.protocol_models.specs.EoeClient as EoeClient
 use Rattle.exchange_model.specs.Exchange.{plain}
 use Rattle.exchange_model.specs.Rows.{Row}
 use Rattle.run_work.proofs.of_life_counts.TaggedWhole.{seeing_lawful, seeing_stated}
@@ -15,10 +15,10 @@ use Rattle.mailbox_mail.specs.declared.mail.Mail.{Mail}
 use Rattle.master_duty.specs.Reply.{Reply}
 use Rattle.run_work.specs.of_master_hand.Spoken as Spoken
 use Rattle.run_work.specs.of_master_hand.Spoken.{Asked, emission, passed}
-use Rattle.served_places.proofs.of_passed_whole.Clients.{plain_untag}
-use Rattle.served_places.specs.of_passed_whole.Client.{ByContents}
-use Rattle.served_places.specs.of_passed_whole.Erased.{OfRow}
-use Rattle.served_places.specs.of_passed_whole.Silent.{is_passed}
+use Rattle.served_places.proofs.of_few_replies.Clients.{plain_untag}
+use Rattle.served_places.specs.of_few_replies.Client.{ByContents}
+use Rattle.served_places.specs.of_few_replies.Erased.{OfRow}
+use Rattle.served_places.specs.of_few_replies.Silent.{is_passed}
 use Rattle.run_work.specs.Sessions.{Meant, Wanted, named_wanted}
 use Rattle.segment_model.proofs.Rising.{RisesNow}
 use Rattle.segment_model.specs.Ends.{Outcome, Passing}
@@ -44,11 +44,11 @@ use Rattle.serving_model.specs.Tagged.{untag}
 use Rattle.slave_model.specs.Profile.{Profile, Protocol}
 use Rattle.slave_model.specs.Server as SlaveReply
 use Rattle.slave_parts.specs.Parts.{Server, parts}
-use Rattle.slave_served.specs.Served.{product_whole}
-use Rattle.state_exchange.specs.Families.{InState}
-use Rattle.state_exchange.specs.Stated.{Service}
-use Rattle.task_model.specs.Accounts.{Started}
-use Rattle.task_model.specs.Promise.{AllDone, AllEnded, IsReply, but_last, mail_of, mails_in, mails_started, outcome_of, rows_started, services_in}
+use Rattle.slave_parts.specs.Served.{product_whole}
+use Rattle.state_model.specs.Families.{InState}
+use Rattle.state_model.specs.Stated.{Service}
+use Rattle.state_model.specs.Accounts.{Started}
+use Rattle.state_model.specs.Promise.{AllDone, AllEnded, IsReply, but_last, mail_of, mails_in, mails_started, outcome_of, rows_started, services_in}
 
 -- ---- numbers of services, and of those among them that go by mails
 -- so many services by mails are among the first so many, of which these come behind so many others

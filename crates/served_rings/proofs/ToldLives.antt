@@ -3,17 +3,17 @@ use Rattle.std.proofs.Common.{◌≡◌, ◌≢◌, ℕ, zero, suc, ◌==◌, �
 use Rattle.std.specs.Prelude.{All, ⊤, if◌then◌else◌, replicate}
 use Rattle.std.proofs.lemmas.List.{map-append, length-map}
 use Rattle.std.proofs.lemmas.List.Elements.{All-head, All-tail}
-use Rattle.book_model.proofs.Grows.{same_part}
+use Rattle.life_model.proofs.Grows.{same_part}
 use Rattle.datagrams.specs.Datagram as Raw
 use Rattle.exchange_model.specs.Exchange.{Speech, IsLawful}
 use Rattle.frame_view.specs.Seen.{seen}
 use Rattle.frame_view.specs.View.{Lens}
-use Rattle.life_frames.specs.Shares.{came_at, given_where}
+use Rattle.frame_view.specs.Shares.{came_at, given_where}
 use Rattle.life_model.specs.Eras.{era_frames}
 use Rattle.life_model.specs.Lives.{Spot, Era, Life, Opening, Stand, clears, era_back, is_shown, last_step, life_back, life_lost, life_next, opening_back, opens, opens_state, reopening, reopens, reopens_at, returns_to_init, shows_clear, steps_on}
 use Rattle.life_model.specs.Own.{blank, own_frame}
-use Rattle.served_runs.specs.of_life_runs.First.{first_leads, leads_from, lens_of, spot_of}
-use Rattle.served_runs.specs.of_life_runs.Led.{Exchanged, gives_up_at, missed_behind, speech_at}
+use Rattle.life_runs.specs.First.{first_leads, leads_from, lens_of, spot_of}
+use Rattle.life_runs.specs.Led.{Exchanged, gives_up_at, missed_behind, speech_at}
 use Rattle.link_mails.specs.Body.{Body}
 use Rattle.master_duty.specs.Reply.{Reply}
 use Rattle.run_work.specs.of_master_hand.Spoken.{Asked, acknowledged, is_followed, is_passed}
@@ -40,19 +40,19 @@ use Rattle.served_rings.proofs.HeardTold.{era_heard}
 use Rattle.served_rings.proofs.ServedLives.{not_open, gone_not_open}
 use Rattle.served_rings.proofs.ToldTasks.{era_told}
 use Rattle.served_rings.proofs.Unpassed.{silent, silent_lawful}
-use Rattle.served_runs.specs.Served.{Keyed, Serves, ServedTurn, AllServedTurn, IsServedLed, all_serve, asked_at, served_behind, served_life}
+use Rattle.life_runs.specs.Served.{Keyed, Serves, ServedTurn, AllServedTurn, IsServedLed, all_serve, asked_at, served_behind, served_life}
 use Rattle.plan_ring.specs.of_slave_lives.Ends.{LeftEra}
 use Rattle.plan_ring.specs.of_slave_lives.Lived.{Behind, LivesEra, node_seen}
 use Rattle.plan_ring.specs.of_slave_lives.Opening.{Plan}
 use Rattle.plan_ring.specs.of_slave_lives.Stands.{opening_again}
 use Rattle.slave_model.specs.Profile.{Profile, IsProfile}
 use Rattle.slave_parts.specs.Parts.{Core, Server}
-use Rattle.slave_parts.specs.of_eoe_model.Network.{Station}
+use Rattle.slave_parts.specs.of_protocol_models.Network.{Station}
 use Rattle.plan_ring.specs.of_slave_server.Serving.{Serving}
 use Rattle.plan_ring.specs.of_slave_server.Spec.{profile_of}
-use Rattle.slave_steps.specs.Node.{Node}
-use Rattle.state_exchange.specs.Families.{InState}
-use Rattle.task_model.specs.Accounts.{Duty, Pick, Stage}
+use Rattle.slave_node.specs.Node.{Node}
+use Rattle.state_model.specs.Families.{InState}
+use Rattle.state_model.specs.Accounts.{Duty, Pick, Stage}
 use Rattle.plan_ring.specs.of_whole_ring.Members.{AllLived}
 use Rattle.plan_ring.specs.of_whole_ring.Whole.{IsWhole, OpensAs, OpensBy, StandsAs}
 

@@ -25,17 +25,17 @@ use Rattle.served_rings.proofs.Unpassed.{AreBegun, silent, next_begun, back_begu
 use Rattle.plan_ring.specs.of_slave_lives.Lived.{Behind}
 use Rattle.slave_model.specs.Profile.{Profile}
 use Rattle.slave_parts.specs.Parts.{Core, Server}
-use Rattle.slave_parts.specs.of_eoe_model.Network.{Station}
+use Rattle.slave_parts.specs.of_protocol_models.Network.{Station}
 use Rattle.plan_ring.specs.of_slave_server.Serving.{Serving}
-use Rattle.state_exchange.specs.Families.{InState}
-use Rattle.state_exchange.specs.Stated.{Stated}
+use Rattle.state_model.specs.Families.{InState}
+use Rattle.state_model.specs.Stated.{Stated}
 use Rattle.state_model.specs.States.{Table}
-use Rattle.task_model.specs.Accounts.{Account, Pick, mails_choice, account_next, account_back}
-use Rattle.task_model.specs.Tasks.{TaskTurn, TaskSession, AreServed, MayRun, mails_choices, accounts_next, accounts_after, happens, run, new_accounts, new_tasks}
-use Rattle.task_model.proofs.Orders.{order_states}
-use Rattle.task_model.proofs.Stately.{over_outcomes, duty_open}
-use Rattle.task_model.proofs.Turns.{IsStately, next_is, back_is, lost_is, missed_is, step_is, new_is}
-use Rattle.task_model.proofs.Walks.{EachOne, IsPlaced, AllApart, SeatMet, seats_apart, all_apart, all_reach, each_map, each_next, each_back, each_lost, each_steps}
+use Rattle.state_model.specs.Accounts.{Account, Pick, mails_choice, account_next, account_back}
+use Rattle.state_model.specs.Tasks.{TaskTurn, TaskSession, AreServed, MayRun, mails_choices, accounts_next, accounts_after, happens, run, new_accounts, new_tasks}
+use Rattle.state_model.proofs.TaskOrders.{order_states}
+use Rattle.state_model.proofs.Stately.{over_outcomes, duty_open}
+use Rattle.state_model.proofs.Turns.{IsStately, next_is, back_is, lost_is, missed_is, step_is, new_is}
+use Rattle.state_model.proofs.Walks.{EachOne, IsPlaced, AllApart, SeatMet, seats_apart, all_apart, all_reach, each_map, each_next, each_back, each_lost, each_steps}
 
 module _ (p : Profile) (boot : Bool) (lens : ℕ → Lens) (law : IsLawful (silent p boot lens)) where
   abbrev V : Type 0

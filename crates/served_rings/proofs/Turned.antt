@@ -12,10 +12,10 @@ use Rattle.segment_model.specs.Ends.{Passing}
 use Rattle.segment_model.specs.Record.{News}
 use Rattle.segment_model.specs.Seats.{Side, is_over, newest, next_mail, rows_of, side_back, side_begins, side_holds, side_lost, side_next}
 use Rattle.segment_model.specs.Slaves.{Datagram, grams}
-use Rattle.state_exchange.specs.Stated.{Service}
-use Rattle.task_model.specs.Accounts.{Account, Duty, Pick, Started, account_begins, account_next, is_acknowledged, is_free, mails_begin, mails_choice, starts, state_begins}
-use Rattle.task_model.specs.Promise.{mails_in, services_in}
-use Rattle.task_model.proofs.Completed.{started_back}
+use Rattle.state_model.specs.Stated.{Service}
+use Rattle.state_model.specs.Accounts.{Account, Duty, Pick, Started, account_begins, account_next, is_acknowledged, is_free, mails_begin, mails_choice, starts, state_begins}
+use Rattle.state_model.specs.Promise.{mails_in, services_in}
+use Rattle.state_model.proofs.Completed.{started_back}
 
 -- a service by mails that came into hand
 abbrev pub by_mails : {Q : Type 0} → Q → ℕ → Started Q

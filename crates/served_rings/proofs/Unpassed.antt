@@ -19,12 +19,12 @@ use Rattle.segment_model.specs.Slaves.{Datagram, grams}
 use Rattle.served_rings.specs.ToldEras.{unpassed_answer, unpassed_row, unpassed_side}
 use Rattle.slave_model.specs.Profile.{Profile, areas_of}
 use Rattle.slave_parts.specs.Parts.{Core, Server}
-use Rattle.slave_parts.specs.of_eoe_model.Network.{Station}
-use Rattle.state_exchange.specs.Families.{InState}
-use Rattle.state_exchange.specs.Stated.{Service}
-use Rattle.task_model.specs.Accounts.{Account, Duty, Pick, Started, account_back, account_begins, account_next, is_acknowledged, is_free, mails_begin, mails_choice, starts, state_begins}
-use Rattle.task_model.specs.Promise.{mail_of, mails_started, rows_started}
-use Rattle.task_model.proofs.Completed.{started_back}
+use Rattle.slave_parts.specs.of_protocol_models.Network.{Station}
+use Rattle.state_model.specs.Families.{InState}
+use Rattle.state_model.specs.Stated.{Service}
+use Rattle.state_model.specs.Accounts.{Account, Duty, Pick, Started, account_back, account_begins, account_next, is_acknowledged, is_free, mails_begin, mails_choice, starts, state_begins}
+use Rattle.state_model.specs.Promise.{mail_of, mails_started, rows_started}
+use Rattle.state_model.proofs.Completed.{started_back}
 
 never : {T : Type 0} → false ≡ true → T
 never e = absurd (cc)

@@ -5,7 +5,7 @@ use Rattle.std.proofs.lemmas.List.Elements.{All-head, All-tail}
 use Rattle.frame_view.specs.View.{Lens}
 use Rattle.served_rings.specs.LedRings.{AllLedMembers}
 use Rattle.life_model.specs.Lives.{Life, Spot}
-use Rattle.served_runs.specs.of_life_runs.First.{lens_of, spot_of}
+use Rattle.life_runs.specs.First.{lens_of, spot_of}
 use Rattle.link_mails.specs.Body.{Body}
 use Rattle.master_duty.specs.Reply.{Reply}
 use Rattle.run_work.specs.of_master_hand.Spoken.{Asked, is_followed, is_passed}
@@ -20,14 +20,14 @@ use Rattle.segment_plan.specs.declared.slave.SlaveSpec.{SlaveSpec}
 use Rattle.run_work.specs.Fair.{AsksFair}
 use Rattle.run_work.specs.Lives.{AllServedLives, IsServedLife, first_server}
 use Rattle.served_rings.proofs.Leds.{life_led}
-use Rattle.served_runs.specs.Came.{HasServed}
-use Rattle.served_runs.specs.Served.{Serves}
+use Rattle.life_runs.specs.Came.{HasServed}
+use Rattle.life_runs.specs.Served.{Serves}
 use Rattle.slave_model.specs.Profile.{Profile, IsProfile}
 use Rattle.slave_parts.specs.Parts.{Server}
 use Rattle.plan_ring.specs.of_slave_server.Serving.{Serving}
 use Rattle.plan_ring.specs.of_slave_server.Spec.{profile_of}
-use Rattle.slave_steps.specs.Node.{Node}
-use Rattle.state_exchange.specs.Families.{InState}
+use Rattle.slave_node.specs.Node.{Node}
+use Rattle.state_model.specs.Families.{InState}
 use Rattle.served_rings.specs.Rings.{AllServedAt, counters_of, served_members}
 
 -- a life that the master of a plan's speaker leads, with fair mails, is worked so

@@ -2,10 +2,10 @@
 use Rattle.std.proofs.Common.{◌≡◌, ℕ, ◌+◌, ◌*◌, ◌/◌, ◌%◌, ◌<◌, ◌==◌, ◌&&◌, not, nat_lt, Bool, true, false, List, length, drop, Result, Err, refl, ap, ◌∙◌, arith, le-ltb, if◌then◌else◌}
 use Rattle.ec_fields.specs.Fields.{number_at, bits_of}
 use Rattle.soe_codec.specs.Message.{is_opcode, has_fragments, word_of, message_in, soe_text}
-use Rattle.soe_model.specs.Client.{is_incomplete}
-use Rattle.soe_model.specs.Elements.{Target}
-use Rattle.soe_model.specs.Mails.{Soe, SoeFault, Short, message, refusal}
-use Rattle.soe_model.specs.Octets.{heard, body_heard}
+use Rattle.protocol_models.specs.SoeClient.{is_incomplete}
+use Rattle.protocol_models.specs.Elements.{Target}
+use Rattle.protocol_models.specs.SoeMails.{Soe, SoeFault, Short, message, refusal}
+use Rattle.protocol_models.specs.SoeOctets.{heard, body_heard}
 
 -- the word that is read of two octets
 abbrev read_word : ℕ → ℕ

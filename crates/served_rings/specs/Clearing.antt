@@ -2,7 +2,7 @@
 use Rattle.life_model.specs.Eras.{Clearing}
 use Rattle.plan_ring.specs.Real.{real_clearing}
 use Rattle.slave_parts.specs.Parts.{Server}
-use Rattle.state_exchange.specs.Families.{InState}
+use Rattle.state_model.specs.Families.{InState}
 
 -- all transfers are gone and the next packet has frame number 0
 abbrev pub serves_clearing : Clearing (InState Server) (InState Server)

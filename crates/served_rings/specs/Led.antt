@@ -6,16 +6,16 @@ use Rattle.life_model.specs.Eras.{planned}
 use Rattle.life_model.specs.Lives.{Spot, Era, AsksOpen, era_next}
 use Rattle.link_mails.specs.Body.{Body}
 use Rattle.mailbox_slave.specs.Node.{in_side}
-use Rattle.served_places.specs.of_passed_whole.Led.{IsLed, EraTurn}
+use Rattle.served_places.specs.of_few_replies.Led.{IsLed, EraTurn}
 use Rattle.segment_model.specs.Record.{Frame}
 use Rattle.segment_model.specs.Slaves.{Registers}
 use Rattle.segment_ring.specs.Ring.{is_in_pace}
 use Rattle.plan_ring.specs.of_slave_lives.Lived.{Behind, RingFrame, IsForOpen, StepsUp, is_reached, node_met, node_behind, node_seen, frame_of, table_of}
 use Rattle.plan_ring.specs.of_slave_lives.Nodes.{IsRunning}
 use Rattle.plan_ring.specs.of_slave_lives.Steps.{Stands}
-use Rattle.slave_steps.specs.Node.{Node}
-use Rattle.task_model.specs.Accounts.{Pick}
-use Rattle.task_model.specs.Tasks.{IsTaskPlan}
+use Rattle.slave_node.specs.Node.{Node}
+use Rattle.state_model.specs.Accounts.{Pick}
+use Rattle.state_model.specs.Tasks.{IsTaskPlan}
 
 -- a slave makes a step behind a frame, or none
 abbrev pub steps_at : Bool → List ℕ

@@ -2,7 +2,7 @@
 use Rattle.std.specs.Prelude.{◌≡◌, ℕ, Bool, List, [], ◌∷◌, ⊤}
 use Rattle.served_rings.specs.Lives.{IsLedLived, news_of, recorded_of}
 use Rattle.link_mails.specs.Body.{Body}
-use Rattle.news_kept.specs.Counts.{counts_on, kept_on}
+use Rattle.master_side.specs.Counts.{counts_on, kept_on}
 use Rattle.segment_model.specs.Record.{Frame, Kept}
 use Rattle.plan_ring.specs.of_whole_ring.Members.{Member}
 use Rattle.plan_ring.specs.of_whole_ring.Turning.{Turn}

@@ -1,4 +1,4 @@
-pub use Rattle.served_runs.specs as of_served_runs
+pub use Rattle.life_runs.specs as of_life_runs
 pub use Rattle.few_replies.specs as of_few_replies
 pub use Rattle.served_places.specs as of_served_places
 pub mod Clearing

@@ -13,7 +13,7 @@ use Rattle.segment_model.specs.Record.{Frame, News, Kept}
 use Rattle.segment_model.specs.Slaves.{Datagram}
 use Rattle.plan_ring.specs.of_slave_lives.Lived.{Behind, RingFrame, octets_back}
 use Rattle.plan_ring.specs.of_slave_lives.Opening.{Plan}
-use Rattle.slave_steps.specs.Node.{Node}
+use Rattle.slave_node.specs.Node.{Node}
 use Rattle.plan_ring.specs.of_whole_ring.Whole.{IsLivedBy}
 
 module _ {S V A Q R : Type 0} (w : Behind S V A Q R) (more : Body → Bool) (passed : Q → Bool) (spot : Spot) where

@@ -1,11 +1,11 @@
 -- WHAT IS DONE OF A SLAVE OF A SERVING of which its master wants nothing any more.
 use Rattle.std.specs.Prelude.{◌≡◌, ℕ, suc, Bool, true, None, List, [], ◌∷◌, length, ⊤}
-use Rattle.book_model.specs.Script.{life_started}
+use Rattle.life_model.specs.Script.{life_started}
 use Rattle.frame_view.specs.View.{Lens}
 use Rattle.frames_seen.specs.Slaves.{registers_seen}
 use Rattle.life_model.specs.Lives.{Era, Stand}
-use Rattle.served_runs.specs.of_life_runs.First.{lens_of, script_for}
-use Rattle.served_runs.specs.of_life_runs.Led.{speech_at}
+use Rattle.life_runs.specs.First.{lens_of, script_for}
+use Rattle.life_runs.specs.Led.{speech_at}
 use Rattle.link_mails.specs.Body.{Body}
 use Rattle.master_duty.specs.Reply.{Reply}
 use Rattle.run_work.specs.of_master_hand.Spoken.{Asked}
@@ -16,14 +16,14 @@ use Rattle.segment_plan.specs.declared.slave.SlaveSpec.{SlaveSpec}
 use Rattle.served_rings.specs.Served.{AreServedEras, NothingLeft, WasServed}
 use Rattle.served_rings.specs.Stood.{AllHeld}
 use Rattle.served_rings.specs.StoodLives.{IsFirst, others}
-use Rattle.served_runs.specs.Came.{AreAmong, ServedCame}
-use Rattle.served_runs.specs.Served.{Keyed, Serves}
+use Rattle.life_runs.specs.Came.{AreAmong, ServedCame}
+use Rattle.life_runs.specs.Served.{Keyed, Serves}
 use Rattle.slave_model.specs.Profile.{Profile}
 use Rattle.slave_parts.specs.Parts.{Server}
 use Rattle.plan_ring.specs.of_slave_server.Serving.{Serving, next_mail}
 use Rattle.plan_ring.specs.of_slave_server.Spec.{profile_of}
-use Rattle.slave_steps.specs.Node.{Node, is_settled}
-use Rattle.state_exchange.specs.Families.{InState}
+use Rattle.slave_node.specs.Node.{Node, is_settled}
+use Rattle.state_model.specs.Families.{InState}
 
 -- THE MASTER WANTS NOTHING of a slave: it is open, no service is in hand and none is left of its script, both halves of its link are idle, and no mail that is
 -- passed on is in hand or waits

@@ -2,8 +2,8 @@
 use Rattle.std.specs.Prelude.{◌≡◌, ℕ, suc, List, [], ◌∷◌, map, take, ⊤}
 use Rattle.frame_view.specs.View.{Lens}
 use Rattle.served_rings.specs.LedRings.{Counters, AllLedMembers}
-use Rattle.served_runs.specs.of_life_runs.First.{lens_of, spot_of, script_for}
-use Rattle.served_runs.specs.of_life_runs.Led.{Exchanged}
+use Rattle.life_runs.specs.First.{lens_of, spot_of, script_for}
+use Rattle.life_runs.specs.Led.{Exchanged}
 use Rattle.master_duty.specs.Reply.{Reply}
 use Rattle.run_work.specs.of_master_hand.Spoken.{Asked, is_followed, is_passed}
 use Rattle.plan_ring.specs.Plan.{FitsPlan, plan_of, step}
@@ -13,13 +13,13 @@ use Rattle.segment_plan.specs.declared.slave.SlaveSpec.{SlaveSpec}
 use Rattle.served_rings.specs.Serves.{serves}
 use Rattle.served_rings.specs.StoodLives.{AllStoodMembers}
 use Rattle.served_rings.specs.Clearing.{serves_clearing}
-use Rattle.served_runs.specs.Served.{Serves}
+use Rattle.life_runs.specs.Served.{Serves}
 use Rattle.slave_parts.specs.Parts.{Server}
 use Rattle.plan_ring.specs.of_slave_server.Seen.{seen_in}
 use Rattle.plan_ring.specs.of_slave_server.Serving.{Serving}
 use Rattle.plan_ring.specs.of_slave_server.Spec.{profile_of, server_of}
-use Rattle.slave_steps.specs.Node.{Node}
-use Rattle.state_exchange.specs.Families.{InState}
+use Rattle.slave_node.specs.Node.{Node}
+use Rattle.state_model.specs.Families.{InState}
 use Rattle.plan_ring.specs.of_whole_ring.Members.{Member, IsRing}
 
 -- a slave of a serving in its ring

@@ -1,6 +1,6 @@
 -- WHAT THE SLAVES OF A SERVING DID, epoch by epoch, of the rows that came into hand of them: services of the script, packets, and mails that were passed on.
 use Rattle.std.specs.Prelude.{◌≡◌, ◌≢◌, ℕ, suc, ◌+◌, ◌<◌, ◌≤◌, Bool, true, false, Option, None, Some, Ok, List, [], ◌∷◌, ◌++◌, drop, length, take, ⊤}
-use Rattle.eoe_model.specs.Client as EoeClient
+use Rattle.protocol_models.specs.EoeClient as EoeClient
 use Rattle.exchange_model.specs.Exchange.{emitted, plain}
 use Rattle.exchange_model.specs.Prefix.{IsPrefixOf}
 use Rattle.exchange_model.specs.Rows.{Row, heard_all}
@@ -16,17 +16,17 @@ use Rattle.segment_model.specs.Ends.{Passing}
 use Rattle.segment_model.specs.Laws.{WantsNothing}
 use Rattle.segment_model.specs.Seats.{rows_of}
 use Rattle.segment_plan.specs.declared.slave.SlaveSpec.{SlaveSpec}
-use Rattle.served_runs.specs.Served.{Serves}
+use Rattle.life_runs.specs.Served.{Serves}
 use Rattle.slave_model.specs.Profile.{Profile}
 use Rattle.slave_parts.specs.Parts.{Server}
 use Rattle.plan_ring.specs.of_slave_server.Serving.{Serving, next_mail}
 use Rattle.plan_ring.specs.of_slave_server.Spec.{profile_of}
-use Rattle.slave_steps.specs.Node.{Node, is_settled}
-use Rattle.state_exchange.specs.Families.{InState}
-use Rattle.state_exchange.specs.Stated.{Service}
+use Rattle.slave_node.specs.Node.{Node, is_settled}
+use Rattle.state_model.specs.Families.{InState}
+use Rattle.state_model.specs.Stated.{Service}
 use Rattle.state_model.specs.Promises.{answer_of, state_behind}
-use Rattle.task_model.specs.Accounts.{Change}
-use Rattle.task_model.specs.Promise.{services_in}
+use Rattle.state_model.specs.Accounts.{Change}
+use Rattle.state_model.specs.Promise.{services_in}
 
 -- nothing came into hand of an epoch
 pub record NothingCame (e : Era Body Asked Reply) : Type 0 where

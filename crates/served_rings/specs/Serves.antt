@@ -10,7 +10,7 @@ use Rattle.slave_model.specs.Profile.{Profile}
 use Rattle.slave_parts.specs.Parts.{Server}
 use Rattle.plan_ring.specs.of_slave_server.Seen.{seen_in}
 use Rattle.plan_ring.specs.of_slave_server.Serving.{Serving}
-use Rattle.state_exchange.specs.Families.{InState}
+use Rattle.state_model.specs.Families.{InState}
 
 -- in a session with that master
 abbrev pub serves : Profile → Bool → (ℕ → Lens) → Behind Serving (InState Server) (InState Server) Asked Reply

@@ -1,7 +1,7 @@
 -- THE FRAMES OF A PLAN'S SERVING.
 use Rattle.std.specs.Prelude.{ℕ, ◌+◌, ◌*◌, ◌≤◌, Option, List, length}
-use Rattle.served_runs.specs.of_life_runs.First.{lens_of, first_leads}
-use Rattle.served_runs.specs.of_life_runs.Led.{Exchanged}
+use Rattle.life_runs.specs.First.{lens_of, first_leads}
+use Rattle.life_runs.specs.Led.{Exchanged}
 use Rattle.link_mails.specs.Body.{Body}
 use Rattle.master_duty.specs.Reply.{Reply}
 use Rattle.run_work.specs.of_master_hand.Spoken.{Asked}
@@ -14,7 +14,7 @@ use Rattle.segment_plan.specs.Bound.{slowest}
 use Rattle.segment_plan.specs.declared.plan.Scenario.{Scenario}
 use Rattle.served_places.specs.Answered.{ServedAsks, ServedAnswers, ServedWaits}
 use Rattle.served_places.specs.Toured.{IsServedToured}
-use Rattle.served_runs.specs.Served.{Serves, all_serve}
+use Rattle.life_runs.specs.Served.{Serves, all_serve}
 
 -- A SERVING OF A PLAN behind these frames: its master leads the slaves by them, with mails that are asked between them; they are the visits of one tour and count
 -- with the plan's paces; each that came back asked by the inward half first, and each slave answered by it what awaits a step; while nothing is gained some slave

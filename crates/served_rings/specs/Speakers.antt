@@ -12,12 +12,12 @@ use Rattle.slave_model.specs.Acknowledged.{acknowledged}
 use Rattle.slave_model.specs.Profile.{Protocol, Profile, areas_of}
 use Rattle.slave_model.specs.Server.{Reply}
 use Rattle.slave_parts.specs.Parts.{Core, Server, parts}
-use Rattle.slave_parts.specs.of_eoe_model.Network.{Station}
-use Rattle.slave_served.specs.Served.{product_whole}
+use Rattle.slave_parts.specs.of_protocol_models.Network.{Station}
+use Rattle.slave_parts.specs.Served.{product_whole}
 use Rattle.plan_ring.specs.of_slave_server.Serving.{fresh}
-use Rattle.state_exchange.specs.Families.{InState, states_of}
-use Rattle.state_exchange.specs.Stated.{Stated}
-use Rattle.state_law.specs.Shows.{slave_table}
+use Rattle.state_model.specs.Families.{InState, states_of}
+use Rattle.state_model.specs.Stated.{Stated}
+use Rattle.frames_seen.specs.Shows.{slave_table}
 use Rattle.state_model.specs.States.{Table, carry}
 use Rattle.run_work.specs.Sessions.{OwnService, Wanted, InRow, named_wanted}
 use Rattle.run_work.specs.of_life_counts.Epochs.{Speaker}

@@ -3,7 +3,7 @@
 use Rattle.std.specs.Prelude.{◌≡◌, ℕ, Bool, Option, Some, List, [], ◌∷◌, ◌++◌, ⊤}
 use Rattle.frames_seen.specs.Slaves.{registers_seen}
 use Rattle.life_model.specs.Lives.{Era, Life, Stand}
-use Rattle.served_runs.specs.of_life_runs.Led.{Exchanged}
+use Rattle.life_runs.specs.Led.{Exchanged}
 use Rattle.link_mails.specs.Body.{Body}
 use Rattle.master_duty.specs.Reply.{Reply}
 use Rattle.run_work.specs.of_master_hand.Spoken.{Asked}
@@ -14,13 +14,13 @@ use Rattle.segment_plan.specs.declared.slave.SlaveSpec.{SlaveSpec}
 use Rattle.served_rings.specs.Rings.{nodes_behind}
 use Rattle.served_rings.specs.Served.{AllServeSo, AreServedEras, Holds, IsServedLife, IsServedNewest}
 use Rattle.served_rings.specs.StoodLives.{IsFirst, LeftOpen, others}
-use Rattle.served_runs.specs.Served.{Serves}
+use Rattle.life_runs.specs.Served.{Serves}
 use Rattle.slave_model.specs.Profile.{Profile}
 use Rattle.slave_parts.specs.Parts.{Server}
 use Rattle.plan_ring.specs.of_slave_server.Serving.{Serving}
 use Rattle.plan_ring.specs.of_slave_server.Spec.{profile_of}
-use Rattle.slave_steps.specs.Node.{Node}
-use Rattle.state_exchange.specs.Families.{InState}
+use Rattle.slave_node.specs.Node.{Node}
+use Rattle.state_model.specs.Families.{InState}
 
 -- BEHIND THE FRAME that showed the return to Init the slave's node held what this server has; `stood` says of a frame which node the slave was behind it
 pub record HeldAt (stood : ℕ → Node Serving → Type 0) (v : InState Server) (cleared : Option ℕ) : Type 0 where

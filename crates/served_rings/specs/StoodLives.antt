@@ -2,14 +2,14 @@
 use Rattle.std.specs.Prelude.{◌≡◌, ◌⊎◌, ◌<◌, ℕ, suc, Bool, Option, Some, List, [], ◌∷◌, ◌++◌, take, drop, All, ⊤}
 use Rattle.frames_seen.specs.Slaves.{registers_seen}
 use Rattle.life_model.specs.Lives.{Spot, Era, Life, Stand}
-use Rattle.served_runs.specs.of_life_runs.Causes.{IsOwn, since}
+use Rattle.life_runs.specs.Causes.{IsOwn, since}
 use Rattle.link_mails.specs.Body.{Body}
 use Rattle.segment_model.specs.Record.{Frame, Kept}
 use Rattle.served_rings.specs.LedRings.{Counters}
 use Rattle.served_rings.specs.Lives.{AllLeds, LedKept, LedLeft, LedYet}
 use Rattle.plan_ring.specs.of_slave_lives.Lived.{Behind}
 use Rattle.plan_ring.specs.of_slave_lives.Opening.{Plan}
-use Rattle.slave_steps.specs.Node.{Node}
+use Rattle.slave_node.specs.Node.{Node}
 use Rattle.plan_ring.specs.of_whole_ring.Members.{Member}
 use Rattle.plan_ring.specs.of_whole_ring.Whole.{IsLivedBy, LivesStillBy}
 

@@ -4,7 +4,7 @@ use Rattle.std.specs.Prelude.{◌≡◌, ◌≢◌, ℕ, suc, ◌<◌, ◌≤◌
 use Rattle.exchange_model.specs.Rows.{Row, heard_all}
 use Rattle.life_model.specs.Eras.{era_frames}
 use Rattle.life_model.specs.Lives.{Spot, Era, Life, Stand}
-use Rattle.served_runs.specs.of_life_runs.First.{lens_of, spot_of}
+use Rattle.life_runs.specs.First.{lens_of, spot_of}
 use Rattle.link_mails.specs.Body.{Body}
 use Rattle.master_duty.specs.Reply.{Reply}
 use Rattle.run_work.specs.of_master_hand.Spoken.{Asked, is_followed, is_passed}
@@ -14,7 +14,7 @@ use Rattle.segment_model.specs.Record.{Frame, heard}
 use Rattle.segment_model.specs.Seats.{Side, rows_of}
 use Rattle.segment_plan.specs.declared.plan.Scenario.{Scenario}
 use Rattle.segment_plan.specs.declared.slave.SlaveSpec.{SlaveSpec}
-use Rattle.served_runs.specs.Served.{Serves}
+use Rattle.life_runs.specs.Served.{Serves}
 use Rattle.plan_ring.specs.of_slave_lives.Lived.{Behind}
 use Rattle.plan_ring.specs.of_slave_server.Spec.{profile_of}
 

@@ -14,8 +14,8 @@ ghost use Rattle.served_rings.specs.Served.{IsServedLife};
 ghost use Rattle.slave_model.specs.Profile.{Profile};
 ghost use Rattle.slave_parts.specs.Parts.{Server};
 ghost use Rattle.plan_ring.specs.of_slave_server.Serving.{Serving};
-ghost use Rattle.slave_steps.specs.Node.{Node};
-ghost use Rattle.state_exchange.specs.Families.{InState};
+ghost use Rattle.slave_node.specs.Node.{Node};
+ghost use Rattle.state_model.specs.Families.{InState};
 
 /// EACH ROW OF A MAIL THAT WAS PASSED ON, all along the life of a slave of a serving, is of the mail at its place among those that came to its server; and just the
 /// first of the replies of the one step that its server takes for it were heard in the row, all of them where it is over.

@@ -1,23 +1,23 @@
 //! That a slave's last reply to a mail tells that it is the last, by its octets. Definitions and laws over the models, no running code: the functions
 //! here do nothing, and their contracts state the laws.
 
-ghost use Rattle.coe_model.specs.Client as CoeClient;
-ghost use Rattle.coe_model.specs.Octets.{coe_mail_written};
-ghost use Rattle.coe_model.specs.Server.{information_parts};
+ghost use Rattle.protocol_models.specs.CoeClient as CoeClient;
+ghost use Rattle.protocol_models.specs.CoeOctets.{coe_mail_written};
+ghost use Rattle.protocol_models.specs.CoeServer.{information_parts};
 ghost use Rattle.link_mails.specs.Body.{Body};
 ghost use Rattle.run_work.specs.of_master_hand.Spoken.{is_followed};
-ghost use Rattle.served_places.specs.of_passed_whole.Heard.{LastTold};
+ghost use Rattle.served_places.specs.of_few_replies.Heard.{LastTold};
 ghost use Rattle.serving_model.specs.Passing.{ends_told, LastTells};
 ghost use Rattle.serving_model.specs.Tagged.{Asked, tagged};
 ghost use Rattle.slave_model.specs.Application.{Parts, ArePartsLawful};
 ghost use Rattle.slave_model.specs.Profile.{Profile, IsProfile};
 ghost use Rattle.slave_model.specs.Server.{told_by};
 ghost use Rattle.slave_parts.specs.Parts.{parts};
-ghost use Rattle.slave_served.specs.Served.{product_whole};
-ghost use Rattle.soe_model.specs.Client as SoeClient;
-ghost use Rattle.soe_model.specs.Elements.{Target, target};
-ghost use Rattle.soe_model.specs.Mails.{fragments_of};
-ghost use Rattle.soe_model.specs.Octets.{soe_mail_written};
+ghost use Rattle.slave_parts.specs.Served.{product_whole};
+ghost use Rattle.protocol_models.specs.SoeClient as SoeClient;
+ghost use Rattle.protocol_models.specs.Elements.{Target, target};
+ghost use Rattle.protocol_models.specs.SoeMails.{fragments_of};
+ghost use Rattle.protocol_models.specs.SoeOctets.{soe_mail_written};
 ghost use Rattle.std.specs.Prelude.{◌≡◌, ℕ, ◌<◌, Bool, true, false, List, [], ◌∷◌, map, replicate, length};
 
 /// THE PARTS OF AN ANSWER go on but the last: those of an information, and the fragments of an element, where the mailbox has room for an octet of them.

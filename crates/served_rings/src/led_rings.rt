@@ -12,7 +12,7 @@ ghost use Rattle.link_mails.specs.Body.{Body};
 ghost use Rattle.segment_model.specs.Record.{Frame};
 ghost use Rattle.segment_ring.specs.Ring.{RingState};
 ghost use Rattle.segment_ring.specs.Schedule.{fate_at};
-ghost use Rattle.slave_steps.specs.Node.{Node};
+ghost use Rattle.slave_node.specs.Node.{Node};
 ghost use Rattle.plan_ring.specs.of_whole_ring.Members.{AllNew, IsRing, Member, Passes};
 ghost use Rattle.plan_ring.specs.of_whole_ring.Turning.{AllTurn, Turn, behind_frame, frame_at};
 

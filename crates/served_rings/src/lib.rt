@@ -2,7 +2,7 @@
 //! a law, no running code: the function here does nothing, and its contract states the law.
 #![tactic(auto)]
 
-ghost use Rattle.served_runs.specs.of_life_runs.Led.{Exchanged};
+ghost use Rattle.life_runs.specs.Led.{Exchanged};
 ghost use Rattle.plan_ring.specs.Lives.{IsKnown};
 ghost use Rattle.plan_ring.specs.Round.{AllRound, ring_of};
 ghost use Rattle.run_work.specs.Fair.{AsksFair};
@@ -10,7 +10,7 @@ ghost use Rattle.run_work.specs.Lives.{AllServedLives};
 ghost use Rattle.segment_plan.specs.Sound.{IsPlan};
 ghost use Rattle.segment_plan.specs.declared.plan.Scenario.{Scenario};
 ghost use Rattle.served_rings.specs.Rings.{AreServedLived};
-ghost use Rattle.served_runs.specs.Served.{ServeTo, Serves};
+ghost use Rattle.life_runs.specs.Served.{ServeTo, Serves};
 ghost use Rattle.std.specs.Prelude.{ℕ, All, List};
 
 pub mod era_counters;
@@ -45,6 +45,6 @@ pub fn served_lives_law()
         All AsksFair ws → AllServedLives plan.slaves ws }
 {
     served_ring_law();
-    served_runs::asked_law();
+    life_runs::served_runs::asked_law();
     crate::plan_speakers::life_law();
 }

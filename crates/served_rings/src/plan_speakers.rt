@@ -7,16 +7,16 @@ ghost use Rattle.life_model.specs.Lives.{Spot, Life};
 ghost use Rattle.link_mails.specs.Body.{Body};
 ghost use Rattle.master_duty.specs.Reply.{Reply};
 ghost use Rattle.run_work.specs.of_master_hand.Spoken.{Asked};
-ghost use Rattle.served_places.specs.of_passed_whole.Clearing.{Forgets};
+ghost use Rattle.served_places.specs.of_few_replies.Clearing.{Forgets};
 ghost use Rattle.served_rings.specs.SeenLed.{IsFairLife, IsLedLife};
 ghost use Rattle.run_work.specs.Fair.{AsksFair};
 ghost use Rattle.run_work.specs.Lives.{IsServedLife};
-ghost use Rattle.served_runs.specs.Came.{HasServed};
-ghost use Rattle.served_runs.specs.Served.{Serves};
+ghost use Rattle.life_runs.specs.Came.{HasServed};
+ghost use Rattle.life_runs.specs.Served.{Serves};
 ghost use Rattle.slave_model.specs.Profile.{Profile, IsProfile};
 ghost use Rattle.slave_parts.specs.Parts.{Server};
-ghost use Rattle.state_exchange.specs.Families.{InState};
-ghost use Rattle.state_exchange.specs.Stated.{IsStated};
+ghost use Rattle.state_model.specs.Families.{InState};
+ghost use Rattle.state_model.specs.Stated.{IsStated};
 ghost use Rattle.run_work.specs.of_life_counts.Epochs.{IsSpeaker, IsRun};
 ghost use Rattle.served_rings.specs.Speakers.{any_speaker, speaker, spoken, spoken_states, table_of, processor_of, seer_of, cleared_whole};
 
@@ -25,7 +25,7 @@ ghost use Rattle.served_rings.specs.Speakers.{any_speaker, speaker, spoken, spok
 pub fn speaker_law()
     ensures { (p : Profile) → IsProfile p → IsSpeaker (speaker p) }
 {
-    slave_served::parts_served::parts_are_served();
+    slave_parts::parts_served::parts_are_served();
     few_replies::whole_counts::passed_law();
     crate::last_told::parts_last_told();
 }
@@ -48,7 +48,7 @@ pub fn run_law()
 pub fn state_law()
     ensures { (p : Profile) → IsProfile p → IsStated (spoken p) spoken_states }
 {
-    slave_served::parts_served::parts_are_served();
+    slave_parts::parts_served::parts_are_served();
 }
 
 /// ALL MAILS THAT CAME INTO HAND of a slave of a serving are fair, where all are that were asked of it.

@@ -1,7 +1,7 @@
 //! The servers of a slave give replies first, and emissions behind them. Definitions and laws, no running code.
 
 ghost use Rattle.std.specs.Prelude.{ℕ};
-ghost use Rattle.served_places.specs.of_passed_whole.Led.{RepliesFirst};
+ghost use Rattle.served_places.specs.of_few_replies.Led.{RepliesFirst};
 ghost use Rattle.slave_model.specs.Profile.{Profile};
 ghost use Rattle.slave_model.specs.Application.{Parts};
 ghost use Rattle.slave_model.specs.Product.{protocols};

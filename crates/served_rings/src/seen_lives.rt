@@ -5,7 +5,7 @@ ghost use Rattle.std.specs.Prelude.{ℕ, Option, List};
 ghost use Rattle.exchange_model.specs.Exchange.{Exchange};
 ghost use Rattle.life_model.specs.Eras.{EraIs};
 ghost use Rattle.life_model.specs.Lives.{Spot, Era, Life};
-ghost use Rattle.served_places.specs.of_passed_whole.Clearing.{InRow, Forgets};
+ghost use Rattle.served_places.specs.of_few_replies.Clearing.{InRow, Forgets};
 ghost use Rattle.segment_model.specs.Record.{Frame};
 ghost use Rattle.segment_model.specs.Slaves.{Registers, Processor, Slave};
 ghost use Rattle.serving_model.specs.Tagged.{Tagged, Asked, Rowed};

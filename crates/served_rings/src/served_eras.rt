@@ -16,8 +16,8 @@ ghost use Rattle.plan_ring.specs.of_slave_lives.Lived.{IsBehind, node_seen};
 ghost use Rattle.slave_model.specs.Profile.{Profile};
 ghost use Rattle.slave_parts.specs.Parts.{Server};
 ghost use Rattle.plan_ring.specs.of_slave_server.Serving.{Serving};
-ghost use Rattle.slave_steps.specs.Node.{Node};
-ghost use Rattle.state_exchange.specs.Families.{InState};
+ghost use Rattle.slave_node.specs.Node.{Node};
+ghost use Rattle.state_model.specs.Families.{InState};
 ghost use Rattle.served_rings.specs.Serves.{serves};
 
 /// THE SERVICES OF A SLAVE IN A SERVING are those that its node runs.

@@ -17,8 +17,8 @@ ghost use Rattle.plan_ring.specs.of_slave_lives.Opening.{Plan};
 ghost use Rattle.slave_model.specs.Profile.{Profile};
 ghost use Rattle.slave_parts.specs.Parts.{Server};
 ghost use Rattle.plan_ring.specs.of_slave_server.Serving.{Serving};
-ghost use Rattle.slave_steps.specs.Node.{Node};
-ghost use Rattle.state_exchange.specs.Families.{InState};
+ghost use Rattle.slave_node.specs.Node.{Node};
+ghost use Rattle.state_model.specs.Families.{InState};
 ghost use Rattle.served_rings.specs.Clearing.{in_init, serves_clearing};
 
 /// A LIFE THAT A SLAVE'S NODE LIVES by epochs that its master leads is one that the master leads of the slave it speaks with, from the server in Init with which

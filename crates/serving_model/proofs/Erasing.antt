@@ -5,7 +5,7 @@ use Rattle.link_model.specs.Mails.{LinkMail, is_repeat, first_of, differs}
 use Rattle.link_model.specs.Slave.{OutSide, InSide, Node, noticed, repeated, request_answered, looked, mail_taken, served, offers, mail_offered, is_free, node_take, node_takes, node_offer, node_serve, all_taken, all_given}
 use Rattle.link_model.specs.Link.{written}
 use Rattle.link_model.specs.Frames.{Ask, Gram, node_meets, gram_meets, write_done, read_done}
-use Rattle.state_exchange.specs.of_segment_model.Slaves.{Serving, serving, first_waiting, Access, Found, Slave, Datagram, is_meant, registers_met, counter_met, found_met, address_behind, slave_meets, datagram_meets, slave_after, frame_after}
+use Rattle.state_model.specs.of_segment_model.Slaves.{Serving, serving, first_waiting, Access, Found, Slave, Datagram, is_meant, registers_met, counter_met, found_met, address_behind, slave_meets, datagram_meets, slave_after, frame_after}
 use Rattle.serving_model.specs.Erasing.{mail_as, box_as, out_as, in_as, serving_as, node_as, slave_as, ask_as, gram_as, datagram_as, all_as}
 
 module _ {N M W V : Type 0} (f : N → M) (h : W → V) where

@@ -3,7 +3,7 @@ use Rattle.std.specs.Prelude.{Option, Some, None, List, map}
 use Rattle.link_model.specs.Mails.{LinkMail}
 use Rattle.link_model.specs.Slave.{OutSide, InSide, Node}
 use Rattle.link_model.specs.Frames.{Ask, Gram}
-use Rattle.state_exchange.specs.of_segment_model.Slaves.{Serving, Slave, Datagram}
+use Rattle.state_model.specs.of_segment_model.Slaves.{Serving, Slave, Datagram}
 
 -- a mail of a link
 abbrev pub mail_as : {N M : Type 0} → (N → M) → LinkMail N → LinkMail M

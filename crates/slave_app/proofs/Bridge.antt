@@ -10,28 +10,28 @@ use Rattle.link_mails.specs.Body.{Body}
 use Rattle.al_state.specs.Request as States
 use Rattle.state_model.specs.Promises.{reached, answer_of}
 use Rattle.exchange_model.specs.Exchange.{Exchange}
-use Rattle.exchange_sum.specs.Refusing.{gated}
+use Rattle.exchange_model.specs.Refusing.{gated}
 use Rattle.eoe.specs.Address.{is_block}
 use Rattle.eoe.specs.Message.{eoe_text}
 use Rattle.eoe.specs.declared.message.Eoe.TheVariants.{Fragment as Part}
 use Rattle.eoe.specs.declared.message.Fragment.{Fragment}
-use Rattle.coe_model.specs.Mails as CoeMails
-use Rattle.coe_model.specs.Meaning as Coe
-use Rattle.coe_model.specs.Octets.{coe_mail_written}
-use Rattle.coe_model.specs.Server.{Emission, emergency, packet, emission_of, issued}
-use Rattle.coe_model.specs.Tables as Tables
+use Rattle.protocol_models.specs.CoeMails as CoeMails
+use Rattle.protocol_models.specs.CoeMeaning as Coe
+use Rattle.protocol_models.specs.CoeOctets.{coe_mail_written}
+use Rattle.protocol_models.specs.CoeServer.{Emission, emergency, packet, emission_of, issued}
+use Rattle.protocol_models.specs.Tables as Tables
 use Rattle.coe_server.specs.ObjectTables.{stores, reads, tells}
-use Rattle.foe_model.specs.Meaning as Foe
-use Rattle.soe_model.specs.Client as Soe
-use Rattle.soe_model.specs.Elements as Elements
-use Rattle.eoe_model.specs.Client as Eoe
-use Rattle.eoe_model.specs.Echo.{echo_of}
-use Rattle.eoe_model.specs.Mails as EoeMails
-use Rattle.eoe_model.specs.Network.{Station}
-use Rattle.eoe_model.specs.Octets.{eoe_mail_written}
-use Rattle.eoe_model.specs.Server.{sends, addressed}
+use Rattle.protocol_models.specs.FoeMeaning as Foe
+use Rattle.protocol_models.specs.SoeClient as Soe
+use Rattle.protocol_models.specs.Elements as Elements
+use Rattle.protocol_models.specs.EoeClient as Eoe
+use Rattle.protocol_models.specs.Echo.{echo_of}
+use Rattle.protocol_models.specs.EoeMails as EoeMails
+use Rattle.protocol_models.specs.Network.{Station}
+use Rattle.protocol_models.specs.EoeOctets.{eoe_mail_written}
+use Rattle.protocol_models.specs.EoeServer.{sends, addressed}
 use Rattle.segment_plan.specs.declared.service.Service as Plan
-use Rattle.state_exchange.specs.Families.{InState}
+use Rattle.state_model.specs.Families.{InState}
 use Rattle.segment_plan.specs.declared.service.Service.TheVariants as Asked
 use Rattle.slave_model.specs.Profile.{Protocol, Profile, serves}
 use Rattle.slave_model.specs.Application as Application

@@ -5,20 +5,20 @@ use Rattle.mailbox_mail.specs.declared.outcome.ReplyKind.{ReplyKind}
 use Rattle.al_state.specs.Request as States
 use Rattle.exchange_model.specs.Exchange.{Exchange}
 use Rattle.segment_model.specs.Ends.{Outcome}
-use Rattle.coe_model.specs.Mails as CoeMails
-use Rattle.coe_model.specs.Octets.{coe_mail_written}
-use Rattle.coe_model.specs.Server.{Emission, emergency, packet}
-use Rattle.foe_model.specs.Meaning as Foe
-use Rattle.soe_model.specs.Client as Soe
-use Rattle.soe_model.specs.Elements as Elements
-use Rattle.eoe_model.specs.Client as Eoe
-use Rattle.eoe_model.specs.Mails.{packet_mails}
-use Rattle.eoe_model.specs.Network.{Station}
-use Rattle.eoe_model.specs.Octets.{eoe_mail_written}
+use Rattle.protocol_models.specs.CoeMails as CoeMails
+use Rattle.protocol_models.specs.CoeOctets.{coe_mail_written}
+use Rattle.protocol_models.specs.CoeServer.{Emission, emergency, packet}
+use Rattle.protocol_models.specs.FoeMeaning as Foe
+use Rattle.protocol_models.specs.SoeClient as Soe
+use Rattle.protocol_models.specs.Elements as Elements
+use Rattle.protocol_models.specs.EoeClient as Eoe
+use Rattle.protocol_models.specs.EoeMails.{packet_mails}
+use Rattle.protocol_models.specs.Network.{Station}
+use Rattle.protocol_models.specs.EoeOctets.{eoe_mail_written}
 use Rattle.segment_plan.specs.declared.service.Service as Plan
 use Rattle.segment_plan.specs.declared.service.Service.TheVariants as Asked
-use Rattle.state_exchange.specs.Families.{InState, states_of}
-use Rattle.state_exchange.specs.Stated as Stated
+use Rattle.state_model.specs.Families.{InState, states_of}
+use Rattle.state_model.specs.Stated as Stated
 use Rattle.slave_model.specs.Acknowledged.{acknowledged}
 use Rattle.slave_model.specs.Profile.{Protocol}
 use Rattle.slave_model.specs.Server.{ServiceOf, Reply, told_by}

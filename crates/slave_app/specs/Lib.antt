@@ -1,3 +1,5 @@
 pub mod Meaning
 pub mod New
 pub mod Exchange
+pub mod States
+pub mod Toys

@@ -8,11 +8,11 @@ use Rattle.object_dictionary.specs.declared.service.SdoService.TheVariants.{Down
 use Rattle.file_store.specs.Files.{Kept, allowed, has_room, put, get}
 use Rattle.idn_table.specs.Idns as Idns
 use Rattle.idn_table.specs.Idns.{read_at, write_at, target}
-use Rattle.coe_model.specs.Meaning.{Service as Sdo, download, upload, information}
-use Rattle.coe_model.specs.Server.{Emission, emergency, packet, emission_of}
-use Rattle.coe_model.specs.Tables as Tables
+use Rattle.protocol_models.specs.CoeMeaning.{Service as Sdo, download, upload, information}
+use Rattle.protocol_models.specs.CoeServer.{Emission, emergency, packet, emission_of}
+use Rattle.protocol_models.specs.Tables as Tables
 use Rattle.coe_server.specs.ObjectTables.{stores, reads, tells}
-use Rattle.eoe_model.specs.Echo.{echo_of}
+use Rattle.protocol_models.specs.Echo.{echo_of}
 use Rattle.segment_plan.specs.declared.service.Service as Plan
 use Rattle.segment_plan.specs.declared.service.Service.TheVariants as Asked
 use Rattle.segment_plan.specs.Sound.{IsService, IsPacket}

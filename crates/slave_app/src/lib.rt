@@ -1,9 +1,11 @@
 //! What the services of a slave act on, and what each of them means there: on whole values, with its codes in their order, and without mails,
-//! mailboxes and frames. It is what the exchange of a service's mails comes to.
+//! mailboxes and frames. It is what the exchange of a service's mails comes to, of CoE in each AL state.
 #![tactic(auto)]
 
 mod app;
+pub mod coe_states;
 mod files;
+pub mod object_states;
 mod perform;
 mod performed;
 mod sdo;

@@ -1,5 +1,5 @@
 ghost use Rattle.std.specs.Prelude.{◌≡◌, IfOk, OnErr};
-ghost use Rattle.coe_model.specs.Server.{emission_of};
+ghost use Rattle.protocol_models.specs.CoeServer.{emission_of};
 ghost use Rattle.coe_server.specs.Serving.{target_view, ask_view, IsFitting};
 ghost use Rattle.coe_server.specs.ObjectTables.{stores, reads, tells};
 ghost use Rattle.slave_app.specs.Meaning.{emission_view, meant_by, sdo_of, downloaded, told, sdo_meaning};

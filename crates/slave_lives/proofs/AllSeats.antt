@@ -3,8 +3,8 @@ use Rattle.std.proofs.Common.{◌≡◌, ◌⊎◌, inl, inr, ℕ, suc, ◌+◌,
 use Rattle.std.specs.Prelude.{⊤}
 use Rattle.std.proofs.lemmas.Bool.{ne_eqb, eqb-false}
 use Rattle.segment_ring.specs.of_datagrams.Datagram as Raw
-use Rattle.slave_steps.specs.of_esc_registers.declared.registers.Registers as Esc
-use Rattle.slave_steps.specs.of_frame_pass.Passing.{datagrams_after}
+use Rattle.slave_node.specs.of_esc_registers.declared.registers.Registers as Esc
+use Rattle.slave_node.specs.Passing.{datagrams_after}
 use Rattle.frames_seen.specs.of_frame_view.View.{Lens}
 use Rattle.frames_seen.specs.Own.{own_of, IsApart, IsAlone}
 use Rattle.frames_seen.specs.Ring.{all_after, AllApart}
@@ -12,9 +12,9 @@ use Rattle.frames_seen.specs.Spoken.{AllSpoken}
 use Rattle.frames_seen.proofs.Aparts.{open_apart, none_apart}
 use Rattle.frames_seen.proofs.Owns.{other_view}
 use Rattle.frames_seen.proofs.Places.{all_else_behind, open_alone}
-use Rattle.slave_steps.specs.of_link_mails.Body.{Body}
-use Rattle.state_law.specs.of_segment_model.Slaves.{Serving}
-use Rattle.slave_steps.specs.Node.{Node, new_box}
+use Rattle.slave_node.specs.of_link_mails.Body.{Body}
+use Rattle.frames_seen.specs.of_segment_model.Slaves.{Serving}
+use Rattle.slave_node.specs.Node.{Node, new_box}
 use Rattle.life_model.specs.Lives.{Opening, Stand}
 use Rattle.slave_lives.specs.Opening.{Plan, IsPlan, AtMostOne, JustOne}
 use Rattle.slave_lives.specs.Lived.{IsForOpen}

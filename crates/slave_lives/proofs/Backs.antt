@@ -4,13 +4,13 @@ use Rattle.std.specs.Prelude.{if◌then◌else◌, Option, Some, None}
 use Rattle.std.proofs.lemmas.Bool.{ne_eqb, eq-eqb}
 use Rattle.segment_ring.specs.of_datagrams.Datagram as Raw
 use Rattle.segment_ring.specs.of_datagrams.declared.head.Head.{Head}
-use Rattle.slave_steps.specs.of_esc_registers.declared.registers.Registers as Esc
-use Rattle.slave_steps.specs.of_esc_registers.declared.row.Row.{Row}
-use Rattle.slave_steps.specs.of_esc_registers.Access.{is_by_place, is_by_station, is_meant, moved_on, passed_at, row_of}
-use Rattle.slave_steps.specs.of_frame_pass.Passing.{passed, datagram_after, datagrams_after}
-use Rattle.slave_steps.proofs.of_frame_pass.Parts.{head_kept}
+use Rattle.slave_node.specs.of_esc_registers.declared.registers.Registers as Esc
+use Rattle.slave_node.specs.of_esc_registers.declared.row.Row.{Row}
+use Rattle.slave_node.specs.of_esc_registers.Access.{is_by_place, is_by_station, is_meant, moved_on, passed_at, row_of}
+use Rattle.slave_node.specs.Passing.{passed, datagram_after, datagrams_after}
+use Rattle.slave_node.proofs.Parts.{head_kept}
 use Rattle.frames_seen.specs.of_frame_view.View.{Lens, datagram_seen, station_of, access_of, register_counter, found_of}
-use Rattle.state_law.specs.of_segment_model.Slaves.{Access}
+use Rattle.frames_seen.specs.of_segment_model.Slaves.{Access}
 use Rattle.frames_seen.specs.Own.{is_to, IsApart}
 use Rattle.frames_seen.specs.Ring.{all_after, AllApart}
 use Rattle.frames_seen.specs.Spoken.{means}

@@ -7,12 +7,12 @@ use Rattle.segment_ring.specs.of_ec_fields.Fields.{number_at}
 use Rattle.segment_ring.specs.of_datagrams.declared.command.Command.{Command}
 use Rattle.segment_ring.specs.of_datagrams.declared.command.Command.TheVariants.{Apwr, Fprd, Fpwr}
 use Rattle.segment_ring.specs.of_datagrams.Datagram as Raw
-use Rattle.slave_steps.specs.of_esc_registers.declared.registers.Registers.{Registers}
-use Rattle.slave_steps.specs.of_esc_registers.Manager.{is_right}
-use Rattle.slave_steps.specs.of_frame_pass.Passing.{passed}
+use Rattle.slave_node.specs.of_esc_registers.declared.registers.Registers.{Registers}
+use Rattle.slave_node.specs.of_esc_registers.Manager.{is_right}
+use Rattle.slave_node.specs.Passing.{passed}
 use Rattle.frames_seen.specs.of_link_model.Slave.{Node}
-use Rattle.slave_steps.specs.of_link_mails.Body.{Body}
-use Rattle.slave_steps.specs.of_mailbox_slave.Kept.{Kept}
+use Rattle.slave_node.specs.of_link_mails.Body.{Body}
+use Rattle.slave_node.specs.of_mailbox_slave.Kept.{Kept}
 use Rattle.frames_seen.specs.of_frame_view.View.{Lens}
 use Rattle.frames_seen.specs.Slaves.{registers_seen}
 use Rattle.slave_lives.specs.Opening.{Plan, IsPlan, manager_octets, IsBringing}

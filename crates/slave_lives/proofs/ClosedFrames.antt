@@ -3,11 +3,11 @@ use Rattle.std.proofs.Common.{◌≡◌, ℕ, Bool, true, false, length, refl, a
 use Rattle.std.specs.Prelude.{Option, if◌then◌else◌}
 use Rattle.segment_ring.specs.of_datagrams.Datagram as Raw
 use Rattle.frames_seen.specs.of_frame_view.View.{Lens}
-use Rattle.state_law.specs.of_segment_model.Slaves.{Found}
+use Rattle.frames_seen.specs.of_segment_model.Slaves.{Found}
 use Rattle.segment_ring.specs.declared.wire.Fate.{Fate}
 use Rattle.segment_ring.specs.declared.wire.Fate.TheVariants.{Pass}
 use Rattle.segment_ring.specs.Ring.{is_in_pace}
-use Rattle.slave_steps.specs.Node.{Node}
+use Rattle.slave_node.specs.Node.{Node}
 use Rattle.life_model.specs.Lives.{Opening, Stand, Life, opening_back}
 use Rattle.slave_lives.specs.Lived.{RingFrame, fate_of, is_reached, node_met, node_behind, ClosedFrame, AccessBack}
 use Rattle.slave_lives.specs.Nodes.{stepped}

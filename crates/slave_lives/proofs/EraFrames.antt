@@ -3,8 +3,8 @@ use Rattle.std.proofs.Common.{◌≡◌, ℕ, zero, suc, ◌+◌, ◌-◌, ◌==
 use Rattle.std.specs.Prelude.{if◌then◌else◌}
 use Rattle.segment_ring.specs.of_datagrams.Datagram as Raw
 use Rattle.segment_ring.specs.of_ec_fields.Fields.{bits_of}
-use Rattle.slave_steps.specs.of_esc_registers.declared.registers.Registers as Esc
-use Rattle.slave_steps.specs.of_frame_pass.Passing.{registers_after}
+use Rattle.slave_node.specs.of_esc_registers.declared.registers.Registers as Esc
+use Rattle.slave_node.specs.Passing.{registers_after}
 use Rattle.frames_seen.specs.of_frame_view.Seen.{datagrams_seen}
 use Rattle.frames_seen.specs.Kept.{FrameKeeps}
 use Rattle.frames_seen.specs.Own.{own_seen}
@@ -13,16 +13,16 @@ use Rattle.frames_seen.specs.Slaves.{registers_seen, slave_of, IsOpen}
 use Rattle.frames_seen.proofs.Rings as FrameRings
 use Rattle.frames_seen.specs.of_link_model.Frames.{Ask, node_meets}
 use Rattle.frames_seen.specs.of_link_model.Slave.{Node}
-use Rattle.slave_steps.specs.of_link_mails.Body.{Body}
-use Rattle.slave_steps.specs.of_mailbox_slave.Node.{in_side}
-use Rattle.slave_steps.specs.of_mailbox_slave.Registers.{in_len}
-use Rattle.state_law.specs.of_segment_model.Slaves.{Slave, Datagram, Ring, slave_meets, slave_after, frame_after, ring_after, ring_back, ring_steps, first_meet}
-use Rattle.state_law.specs.of_segment_model.Record.{Frame, News}
+use Rattle.slave_node.specs.of_link_mails.Body.{Body}
+use Rattle.slave_node.specs.of_mailbox_slave.Node.{in_side}
+use Rattle.slave_node.specs.of_mailbox_slave.Registers.{in_len}
+use Rattle.frames_seen.specs.of_segment_model.Slaves.{Slave, Datagram, Ring, slave_meets, slave_after, frame_after, ring_after, ring_back, ring_steps, first_meet}
+use Rattle.frames_seen.specs.of_segment_model.Record.{Frame, News}
 use Rattle.segment_ring.specs.declared.wire.Fate.{Fate}
 use Rattle.segment_ring.specs.declared.wire.Fate.TheVariants.{Pass, Lost}
 use Rattle.segment_ring.specs.Ring.{is_in_pace}
-use Rattle.slave_steps.specs.Node as Running
-use Rattle.life_model.specs.of_task_model.Accounts.{Pick}
+use Rattle.slave_node.specs.Node as Running
+use Rattle.life_model.specs.of_state_model.Accounts.{Pick}
 use Rattle.life_model.specs.Own.{own, own_fate}
 use Rattle.life_model.specs.of_exchange_model.Exchange.{Speech}
 use Rattle.frames_seen.specs.of_link_model.Segment.{RingFate}
@@ -38,8 +38,8 @@ use Rattle.slave_lives.proofs.Opens.{open_step}
 use Rattle.slave_lives.proofs.Owned.{own_is}
 use Rattle.slave_lives.proofs.RingFrames.{after_keeps, met_runs}
 use Rattle.slave_lives.proofs.Stepping.{step_view}
-use Rattle.state_law.specs.of_state_model.States as States
-use Rattle.state_law.specs.Shows.{slave_table}
+use Rattle.frames_seen.specs.of_state_model.States as States
+use Rattle.frames_seen.specs.Shows.{slave_table}
 
 -- what stands in mailbox 1 was offered, behind frames too
 asked_stands : {V : Type 0} (n : Node Body V) (ask : Ask Body) → Stands n.inn → Stands (node_meets n ask).inn

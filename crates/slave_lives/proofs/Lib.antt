@@ -1,6 +1,6 @@
 pub use Rattle.frames_seen.proofs as of_frames_seen
 pub use Rattle.life_model.proofs as of_life_model
-pub use Rattle.life_model.proofs.of_task_model as of_task_model
+pub use Rattle.life_model.proofs.of_state_model as of_state_model
 pub mod Stepping
 pub mod Opens
 pub mod Brings
@@ -28,3 +28,9 @@ pub mod EraEnds
 pub mod Quiets
 pub mod Servers
 mod Worked
+pub mod Asking
+pub mod Going
+pub mod Meeting
+mod Reading
+mod Showing
+pub mod Standing

@@ -5,11 +5,11 @@ use Rattle.std.proofs.lemmas.Bool.{eq-eqb}
 use Rattle.segment_ring.specs.of_ec_fields.Fields.{number_at}
 use Rattle.segment_ring.specs.of_datagrams.declared.command.Command.TheVariants.{Aprd, Apwr, Fprd, Fpwr}
 use Rattle.segment_ring.specs.of_datagrams.Datagram as Raw
-use Rattle.slave_steps.specs.of_esc_registers.declared.registers.Registers as Esc
-use Rattle.slave_steps.specs.of_esc_registers.Manager.{is_right, is_enabled}
-use Rattle.slave_steps.specs.of_frame_pass.Passing.{passed, registers_after}
-use Rattle.slave_steps.specs.of_mailbox_slave.Kept.{Kept}
-use Rattle.slave_steps.specs.of_mailbox_slave.Registers.{request_of}
+use Rattle.slave_node.specs.of_esc_registers.declared.registers.Registers as Esc
+use Rattle.slave_node.specs.of_esc_registers.Manager.{is_right, is_enabled}
+use Rattle.slave_node.specs.Passing.{passed, registers_after}
+use Rattle.slave_node.specs.of_mailbox_slave.Kept.{Kept}
+use Rattle.slave_node.specs.of_mailbox_slave.Registers.{request_of}
 use Rattle.frames_seen.specs.of_frame_view.View.{Lens}
 use Rattle.frames_seen.specs.Slaves.{registers_seen}
 use Rattle.slave_lives.specs.Steps.{Running}

@@ -3,8 +3,8 @@ use Rattle.std.proofs.Common.{◌≡◌, ℕ, zero, suc, Bool, true, false, List
 use Rattle.std.specs.Prelude.{if◌then◌else◌}
 use Rattle.segment_ring.specs.of_datagrams.Datagram as Raw
 use Rattle.segment_ring.specs.of_datagrams.Frame.{IsFrame}
-use Rattle.slave_steps.specs.of_esc_registers.declared.registers.Registers as Esc
-use Rattle.slave_steps.specs.of_frame_pass.Passing.{passed, registers_after, datagrams_after}
+use Rattle.slave_node.specs.of_esc_registers.declared.registers.Registers as Esc
+use Rattle.slave_node.specs.Passing.{passed, registers_after, datagrams_after}
 use Rattle.frames_seen.specs.Kept.{FrameKeeps}
 use Rattle.frames_seen.specs.Ring.{all_after}
 use Rattle.frames_seen.proofs.Passes as Octets
@@ -13,7 +13,7 @@ use Rattle.segment_ring.specs.declared.wire.Fate.{Fate}
 use Rattle.segment_ring.specs.declared.wire.Fate.TheVariants.{Pass, Lost}
 use Rattle.segment_ring.specs.Schedule.{fate_at}
 use Rattle.segment_ring.specs.Ring.{RingState, is_in_pace, nodes_passed, frame_met, nodes_stepped}
-use Rattle.slave_steps.specs.Node.{Node, node_passed}
+use Rattle.slave_node.specs.Node.{Node, node_passed}
 use Rattle.slave_lives.specs.Steps.{Running}
 use Rattle.slave_lives.specs.Nodes.{IsKept, IsRunning, stepped}
 use Rattle.slave_lives.specs.Rings.{registers_of, is_among, is_met_at, come_to, come_back, met, IsExchanged}

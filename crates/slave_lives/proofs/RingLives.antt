@@ -4,12 +4,12 @@ use Rattle.segment_ring.specs.of_datagrams.Frame.{IsFrame}
 use Rattle.frames_seen.specs.of_frame_view.View.{Lens}
 use Rattle.frames_seen.specs.of_frame_view.Seen.{seen, datagrams_seen}
 use Rattle.frames_seen.proofs.of_frame_view.Octets as Octets
-use Rattle.slave_steps.specs.of_link_mails.Body.{Body}
-use Rattle.state_law.specs.of_segment_model.Slaves.{Datagram}
-use Rattle.state_law.specs.of_segment_model.Record.{Frame, News}
+use Rattle.slave_node.specs.of_link_mails.Body.{Body}
+use Rattle.frames_seen.specs.of_segment_model.Slaves.{Datagram}
+use Rattle.frames_seen.specs.of_segment_model.Record.{Frame, News}
 use Rattle.segment_ring.specs.declared.wire.Fate.{Fate}
 use Rattle.segment_ring.specs.declared.wire.Fate.TheVariants.{Pass, Lost}
-use Rattle.life_model.specs.of_task_model.Accounts.{Pick}
+use Rattle.life_model.specs.of_state_model.Accounts.{Pick}
 use Rattle.life_model.specs.Lives.{Spot, Era, AsksOpen, era_next, era_after}
 use Rattle.slave_lives.specs.Steps.{Running}
 use Rattle.slave_lives.specs.Rings.{come_back, IsExchanged}

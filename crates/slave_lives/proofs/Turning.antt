@@ -3,22 +3,22 @@ use Rattle.std.proofs.Common.{◌≡◌, ◌⊎◌, inl, inr, ℕ, ◌<◌, ◌=
 use Rattle.std.specs.Prelude.{if◌then◌else◌, Option, Some, None, option_map}
 use Rattle.std.proofs.lemmas.Bool.{eq-eqb, eqb-true, and_parts, and_from, or_cases}
 use Rattle.segment_ring.specs.of_datagrams.Datagram as Raw
-use Rattle.slave_steps.specs.of_esc_registers.declared.registers.Registers as Esc
-use Rattle.slave_steps.specs.of_esc_registers.Manager.{is_right, is_enabled}
-use Rattle.slave_steps.specs.of_esc_registers.Registers.{are_areas_right}
-use Rattle.state_law.specs.of_al_state.Request.{is_state}
-use Rattle.slave_steps.specs.of_frame_pass.Passing.{passed, registers_after}
+use Rattle.slave_node.specs.of_esc_registers.declared.registers.Registers as Esc
+use Rattle.slave_node.specs.of_esc_registers.Manager.{is_right, is_enabled}
+use Rattle.slave_node.specs.of_esc_registers.Registers.{are_areas_right}
+use Rattle.frames_seen.specs.of_al_state.Request.{is_state}
+use Rattle.slave_node.specs.Passing.{passed, registers_after}
 use Rattle.frames_seen.specs.of_link_model.Mails.{LinkMail}
 use Rattle.frames_seen.specs.of_link_model.Link.{new_link}
 use Rattle.frames_seen.specs.of_link_model.Slave.{Node, Server, node_look, node_serve}
-use Rattle.slave_steps.specs.of_link_mails.Body.{Body, link_read, uncounted}
-use Rattle.slave_steps.specs.of_mailbox_mail.Mail.{mail_read}
-use Rattle.slave_steps.specs.of_mailbox_slave.Kept.{Kept}
-use Rattle.slave_steps.specs.of_mailbox_slave.Registers.{request_of, acknowledge_of, out_box, in_box}
-use Rattle.slave_steps.specs.of_mailbox_slave.Node.{node_of, server_of}
-use Rattle.state_law.specs.of_segment_model.Slaves.{Registers}
-use Rattle.state_law.specs.of_state_model.States
-use Rattle.state_law.specs.Shows.{slave_table}
+use Rattle.slave_node.specs.of_link_mails.Body.{Body, link_read, uncounted}
+use Rattle.slave_node.specs.of_mailbox_mail.Mail.{mail_read}
+use Rattle.slave_node.specs.of_mailbox_slave.Kept.{Kept}
+use Rattle.slave_node.specs.of_mailbox_slave.Registers.{request_of, acknowledge_of, out_box, in_box}
+use Rattle.slave_node.specs.of_mailbox_slave.Node.{node_of, server_of}
+use Rattle.frames_seen.specs.of_segment_model.Slaves.{Registers}
+use Rattle.frames_seen.specs.of_state_model.States
+use Rattle.frames_seen.specs.Shows.{slave_table}
 use Rattle.frames_seen.specs.of_frame_view.View.{Lens}
 use Rattle.frames_seen.specs.Slaves.{registers_seen, IsOpen}
 use Rattle.slave_lives.specs.Steps.{Running, Stands, KeepsOthers, HasStepped, node_steps, node_answered, node_cleared, word_carried}

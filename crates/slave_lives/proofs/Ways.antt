@@ -3,17 +3,16 @@ use Rattle.std.proofs.Common.{◌≡◌, ◌⊎◌, inl, inr, ℕ, suc, ◌+◌,
 use Rattle.std.specs.Prelude.{if◌then◌else◌, None}
 use Rattle.std.proofs.lemmas.Bool.{ne_eqb, eq-eqb}
 use Rattle.segment_ring.specs.of_datagrams.Datagram as Raw
-use Rattle.slave_steps.specs.of_esc_registers.declared.registers.Registers as Esc
-use Rattle.slave_steps.specs.of_esc_registers.Access.{is_by_place, is_by_station, moved_on, passed_at, row_of}
-use Rattle.slave_steps.specs.of_frame_pass.Passing.{passed, datagram_after, datagrams_after}
-use Rattle.slave_steps.specs.of_mailbox_slave.Kept.{Kept}
+use Rattle.slave_node.specs.of_esc_registers.declared.registers.Registers as Esc
+use Rattle.slave_node.specs.of_esc_registers.Access.{is_by_place, is_by_station, moved_on, passed_at, row_of}
+use Rattle.slave_node.specs.Passing.{passed, datagram_after, datagrams_after}
+use Rattle.slave_node.specs.of_mailbox_slave.Kept.{Kept}
 use Rattle.frames_seen.specs.of_frame_view.View.{Lens}
 use Rattle.frames_seen.specs.Spoken.{means}
-use Rattle.frames_seen.specs.Own.{is_to, IsApart}
+use Rattle.frames_seen.specs.Own.{is_to, IsApart, NoneMeant}
 use Rattle.frames_seen.specs.Ring.{all_after, AllApart}
 use Rattle.slave_lives.specs.Steps.{Running}
 use Rattle.slave_lives.specs.Opening.{Plan, IsPlan, aim, IsAccess, AtMostOne, JustOne}
-use Rattle.frames_seen.specs.Own.{NoneMeant}
 use Rattle.slave_lives.specs.Returning.{IsReturned, IsTurn}
 use Rattle.slave_lives.specs.Ways.{IsNotFor, AllNotFor, IsOnWay, OneOnWay, JustOnWay}
 use Rattle.frames_seen.proofs.Boxes.{aimed}

@@ -3,13 +3,13 @@ use Rattle.std.specs.Prelude.{◌≡◌, ◌≤◌, ◌<◌, ◌∷◌, ◌++◌
 use Rattle.life_model.specs.of_exchange_model.Exchange.{Speech, plain}
 use Rattle.life_model.specs.of_exchange_model.Rows.{Row, answer_after}
 use Rattle.frames_seen.specs.of_frame_view.Seen.{seen}
-use Rattle.slave_steps.specs.of_link_mails.Body.{Body}
-use Rattle.state_law.specs.of_segment_model.Record.{Frame}
-use Rattle.state_law.specs.of_segment_model.Slaves.{Registers, Slave}
+use Rattle.slave_node.specs.of_link_mails.Body.{Body}
+use Rattle.frames_seen.specs.of_segment_model.Record.{Frame}
+use Rattle.frames_seen.specs.of_segment_model.Slaves.{Registers, Slave}
 use Rattle.life_model.specs.Lives.{Spot, Era}
 use Rattle.life_model.specs.Eras.{EraIs, Clearing, IsClearing}
 use Rattle.life_model.specs.Own.{own}
-use Rattle.life_model.specs.of_task_model.Accounts.{Pick}
+use Rattle.life_model.specs.of_state_model.Accounts.{Pick}
 use Rattle.segment_ring.specs.Ring.{is_in_pace}
 use Rattle.slave_lives.specs.Lived.{Behind, table_of, RingFrame, octets_back, is_reached, node_met, LivesEra, IsForOpen, StepsUp}
 

@@ -9,21 +9,21 @@ use Rattle.frames_seen.specs.Own.{own_of, IsAlone}
 use Rattle.frames_seen.specs.Ring.{AllApart}
 use Rattle.frames_seen.specs.Slaves.{registers_seen, slave_of, IsOpen}
 use Rattle.frames_seen.specs.Spoken.{AllSpoken}
-use Rattle.slave_steps.specs.of_frame_pass.Passing.{datagrams_after}
-use Rattle.slave_steps.specs.of_link_mails.Body.{Body}
-use Rattle.slave_steps.specs.of_mailbox_slave.Node.{in_side}
-use Rattle.slave_steps.specs.of_mailbox_slave.Registers.{in_len}
-use Rattle.state_law.specs.of_segment_model.Slaves.{Registers, Slave, Serving, Processor, Found}
-use Rattle.state_law.specs.of_segment_model.Record.{Frame, News}
+use Rattle.slave_node.specs.Passing.{datagrams_after}
+use Rattle.slave_node.specs.of_link_mails.Body.{Body}
+use Rattle.slave_node.specs.of_mailbox_slave.Node.{in_side}
+use Rattle.slave_node.specs.of_mailbox_slave.Registers.{in_len}
+use Rattle.frames_seen.specs.of_segment_model.Slaves.{Registers, Slave, Serving, Processor, Found}
+use Rattle.frames_seen.specs.of_segment_model.Record.{Frame, News}
 use Rattle.segment_ring.specs.declared.wire.Fate.{Fate}
 use Rattle.segment_ring.specs.declared.wire.Fate.TheVariants.{Pass, Lost}
-use Rattle.life_model.specs.of_state_exchange.Stated.{Stated}
-use Rattle.state_law.specs.Shows.{slave_table}
-use Rattle.state_law.specs.of_state_model.States as States
+use Rattle.life_model.specs.of_state_model.Stated.{Stated}
+use Rattle.frames_seen.specs.Shows.{slave_table}
+use Rattle.frames_seen.specs.of_state_model.States as States
 use Rattle.segment_ring.specs.Schedule.{fate_at}
 use Rattle.segment_ring.specs.Ring.{RingState, is_in_pace, ring_behind, ring_returned}
-use Rattle.life_model.specs.of_task_model.Accounts.{Pick}
-use Rattle.slave_steps.specs.Node.{Node, node_passed}
+use Rattle.life_model.specs.of_state_model.Accounts.{Pick}
+use Rattle.slave_node.specs.Node.{Node, node_passed}
 use Rattle.life_model.specs.Lives.{Spot, Era, Opening, AsksOpen, era_next, era_after, new_era}
 use Rattle.life_model.specs.Eras.{EraIs}
 use Rattle.slave_lives.specs.Nodes.{IsRunning, IsRoomy, stepped}

@@ -4,12 +4,12 @@ use Rattle.byteorder.specs.Endian.{little_bytes}
 use Rattle.segment_ring.specs.of_datagrams.declared.command.Command.{Command}
 use Rattle.segment_ring.specs.of_datagrams.declared.command.Command.TheVariants.{Aprd, Apwr, Fprd, Fpwr}
 use Rattle.segment_ring.specs.of_datagrams.Datagram as Raw
-use Rattle.slave_steps.specs.of_esc_registers.declared.registers.Registers as Esc
-use Rattle.slave_steps.specs.of_esc_registers.Manager.{is_right}
-use Rattle.slave_steps.specs.of_frame_pass.Passing.{passed}
+use Rattle.slave_node.specs.of_esc_registers.declared.registers.Registers as Esc
+use Rattle.slave_node.specs.of_esc_registers.Manager.{is_right}
+use Rattle.slave_node.specs.Passing.{passed}
 use Rattle.frames_seen.specs.of_link_model.Link.{new_link}
-use Rattle.slave_steps.specs.of_mailbox_slave.Kept.{Kept}
-use Rattle.slave_steps.specs.of_mailbox_slave.Node.{node_of, in_side}
+use Rattle.slave_node.specs.of_mailbox_slave.Kept.{Kept}
+use Rattle.slave_node.specs.of_mailbox_slave.Node.{node_of, in_side}
 use Rattle.frames_seen.specs.of_frame_view.View.{Lens}
 use Rattle.frames_seen.specs.Slaves.{registers_seen, IsOpen}
 use Rattle.slave_lives.specs.Steps.{Stands}

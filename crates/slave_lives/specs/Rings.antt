@@ -2,15 +2,15 @@
 use Rattle.std.specs.Prelude.{◌≡◌, ℕ, zero, suc, Bool, true, false, if◌then◌else◌, List, [], ◌∷◌, ◌++◌, map, length}
 use Rattle.segment_ring.specs.of_datagrams.Datagram as Raw
 use Rattle.segment_ring.specs.of_datagrams.Frame.{IsFrame}
-use Rattle.slave_steps.specs.of_esc_registers.declared.registers.Registers as Esc
-use Rattle.slave_steps.specs.of_frame_pass.Passing.{registers_after, datagrams_after}
+use Rattle.slave_node.specs.of_esc_registers.declared.registers.Registers as Esc
+use Rattle.slave_node.specs.Passing.{registers_after, datagrams_after}
 use Rattle.frames_seen.specs.Ring.{all_after}
 use Rattle.frames_seen.specs.of_link_model.Segment.{RingFate}
 use Rattle.segment_ring.specs.declared.wire.Fate.{Fate}
 use Rattle.segment_ring.specs.declared.wire.Fate.TheVariants.{Pass, Lost}
 use Rattle.segment_ring.specs.Schedule.{fate_at}
 use Rattle.segment_ring.specs.Ring.{RingState, is_in_pace, ring_behind, ring_returned}
-use Rattle.slave_steps.specs.Node.{Node, node_passed}
+use Rattle.slave_node.specs.Node.{Node, node_passed}
 use Rattle.slave_lives.specs.Steps.{Running}
 use Rattle.slave_lives.specs.Nodes.{stepped}
 

@@ -1,11 +1,12 @@
-//! The lives of slaves over their registers: a step of the real processor as the session's, and the accesses by which a slave is opened and
-//! returned. No running code: each function here does nothing, and its contract states a law.
+//! The lives of slaves over their registers: a step of the real processor as the session's, the accesses by which a slave is opened and returned, and
+//! what it shows behind a step while it is opened. No running code: each function here does nothing, and its contract states a law.
 #![tactic(auto)]
 
 mod life_laws;
 mod node_laws;
 mod opening_laws;
 mod step_laws;
+pub mod steps_shown;
 
 pub use life_laws::{
     access_law, begin_law, closed_frame_law, closed_life_law, closed_way_law, end_law,

@@ -2,9 +2,9 @@
 use Rattle.std.proofs.Common.{Bool, false}
 use Rattle.exchange_model.specs.Areas.{Areas, AreMailboxes}
 use Rattle.exchange_model.specs.Exchange.{AnswersLast}
-use Rattle.coe_model.specs.Tables.{Tables, AreLawful}
-use Rattle.coe_model.specs.Model.{coe_exchange}
-use Rattle.coe_model.proofs.Lasts.{none_behind}
+use Rattle.protocol_models.specs.Tables.{Tables, AreLawful}
+use Rattle.protocol_models.specs.CoeModel.{coe_exchange}
+use Rattle.protocol_models.proofs.CoeLasts.{none_behind}
 
 module _ {S : Type 0} (o : Tables S) (law : AreLawful o) (eoe : Bool) (areas : Areas) (sized : AreMailboxes areas) where
   pub coe_last : AnswersLast (coe_exchange o eoe areas) (λ q. false)

@@ -2,11 +2,11 @@
 use Rattle.std.proofs.Common.{false, [], ◌∷◌, refl, sym, ap, ◌∙◌}
 use Rattle.exchange_model.specs.Areas.{Areas, AreMailboxes}
 use Rattle.exchange_model.specs.Exchange.{AnswersLast, plain}
-use Rattle.eoe_model.specs.Network as Network
-use Rattle.eoe_model.specs.Mails as EoeMails
-use Rattle.eoe_model.specs.Client as EoeClient
-use Rattle.eoe_model.specs.Model as EoeModel
-use Rattle.eoe_model.proofs.EoeLaw as EoeLaw
+use Rattle.protocol_models.specs.Network as Network
+use Rattle.protocol_models.specs.EoeMails as EoeMails
+use Rattle.protocol_models.specs.EoeClient as EoeClient
+use Rattle.protocol_models.specs.EoeModel as EoeModel
+use Rattle.protocol_models.proofs.EoeLaw as EoeLaw
 
 module _ {S : Type 0} (o : Network.Network S) (sound : Network.IsSound o) (areas : Areas) (sized : AreMailboxes areas) where
   pub eoe_last : AnswersLast (EoeModel.eoe_exchange o areas) (λ q. false)

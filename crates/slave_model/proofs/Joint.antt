@@ -5,10 +5,9 @@ use Rattle.link_mails.specs.of_mailbox_mail.declared.mail.MailFault.TheVariants.
 use Rattle.link_mails.specs.Body.{Body}
 use Rattle.exchange_model.specs.Exchange.{Exchange, IsLawful, after}
 use Rattle.exchange_model.specs.Lifted.{EachOf}
-use Rattle.exchange_sum.specs.Sides.{Spares}
-use Rattle.exchange_sum.specs.Refusing.{Refusal, gated}
-use Rattle.exchange_sum.specs.Sides.{IsSide}
-use Rattle.exchange_sum.proofs.SumLaw.{joined_law, seat_after}
+use Rattle.exchange_model.specs.Sides.{Spares, IsSide}
+use Rattle.exchange_model.specs.Refusing.{Refusal, gated}
+use Rattle.exchange_model.proofs.SumLaw.{joined_law, seat_after}
 use Rattle.slave_model.specs.Profile.{Protocol, Profile, serves}
 use Rattle.slave_model.specs.Application.{Parts, station_valid}
 use Rattle.slave_model.specs.Server.{Server, Seat, seat, reseated}

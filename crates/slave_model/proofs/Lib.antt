@@ -1,4 +1,4 @@
-pub use Rattle.soe_model.proofs as of_soe_model
+pub use Rattle.protocol_models.proofs as of_protocol_models
 pub mod Stations
 pub mod CoeLast
 pub mod Sides
@@ -9,3 +9,20 @@ pub mod ProductLaw
 pub mod LastLaw
 pub mod EoeLast
 pub mod StatedLaw
+pub mod Answers
+pub mod Dialogues
+pub mod Eras
+pub mod Forms
+pub mod HearsDialogues
+pub mod HearsForms
+pub mod HearsProtocols
+pub mod HearsSlaves
+pub mod HearsStates
+pub mod Laws
+pub mod Protocols
+pub mod Ready
+pub mod Seats
+pub mod Slaves
+pub mod States
+pub mod Unsent
+mod WorkedRows

@@ -1,41 +1,40 @@
 -- What each protocol owes to stand beside the others.
 use Rattle.std.proofs.Common.{◌≡◌, ℕ, zero, suc, ◌+◌, ◌-◌, ◌&&◌, nat_le, nat_lt, Bool, true, false, List, [], ◌∷◌, ◌++◌, map, length, take, drop, Result, Ok, Err, refl, sym, ap, ◌∙◌, subst}
-use Rattle.std.specs.Prelude.{if◌then◌else◌}
+use Rattle.std.specs.Prelude.{if◌then◌else◌, ◌*◌, ◌/◌}
 use Rattle.link_mails.specs.Body.{Body}
-use Rattle.eoe_model.specs.of_eoe.declared.message.Eoe.{Eoe}
-use Rattle.eoe_model.specs.of_eoe.declared.message.EoeFault.{EoeFault}
-use Rattle.eoe_model.specs.of_eoe.Message.{eoe_read, eoe_text}
+use Rattle.protocol_models.specs.of_eoe.declared.message.Eoe.{Eoe}
+use Rattle.protocol_models.specs.of_eoe.declared.message.EoeFault.{EoeFault}
+use Rattle.protocol_models.specs.of_eoe.Message.{eoe_read, eoe_text}
 use Rattle.exchange_model.specs.Exchange.{Exchange, given}
 use Rattle.exchange_model.specs.Lifted.{EachOf, ReadsBack, lifted}
-use Rattle.exchange_sum.specs.Refusing.{refused_serve, gated}
-use Rattle.coe_model.specs.Mails as CoeMails
-use Rattle.coe_model.specs.Octets as CoeOctets
-use Rattle.foe_model.specs.Mails as FoeMails
-use Rattle.std.specs.Prelude.{◌*◌, ◌/◌}
+use Rattle.exchange_model.specs.Refusing.{refused_serve, gated}
+use Rattle.protocol_models.specs.CoeMails as CoeMails
+use Rattle.protocol_models.specs.CoeOctets as CoeOctets
+use Rattle.protocol_models.specs.FoeMails as FoeMails
 use Rattle.std.proofs.lemmas.List.{map-append}
-use Rattle.eoe_model.specs.of_eoe.Cutting.{fragments_of}
+use Rattle.protocol_models.specs.of_eoe.Cutting.{fragments_of}
 use Rattle.exchange_model.proofs.Turns.{sent_each}
-use Rattle.coe_model.specs.Tables as Tables
-use Rattle.coe_model.specs.Tables.{Ask}
-use Rattle.coe_model.specs.Meaning as CoeMeaning
-use Rattle.coe_model.specs.Client as CoeClient
-use Rattle.coe_model.specs.Model as CoeModel
-use Rattle.coe_model.proofs.Speaks.{is_request}
-use Rattle.coe_model.proofs.CoeLaw.{full_all, ask_full}
-use Rattle.foe_model.specs.Meaning as FoeMeaning
-use Rattle.foe_model.specs.Client as FoeClient
-use Rattle.foe_model.specs.Server.{packet_room, serve}
-use Rattle.soe_model.specs.Elements.{Target}
-use Rattle.soe_model.specs.Client as SoeClient
-use Rattle.eoe_model.specs.Client as EoeClient
-use Rattle.foe_model.specs.Octets as FoeOctets
-use Rattle.foe_model.specs.Model as FoeModel
-use Rattle.soe_model.specs.Model as SoeModel
-use Rattle.eoe_model.specs.Model as EoeModel
-use Rattle.soe_model.specs.Mails as SoeMails
-use Rattle.soe_model.specs.Octets as SoeOctets
-use Rattle.eoe_model.specs.Mails as EoeMails
-use Rattle.eoe_model.specs.Octets as EoeOctets
+use Rattle.protocol_models.specs.Tables as Tables
+use Rattle.protocol_models.specs.Tables.{Ask}
+use Rattle.protocol_models.specs.CoeMeaning as CoeMeaning
+use Rattle.protocol_models.specs.CoeClient as CoeClient
+use Rattle.protocol_models.specs.CoeModel as CoeModel
+use Rattle.protocol_models.proofs.CoeSpeaks.{is_request}
+use Rattle.protocol_models.proofs.CoeLaw.{full_all, ask_full}
+use Rattle.protocol_models.specs.FoeMeaning as FoeMeaning
+use Rattle.protocol_models.specs.FoeClient as FoeClient
+use Rattle.protocol_models.specs.FoeServer.{packet_room, serve}
+use Rattle.protocol_models.specs.Elements.{Target}
+use Rattle.protocol_models.specs.SoeClient as SoeClient
+use Rattle.protocol_models.specs.EoeClient as EoeClient
+use Rattle.protocol_models.specs.FoeOctets as FoeOctets
+use Rattle.protocol_models.specs.FoeModel as FoeModel
+use Rattle.protocol_models.specs.SoeModel as SoeModel
+use Rattle.protocol_models.specs.EoeModel as EoeModel
+use Rattle.protocol_models.specs.SoeMails as SoeMails
+use Rattle.protocol_models.specs.SoeOctets as SoeOctets
+use Rattle.protocol_models.specs.EoeMails as EoeMails
+use Rattle.protocol_models.specs.EoeOctets as EoeOctets
 use Rattle.slave_model.specs.Profile.{Protocol, Profile, IsProfile, serves, areas_of}
 use Rattle.slave_model.specs.Application.{Parts, ArePartsLawful, station_tables, station_files, station_elements, network}
 use Rattle.slave_model.specs.Server.{Seat, ServiceOf, failure, heard_by, told_by, refused_gives, soe_quiet, eoe_quiet}

@@ -1,10 +1,10 @@
 -- The one exchange of a session keeps the laws.
 use Rattle.std.proofs.Common.{◌≡◌, ℕ, refl, sym, ap, ◌∙◌}
 use Rattle.exchange_model.specs.Exchange.{IsLawful}
-use Rattle.exchange_sum.specs.Refusing.{IsRefusal}
-use Rattle.exchange_sum.proofs.RefusingLaw.{gated_law}
-use Rattle.state_exchange.specs.Families.{AreOneClient}
-use Rattle.state_exchange.proofs.FamilyLaw.{family_law}
+use Rattle.exchange_model.specs.Refusing.{IsRefusal}
+use Rattle.exchange_model.proofs.RefusingLaw.{gated_law}
+use Rattle.state_model.specs.Families.{AreOneClient}
+use Rattle.state_model.proofs.FamilyLaw.{family_law}
 use Rattle.slave_model.specs.Profile.{Protocol, Profile, IsProfile, serves}
 use Rattle.slave_model.specs.Application.{Parts, ArePartsLawful}
 use Rattle.slave_model.specs.Product.{served, refusal, side, protocols, product}

@@ -3,28 +3,28 @@ use Rattle.std.proofs.Common.{◌≡◌, ℕ, zero, suc, ◌+◌, ◌-◌, ◌*�
 use Rattle.std.specs.Prelude.{if◌then◌else◌}
 use Rattle.std.proofs.lemmas.Bool.{leb-false}
 use Rattle.link_mails.specs.Body.{Body}
-use Rattle.eoe_model.specs.of_eoe.Cutting.{fragment_at, fragments_from}
+use Rattle.protocol_models.specs.of_eoe.Cutting.{fragment_at, fragments_from}
 use Rattle.exchange_model.specs.Dialogue.{said}
 use Rattle.exchange_model.specs.Lifted.{EachOf, ReadsBack}
-use Rattle.exchange_sum.specs.Refusing.{Refusal, IsAsked, IsRefusal}
-use Rattle.coe_model.specs.Mails as CoeMails
-use Rattle.coe_model.specs.Meaning as CoeMeaning
-use Rattle.coe_model.specs.Client as CoeClient
-use Rattle.coe_model.specs.Octets as CoeOctets
-use Rattle.foe_model.specs.Meaning as FoeMeaning
-use Rattle.foe_model.specs.Client as FoeClient
-use Rattle.foe_model.specs.Octets as FoeOctets
-use Rattle.soe_model.specs.Mails as SoeMails
-use Rattle.soe_model.specs.Elements as Elements
-use Rattle.soe_model.specs.Elements.{Target}
-use Rattle.soe_model.proofs.Spelled.{soe_spells}
-use Rattle.eoe_model.specs.Network as Network
-use Rattle.eoe_model.proofs.Spelled.{eoe_spells}
-use Rattle.soe_model.specs.Client as SoeClient
-use Rattle.soe_model.specs.Octets as SoeOctets
-use Rattle.eoe_model.specs.Mails as EoeMails
-use Rattle.eoe_model.specs.Client as EoeClient
-use Rattle.eoe_model.specs.Octets as EoeOctets
+use Rattle.exchange_model.specs.Refusing.{Refusal, IsAsked, IsRefusal}
+use Rattle.protocol_models.specs.CoeMails as CoeMails
+use Rattle.protocol_models.specs.CoeMeaning as CoeMeaning
+use Rattle.protocol_models.specs.CoeClient as CoeClient
+use Rattle.protocol_models.specs.CoeOctets as CoeOctets
+use Rattle.protocol_models.specs.FoeMeaning as FoeMeaning
+use Rattle.protocol_models.specs.FoeClient as FoeClient
+use Rattle.protocol_models.specs.FoeOctets as FoeOctets
+use Rattle.protocol_models.specs.SoeMails as SoeMails
+use Rattle.protocol_models.specs.Elements as Elements
+use Rattle.protocol_models.specs.Elements.{Target}
+use Rattle.protocol_models.proofs.SoeSpelled.{soe_spells}
+use Rattle.protocol_models.specs.Network as Network
+use Rattle.protocol_models.proofs.EoeSpelled.{eoe_spells}
+use Rattle.protocol_models.specs.SoeClient as SoeClient
+use Rattle.protocol_models.specs.SoeOctets as SoeOctets
+use Rattle.protocol_models.specs.EoeMails as EoeMails
+use Rattle.protocol_models.specs.EoeClient as EoeClient
+use Rattle.protocol_models.specs.EoeOctets as EoeOctets
 use Rattle.slave_model.specs.Profile.{Protocol, Profile, IsProfile, areas_of}
 use Rattle.slave_model.specs.Application.{Parts, ArePartsLawful}
 use Rattle.slave_model.specs.Server.{Seat, one_more, failure, told_by, soe_quiet, eoe_counts, eoe_quiet}

@@ -5,26 +5,26 @@ use Rattle.exchange_model.specs.Areas.{AreMailboxes}
 use Rattle.exchange_model.specs.Exchange.{Exchange, IsLawful, given}
 use Rattle.exchange_model.specs.Lifted.{EachOf, ReadsBack, Spells}
 use Rattle.exchange_model.proofs.Lifting.{lifted_law}
-use Rattle.coe_model.specs.Mails as CoeMails
-use Rattle.coe_model.specs.Model as CoeModel
-use Rattle.coe_model.specs.Octets as CoeOctets
-use Rattle.coe_model.proofs.CoeLaw.{coe_law}
-use Rattle.coe_model.proofs.Spelled.{coe_spells}
-use Rattle.foe_model.specs.Mails as FoeMails
-use Rattle.foe_model.specs.Model as FoeModel
-use Rattle.foe_model.specs.Octets as FoeOctets
-use Rattle.foe_model.proofs.FoeLaw.{foe_law}
-use Rattle.foe_model.proofs.Spelled.{foe_spells}
-use Rattle.soe_model.specs.Model as SoeModel
-use Rattle.soe_model.specs.Octets as SoeOctets
-use Rattle.soe_model.specs.Mails as SoeMails
-use Rattle.soe_model.proofs.SoeLaw.{soe_law}
-use Rattle.soe_model.proofs.Spelled.{soe_spells}
-use Rattle.eoe_model.specs.Model as EoeModel
-use Rattle.eoe_model.specs.Octets as EoeOctets
-use Rattle.eoe_model.specs.Mails as EoeMails
-use Rattle.eoe_model.proofs.EoeLaw.{eoe_law}
-use Rattle.eoe_model.proofs.Spelled.{eoe_spells}
+use Rattle.protocol_models.specs.CoeMails as CoeMails
+use Rattle.protocol_models.specs.CoeModel as CoeModel
+use Rattle.protocol_models.specs.CoeOctets as CoeOctets
+use Rattle.protocol_models.proofs.CoeLaw.{coe_law}
+use Rattle.protocol_models.proofs.CoeSpelled.{coe_spells}
+use Rattle.protocol_models.specs.FoeMails as FoeMails
+use Rattle.protocol_models.specs.FoeModel as FoeModel
+use Rattle.protocol_models.specs.FoeOctets as FoeOctets
+use Rattle.protocol_models.proofs.FoeLaw.{foe_law}
+use Rattle.protocol_models.proofs.FoeSpelled.{foe_spells}
+use Rattle.protocol_models.specs.SoeModel as SoeModel
+use Rattle.protocol_models.specs.SoeOctets as SoeOctets
+use Rattle.protocol_models.specs.SoeMails as SoeMails
+use Rattle.protocol_models.proofs.SoeLaw.{soe_law}
+use Rattle.protocol_models.proofs.SoeSpelled.{soe_spells}
+use Rattle.protocol_models.specs.EoeModel as EoeModel
+use Rattle.protocol_models.specs.EoeOctets as EoeOctets
+use Rattle.protocol_models.specs.EoeMails as EoeMails
+use Rattle.protocol_models.proofs.EoeLaw.{eoe_law}
+use Rattle.protocol_models.proofs.EoeSpelled.{eoe_spells}
 use Rattle.slave_model.specs.Profile.{Protocol, Profile, IsProfile, areas_of}
 use Rattle.slave_model.specs.Application.{Parts, ArePartsLawful, station_tables, station_files, station_elements, network}
 use Rattle.slave_model.specs.Server.{heard_by, told_by}

@@ -1,19 +1,19 @@
 -- The AL state is a part of the application of the one exchange.
 use Rattle.std.proofs.Common.{ℕ, [], refl}
 use Rattle.exchange_model.specs.Exchange.{AnswersLast}
-use Rattle.state_exchange.specs.Stated.{IsStated}
-use Rattle.state_exchange.specs.Families.{states_of}
-use Rattle.state_exchange.proofs.FamilyLaw.{family_is_stated}
+use Rattle.state_model.specs.Stated.{IsStated}
+use Rattle.state_model.specs.Families.{states_of}
+use Rattle.state_model.proofs.FamilyLaw.{family_is_stated}
 use Rattle.exchange_model.proofs.Lasts.{lifted_last}
 use Rattle.slave_model.proofs.CoeLast.{coe_last}
-use Rattle.coe_model.specs.Mails as CoeMails
-use Rattle.coe_model.specs.Octets as CoeOctets
-use Rattle.foe_model.specs.Mails as FoeMails
-use Rattle.foe_model.specs.Octets as FoeOctets
-use Rattle.soe_model.specs.Mails as SoeMails
-use Rattle.soe_model.specs.Octets as SoeOctets
-use Rattle.eoe_model.specs.Mails as EoeMails
-use Rattle.eoe_model.specs.Octets as EoeOctets
+use Rattle.protocol_models.specs.CoeMails as CoeMails
+use Rattle.protocol_models.specs.CoeOctets as CoeOctets
+use Rattle.protocol_models.specs.FoeMails as FoeMails
+use Rattle.protocol_models.specs.FoeOctets as FoeOctets
+use Rattle.protocol_models.specs.SoeMails as SoeMails
+use Rattle.protocol_models.specs.SoeOctets as SoeOctets
+use Rattle.protocol_models.specs.EoeMails as EoeMails
+use Rattle.protocol_models.specs.EoeOctets as EoeOctets
 use Rattle.slave_model.specs.Profile.{Protocol, Profile, IsProfile, serves, areas_of}
 use Rattle.slave_model.specs.Application.{Parts, ArePartsLawful, station_tables, station_files, station_elements, network}
 use Rattle.slave_model.specs.Server.{heard_by, told_by}
@@ -23,8 +23,8 @@ use Rattle.slave_model.proofs.Sides.{told_spells, served_law, sized, coe_spelled
 use Rattle.slave_model.proofs.Joint.{side_of}
 use Rattle.slave_model.proofs.Own.{are_own}
 use Rattle.slave_model.proofs.LastLaw.{gated_last, joined_last}
-use Rattle.foe_model.proofs.Lasts.{foe_last}
-use Rattle.soe_model.proofs.Lasts.{soe_last}
+use Rattle.protocol_models.proofs.FoeLasts.{foe_last}
+use Rattle.protocol_models.proofs.SoeLasts.{soe_last}
 use Rattle.slave_model.proofs.EoeLast.{eoe_last}
 use Rattle.slave_model.proofs.ProductLaw.{refusals, one_client}
 use Rattle.slave_model.specs.Acknowledged.{acknowledges, acknowledged}

@@ -1,21 +1,21 @@
 -- What each protocol sees of a station keeps its laws.
 use Rattle.std.proofs.Common.{◌≡◌, ℕ, zero, suc, ◌+◌, ◌-◌, ◌*◌, ◌/◌, ◌%◌, ◌≤◌, ◌==◌, ◌&&◌, nat_lt, Bool, true, false, List, [], ◌∷◌, ◌++◌, map, length, take, drop, Some, None, Result, Ok, Err, refl, sym, ap, ◌∙◌, subst, arith, lt-ltb, le-leb, leb-true, length-append, length-drop}
 use Rattle.std.specs.Prelude.{if◌then◌else◌}
-use Rattle.eoe_model.specs.of_eoe.declared.message.Eoe.TheVariants.{Fragment as Part}
-use Rattle.eoe_model.specs.of_eoe.declared.message.Fragment.{Fragment}
-use Rattle.eoe_model.specs.of_eoe.Message.{eoe_text}
-use Rattle.eoe_model.specs.of_eoe.Cutting.{fragments_of}
+use Rattle.protocol_models.specs.of_eoe.declared.message.Eoe.TheVariants.{Fragment as Part}
+use Rattle.protocol_models.specs.of_eoe.declared.message.Fragment.{Fragment}
+use Rattle.protocol_models.specs.of_eoe.Message.{eoe_text}
+use Rattle.protocol_models.specs.of_eoe.Cutting.{fragments_of}
 use Rattle.exchange_model.specs.Lifted.{EachOf}
-use Rattle.coe_model.specs.Tables as Tables
-use Rattle.coe_model.specs.Octets as CoeOctets
-use Rattle.coe_model.specs.Octets.{is_fragment}
-use Rattle.foe_model.specs.Files as Files
-use Rattle.soe_model.specs.Elements as Elements
-use Rattle.eoe_model.specs.Network as Network
-use Rattle.eoe_model.specs.Network.{Station}
+use Rattle.protocol_models.specs.Tables as Tables
+use Rattle.protocol_models.specs.CoeOctets as CoeOctets
+use Rattle.protocol_models.specs.CoeOctets.{is_fragment}
+use Rattle.protocol_models.specs.Files as Files
+use Rattle.protocol_models.specs.Elements as Elements
+use Rattle.protocol_models.specs.Network as Network
+use Rattle.protocol_models.specs.Network.{Station}
 use Rattle.slave_model.specs.Profile.{Profile, IsProfile}
 use Rattle.slave_model.specs.Application.{Core, Parts, ArePartsLawful, core_valid, station_valid, with_objects, stored, station_tables, station_files, written, station_elements, network}
-use Rattle.eoe_model.specs.Echo.{is_echo}
+use Rattle.protocol_models.specs.Echo.{is_echo}
 
 pub both : (a b : Bool) → a ≡ true → b ≡ true → (a && b) ≡ true
 both a b e f = rw (e, f) refl

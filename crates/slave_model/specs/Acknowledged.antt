@@ -1,6 +1,6 @@
 -- Which services end with an acknowledgement: reads of files.
 use Rattle.std.specs.Prelude.{Bool, false}
-pub use Rattle.foe_model.specs.Meaning.{is_file_read}
+pub use Rattle.protocol_models.specs.FoeMeaning.{is_file_read}
 use Rattle.slave_model.specs.Profile.{Protocol}
 use Rattle.slave_model.specs.Server.{ServiceOf}
 

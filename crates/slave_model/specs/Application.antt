@@ -1,16 +1,16 @@
 -- The one application of a slave, and what each protocol sees of it.
 use Rattle.std.specs.Prelude.{◌≡◌, ℕ, ◌+◌, ◌*◌, ◌-◌, ◌/◌, ◌%◌, ◌&&◌, nat_lt, Bool, if◌then◌else◌, List, map, Some, None, Result, Ok, Err}
-use Rattle.eoe_model.specs.of_eoe.declared.message.Eoe.TheVariants.{Fragment as Part}
-use Rattle.eoe_model.specs.of_eoe.declared.message.Fragment.{Fragment}
-use Rattle.eoe_model.specs.of_eoe.Cutting.{fragments_of}
-use Rattle.eoe_model.specs.of_eoe.Message.{eoe_text}
-use Rattle.coe_model.specs.Tables as Tables
-use Rattle.coe_model.specs.Octets.{AreSpelled}
-use Rattle.foe_model.specs.Files as Files
-use Rattle.soe_model.specs.Elements as Elements
-use Rattle.eoe_model.specs.Network as Network
-use Rattle.eoe_model.specs.Network.{Station}
-use Rattle.eoe_model.specs.Echo.{echo_of}
+use Rattle.protocol_models.specs.of_eoe.declared.message.Eoe.TheVariants.{Fragment as Part}
+use Rattle.protocol_models.specs.of_eoe.declared.message.Fragment.{Fragment}
+use Rattle.protocol_models.specs.of_eoe.Cutting.{fragments_of}
+use Rattle.protocol_models.specs.of_eoe.Message.{eoe_text}
+use Rattle.protocol_models.specs.Tables as Tables
+use Rattle.protocol_models.specs.CoeOctets.{AreSpelled}
+use Rattle.protocol_models.specs.Files as Files
+use Rattle.protocol_models.specs.Elements as Elements
+use Rattle.protocol_models.specs.Network as Network
+use Rattle.protocol_models.specs.Network.{Station}
+use Rattle.protocol_models.specs.Echo.{echo_of}
 use Rattle.slave_model.specs.Profile.{Profile}
 
 -- What the services act on. T: an object dictionary; F: files; I: a table of IDNs. A station has besides the frame number of the next packet.

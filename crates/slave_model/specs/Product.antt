@@ -6,26 +6,26 @@ use Rattle.link_mails.specs.of_mailbox_mail.declared.outcome.ReplyKind.{ReplyKin
 use Rattle.link_mails.specs.Body.{Body}
 use Rattle.exchange_model.specs.Exchange.{Exchange}
 use Rattle.exchange_model.specs.Lifted.{lifted}
-use Rattle.exchange_sum.specs.Sides.{Slave, joined}
-use Rattle.exchange_sum.specs.Refusing.{Refusal, gated}
-use Rattle.state_exchange.specs.Families.{InState, in_states}
-use Rattle.coe_model.specs.Mails as CoeMails
-use Rattle.coe_model.specs.Client as CoeClient
-use Rattle.coe_model.specs.Model as CoeModel
-use Rattle.coe_model.specs.Octets as CoeOctets
-use Rattle.foe_model.specs.Mails as FoeMails
-use Rattle.foe_model.specs.Client as FoeClient
-use Rattle.foe_model.specs.Model as FoeModel
-use Rattle.foe_model.specs.Octets as FoeOctets
-use Rattle.soe_model.specs.Mails as SoeMails
-use Rattle.soe_model.specs.Client as SoeClient
-use Rattle.soe_model.specs.Model as SoeModel
-use Rattle.soe_model.specs.Octets as SoeOctets
-use Rattle.eoe_model.specs.Mails as EoeMails
-use Rattle.eoe_model.specs.Client as EoeClient
-use Rattle.eoe_model.specs.Model as EoeModel
-use Rattle.eoe_model.specs.Octets as EoeOctets
-use Rattle.eoe_model.specs.Network.{Station}
+use Rattle.exchange_model.specs.Sides.{Slave, joined}
+use Rattle.exchange_model.specs.Refusing.{Refusal, gated}
+use Rattle.state_model.specs.Families.{InState, in_states}
+use Rattle.protocol_models.specs.CoeMails as CoeMails
+use Rattle.protocol_models.specs.CoeClient as CoeClient
+use Rattle.protocol_models.specs.CoeModel as CoeModel
+use Rattle.protocol_models.specs.CoeOctets as CoeOctets
+use Rattle.protocol_models.specs.FoeMails as FoeMails
+use Rattle.protocol_models.specs.FoeClient as FoeClient
+use Rattle.protocol_models.specs.FoeModel as FoeModel
+use Rattle.protocol_models.specs.FoeOctets as FoeOctets
+use Rattle.protocol_models.specs.SoeMails as SoeMails
+use Rattle.protocol_models.specs.SoeClient as SoeClient
+use Rattle.protocol_models.specs.SoeModel as SoeModel
+use Rattle.protocol_models.specs.SoeOctets as SoeOctets
+use Rattle.protocol_models.specs.EoeMails as EoeMails
+use Rattle.protocol_models.specs.EoeClient as EoeClient
+use Rattle.protocol_models.specs.EoeModel as EoeModel
+use Rattle.protocol_models.specs.EoeOctets as EoeOctets
+use Rattle.protocol_models.specs.Network.{Station}
 use Rattle.slave_model.specs.Profile.{Protocol, Profile, serves, areas_of}
 use Rattle.slave_model.specs.Application.{Core, Parts, station_valid, station_tables, station_files, station_elements, network}
 use Rattle.slave_model.specs.Server.{Server, Seat, seat, reseated, one_more, ServiceOf, Reply, failure, heard_by, told_by, refused_counts, refused_gives}

@@ -5,20 +5,20 @@ use Rattle.link_mails.specs.of_mailbox_mail.declared.mail.Mail.{Mail}
 use Rattle.link_mails.specs.of_mailbox_mail.declared.mail.MailFault.TheVariants.{Short}
 use Rattle.link_mails.specs.of_mailbox_mail.declared.outcome.ReplyKind.{ReplyKind}
 use Rattle.link_mails.specs.Body.{Body}
-use Rattle.eoe_model.specs.of_eoe.declared.joining.Unfinished.{Unfinished}
-use Rattle.coe_model.specs.Server as Coe
-use Rattle.coe_model.specs.Meaning as CoeMeaning
-use Rattle.foe_model.specs.Server as Foe
-use Rattle.foe_model.specs.Meaning as FoeMeaning
-use Rattle.soe_model.specs.Mails as SoeMails
-use Rattle.soe_model.specs.Server as Soe
-use Rattle.soe_model.specs.Client as SoeClient
-use Rattle.soe_model.specs.Octets as SoeOctets
-use Rattle.eoe_model.specs.Mails as EoeMails
-use Rattle.eoe_model.specs.Server as Eoe
-use Rattle.eoe_model.specs.Client as EoeClient
-use Rattle.eoe_model.specs.Octets as EoeOctets
-use Rattle.eoe_model.specs.Network.{Station}
+use Rattle.protocol_models.specs.of_eoe.declared.joining.Unfinished.{Unfinished}
+use Rattle.protocol_models.specs.CoeServer as Coe
+use Rattle.protocol_models.specs.CoeMeaning as CoeMeaning
+use Rattle.protocol_models.specs.FoeServer as Foe
+use Rattle.protocol_models.specs.FoeMeaning as FoeMeaning
+use Rattle.protocol_models.specs.SoeMails as SoeMails
+use Rattle.protocol_models.specs.SoeServer as Soe
+use Rattle.protocol_models.specs.SoeClient as SoeClient
+use Rattle.protocol_models.specs.SoeOctets as SoeOctets
+use Rattle.protocol_models.specs.EoeMails as EoeMails
+use Rattle.protocol_models.specs.EoeServer as Eoe
+use Rattle.protocol_models.specs.EoeClient as EoeClient
+use Rattle.protocol_models.specs.EoeOctets as EoeOctets
+use Rattle.protocol_models.specs.Network.{Station}
 use Rattle.slave_model.specs.Profile.{Protocol}
 use Rattle.slave_model.specs.Application.{Core}
 

@@ -1,15 +1,19 @@
-//! The protocols of one slave over one application as one exchange. No running code: the functions here do nothing, and their contracts state
-//! the laws.
+//! The protocols of one slave over one application as one exchange, and that none of their clients waits in vain. No running code: the functions here
+//! do nothing, and their contracts state the laws.
 #![tactic(auto)]
+
+pub mod answered_rows;
+pub mod hears_first;
+pub mod never_waits;
 
 ghost use Rattle.std.specs.Prelude.{ℕ};
 ghost use Rattle.exchange_model.specs.Exchange.{IsLawful};
-ghost use Rattle.state_exchange.specs.Stated.{IsStated};
-ghost use Rattle.state_exchange.specs.Families.{states_of};
+ghost use Rattle.state_model.specs.Stated.{IsStated};
+ghost use Rattle.state_model.specs.Families.{states_of};
 ghost use Rattle.slave_model.specs.Acknowledged.{acknowledged};
 ghost use Rattle.slave_model.specs.Profile.{Protocol, Profile, IsProfile};
 ghost use Rattle.slave_model.specs.Application.{Parts, ArePartsLawful};
-ghost use Rattle.exchange_sum.specs.Refusing.{IsRefusal};
+ghost use Rattle.exchange_model.specs.Refusing.{IsRefusal};
 ghost use Rattle.slave_model.specs.Product.{served, refusal, protocols, product};
 
 /// Each protocol keeps the laws over the one application, at each AL state, where it is served.

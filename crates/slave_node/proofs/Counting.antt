@@ -7,8 +7,8 @@ use Rattle.link_model.specs.Counters.{repeats}
 use Rattle.esc_registers.specs.declared.registers.Registers.{Registers}
 use Rattle.mailbox_slave.specs.Kept.{Kept}
 use Rattle.mailbox_slave.specs.Exact.{Slave, out_mail, is_free, mail_served, next_offered, mail_offered}
-use Rattle.slave_steps.specs.Node.{Node, is_init}
-use Rattle.slave_steps.specs.Step.{looked, al_behind, word_behind, served, returned, acted, pdi_step}
+use Rattle.slave_node.specs.Node.{Node, is_init}
+use Rattle.slave_node.specs.Step.{looked, al_behind, word_behind, served, returned, acted, pdi_step}
 
 module _ {S : Type 0} (handled : S → ℕ) where
   by_four : (a b c : Bool) (w x y z : Slave S) (most : ℕ) → handled w.server ≤ most → handled x.server ≤ most → handled y.server ≤ most → handled z.server ≤ most →

@@ -1,6 +1,6 @@
 ghost use Rattle.std.specs.Prelude.{◌≡◌, ◌≤◌, ◌<◌, ◌+◌, IfOk, suc};
-ghost use Rattle.slave_steps.specs.Node.{new_node, node_passed, is_settled};
-ghost use Rattle.slave_steps.specs.Step.{pdi_step};
+ghost use Rattle.slave_node.specs.Node.{new_node, node_passed, is_settled};
+ghost use Rattle.slave_node.specs.Step.{pdi_step};
 
 use al_state::Al;
 use datagrams::FrameBuf;
@@ -8,13 +8,13 @@ use ec_fields::NoMemory;
 use esc_registers::Esc;
 use mailbox_slave::{Server, SlaveBox};
 use segment_ring::Slave;
-use slave_steps::Clear;
+use crate::slave_steps::Clear;
 use std::alloc::Global;
 use std::marker::Model;
 
 /// The services of one slave, which count those that they carried out.
 pub trait Services: Clear + Drop {
-    ghost use Rattle.std.specs.Prelude.{◌≡◌, ◌≤◌, ◌<◌, ℕ, suc};
+    ghost use Rattle.std.specs.Prelude.{◌≡◌, ◌≤◌, ◌<◌, ℕ, suc, ◌+◌};
     ghost use Rattle.link_mails.specs.Body.{Body};
 
     ghost handled: { Self → ℕ };
@@ -43,9 +43,8 @@ pub struct SlaveNode<S: Services> {
 }
 
 impl<S: Services> Model for SlaveNode<S> {
-    ghost use Rattle.std.specs.Prelude.{◌+◌, ◌≤◌};
     ghost use Rattle.mailbox_slave.specs.Registers.{in_len};
-    ghost use Rattle.slave_steps.specs.Node.{Node, IsSteady};
+    ghost use Rattle.slave_node.specs.Node.{Node, IsSteady, node_passed};
 
     ghost Value = { Node S };
 
@@ -84,7 +83,7 @@ impl<S: Services> SlaveNode<S> {
     pub fn pass(&mut self, frame: &mut FrameBuf)
         ensures { (self.new, frame.new.items) ≡ node_passed self.old frame.old.items }
     {
-        frame_pass::pass(&mut self.esc, frame);
+        crate::frame_pass::pass(&mut self.esc, frame);
     }
 
     /// A step of the slave's processor: it sees what was read of mailbox 1 and answers a repeat request, carries out an AL control word, takes a
@@ -93,7 +92,7 @@ impl<S: Services> SlaveNode<S> {
         requires { S.handled self.old.server < 18446744073709551615 }
         ensures { self.new ≡ pdi_step S.taken S.next_mail S.rest S.cleared self.old }
     {
-        slave_steps::step(
+        crate::slave_steps::step(
             &mut self.esc,
             &mut self.slave_box,
             &mut self.al,
@@ -144,8 +143,7 @@ impl<S: Services> SlaveNode<S> {
 }
 
 impl<S: Services> Slave for SlaveNode<S> {
-    ghost use Rattle.slave_steps.specs.Node.{node_passed};
-    ghost use Rattle.slave_steps.specs.Step.{pdi_step};
+    ghost use Rattle.slave_node.specs.Step.{pdi_step};
 
     ghost passed = { node_passed };
 

@@ -6,10 +6,10 @@ use Rattle.eoe_server.specs.of_eoe.declared.joining.Joined.TheVariants.{More, Wh
 use Rattle.eoe_server.specs.of_eoe.declared.joining.Unfinished.{Unfinished}
 use Rattle.eoe_server.specs.of_eoe.Joining.{taken}
 use Rattle.eoe_server.specs.of_eoe.Address.{is_block}
-use Rattle.eoe_server.specs.of_eoe_model.Echo.{echo_of}
-use Rattle.eoe_server.specs.of_eoe_model.Mails as Mails
-use Rattle.eoe_server.specs.of_eoe_model.Network.{Station}
-use Rattle.eoe_server.specs.of_eoe_model.Server as Eoe
+use Rattle.eoe_server.specs.of_protocol_models.Echo.{echo_of}
+use Rattle.eoe_server.specs.of_protocol_models.EoeMails as Mails
+use Rattle.eoe_server.specs.of_protocol_models.Network.{Station}
+use Rattle.eoe_server.specs.of_protocol_models.EoeServer as Eoe
 use Rattle.eoe_server.specs.declared.Addresses.{Addresses}
 use Rattle.eoe_server.specs.Serving.{addresses_network}
 use Rattle.slave_model.specs.Profile.{Profile}

@@ -1,9 +1,18 @@
-//! The laws of exchange, spoken of one slave's real parts: its object dictionary, its store of files and its table of IDNs. No running code.
+//! The laws of exchange, spoken of one slave's real parts: its object dictionary, its store of files and its table of IDNs; and of its services from
+//! whatever server, with unfinished transfers of any kind. No running code.
 #![tactic(auto)]
 
+pub mod coe_served;
+pub mod eoe_served;
+pub mod foe_served;
+pub mod parts_served;
+pub mod serving_sum;
+pub mod slave_served;
+pub mod soe_served;
+
 ghost use Rattle.idn_table.specs.of_exchange_model.Exchange.{IsLawful};
-ghost use Rattle.slave_model.specs.of_state_exchange.Stated.{IsStated};
-ghost use Rattle.slave_model.specs.of_state_exchange.Families.{states_of};
+ghost use Rattle.slave_model.specs.of_state_model.Stated.{IsStated};
+ghost use Rattle.slave_model.specs.of_state_model.Families.{states_of};
 ghost use Rattle.slave_model.specs.Profile.{Profile, IsProfile};
 ghost use Rattle.slave_model.specs.Application.{ArePartsLawful};
 ghost use Rattle.slave_model.specs.Acknowledged.{acknowledged};

@@ -2,10 +2,10 @@
 use Rattle.std.proofs.Common.{◌≡◌, ℕ, true, false, List, [], ◌∷◌, ◌++◌, map, Some, refl, sym, ap, ◌∙◌}
 use Rattle.std.specs.Prelude.{is_some}
 use Rattle.mailbox_mail.specs.declared.mail.Mail.{Mail}
-use Rattle.coe_server.specs.of_coe_model.Octets as CoeOctets
-use Rattle.foe_server.specs.of_foe_model.Octets as FoeOctets
-use Rattle.idn_table.specs.of_soe_model.Octets as SoeOctets
-use Rattle.eoe_server.specs.of_eoe_model.Octets as EoeOctets
+use Rattle.coe_server.specs.of_protocol_models.CoeOctets as CoeOctets
+use Rattle.foe_server.specs.of_protocol_models.FoeOctets as FoeOctets
+use Rattle.idn_table.specs.of_protocol_models.SoeOctets as SoeOctets
+use Rattle.eoe_server.specs.of_protocol_models.EoeOctets as EoeOctets
 use Rattle.coe_server.specs.Serving as Coe
 use Rattle.foe_server.specs.Serving as Foe
 use Rattle.foe_server.specs.declared.state.Pending.{Pending}

@@ -3,29 +3,29 @@ use Rattle.std.proofs.Common.{◌≡◌, ℕ, ◌+◌, ◌-◌, ◌*◌, ◌/◌
 use mir.Val.{bool_byte}
 use Rattle.mailbox_mail.specs.declared.mail.Mail.{Mail}
 use Rattle.mailbox_mail.specs.declared.mail.Kind.{Kind}
-use Rattle.slave_steps.specs.of_link_mails.Body.{Body, uncounted}
+use Rattle.slave_node.specs.of_link_mails.Body.{Body, uncounted}
 use Rattle.idn_table.specs.of_exchange_model.Exchange.{Exchange}
-use Rattle.slave_parts.specs.of_exchange_sum.Refusing.{gated}
+use Rattle.slave_parts.specs.of_exchange_model.Refusing.{gated}
 use Rattle.object_dictionary.specs.Dictionary as Objects
 use Rattle.file_store.specs.Files as Store
 use Rattle.file_store.specs.Stored.{Stored}
 use Rattle.idn_table.specs.Idns as Idns
 use Rattle.idn_table.specs.Idns.{idn_elements}
-use Rattle.coe_server.specs.of_coe_model.Mails as CoeMails
-use Rattle.coe_server.specs.of_coe_model.Octets as CoeOctets
-use Rattle.coe_server.specs.of_coe_model.Server as CoeServer
-use Rattle.foe_server.specs.of_foe_model.Octets as FoeOctets
-use Rattle.foe_server.specs.of_foe_model.Server as FoeServer
-use Rattle.idn_table.specs.of_soe_model.Octets as SoeOctets
-use Rattle.idn_table.specs.of_soe_model.Server as SoeServer
-use Rattle.eoe_server.specs.of_eoe_model.Octets as EoeOctets
-use Rattle.eoe_server.specs.of_eoe_model.Server as EoeServer
-use Rattle.eoe_server.specs.of_eoe_model.Network.{Station}
+use Rattle.coe_server.specs.of_protocol_models.CoeMails as CoeMails
+use Rattle.coe_server.specs.of_protocol_models.CoeOctets as CoeOctets
+use Rattle.coe_server.specs.of_protocol_models.CoeServer as CoeServer
+use Rattle.foe_server.specs.of_protocol_models.FoeOctets as FoeOctets
+use Rattle.foe_server.specs.of_protocol_models.FoeServer as FoeServer
+use Rattle.idn_table.specs.of_protocol_models.SoeOctets as SoeOctets
+use Rattle.idn_table.specs.of_protocol_models.SoeServer as SoeServer
+use Rattle.eoe_server.specs.of_protocol_models.EoeOctets as EoeOctets
+use Rattle.eoe_server.specs.of_protocol_models.EoeServer as EoeServer
+use Rattle.eoe_server.specs.of_protocol_models.Network.{Station}
 use Rattle.eoe.specs.Message.{eoe_read, eoe_text}
 use Rattle.eoe.specs.declared.message.Eoe.TheVariants.{Fragment as Part}
 use Rattle.eoe.specs.declared.message.Fragment.{Fragment}
 use Rattle.eoe.specs.Cutting.{Cutting, fragments_of}
-use Rattle.eoe_server.specs.of_eoe_model.Mails as EoeMails
+use Rattle.eoe_server.specs.of_protocol_models.EoeMails as EoeMails
 use Rattle.coe_server.specs.declared.state.Emitted.{Emitted}
 use Rattle.coe_server.specs.ObjectTables.{object_tables}
 use Rattle.coe_server.specs.Serving as Coe

@@ -3,15 +3,15 @@ use Rattle.std.proofs.Common.{◌≤◌, ℕ, suc, Bool, true, false, Option, So
 use Rattle.std.specs.Prelude.{if◌then◌else◌}
 use Rattle.mailbox_mail.specs.declared.mail.Kind.{Kind}
 use Rattle.mailbox_mail.specs.declared.mail.MailFault.TheVariants.{Short, LengthPastArea, UnknownKind}
-use Rattle.slave_steps.specs.of_link_mails.Body.{Body}
-use Rattle.slave_parts.specs.of_exchange_sum.Refusing.{gated}
+use Rattle.slave_node.specs.of_link_mails.Body.{Body}
+use Rattle.slave_parts.specs.of_exchange_model.Refusing.{gated}
 use Rattle.object_dictionary.specs.Dictionary as Objects
 use Rattle.file_store.specs.Files as Store
 use Rattle.idn_table.specs.Idns as Idns
-use Rattle.coe_server.specs.of_coe_model.Server as CoeServer
-use Rattle.foe_server.specs.of_foe_model.Server as FoeServer
-use Rattle.idn_table.specs.of_soe_model.Server as SoeServer
-use Rattle.eoe_server.specs.of_eoe_model.Server as EoeServer
+use Rattle.coe_server.specs.of_protocol_models.CoeServer as CoeServer
+use Rattle.foe_server.specs.of_protocol_models.FoeServer as FoeServer
+use Rattle.idn_table.specs.of_protocol_models.SoeServer as SoeServer
+use Rattle.eoe_server.specs.of_protocol_models.EoeServer as EoeServer
 use Rattle.slave_parts.specs.of_slave_model.Profile.{Protocol, Profile, serves}
 use Rattle.slave_parts.specs.of_slave_model.Server.{seat, reseated, one_more, refused_counts}
 use Rattle.slave_parts.specs.of_slave_model.Product.{protocol_of, served, refusal, serve_by, serve_other, serve}

@@ -2,14 +2,14 @@
 use Rattle.std.specs.Prelude.{◌≡◌, ◌≤◌, ℕ, suc, Bool, true, List, [], ◌∷◌, ◌++◌, map, Option, Some, None, Ok, Err}
 use Rattle.mailbox_mail.specs.Mail.{error_of}
 use Rattle.mailbox_mail.specs.declared.mail.Mail.{Mail}
-use Rattle.slave_steps.specs.of_link_mails.Body.{Body}
+use Rattle.slave_node.specs.of_link_mails.Body.{Body}
 use Rattle.object_dictionary.specs.Dictionary as Objects
 use Rattle.file_store.specs.Stored.{Stored}
 use Rattle.idn_table.specs.Idns as Idns
-use Rattle.coe_server.specs.of_coe_model.Octets as CoeOctets
-use Rattle.foe_server.specs.of_foe_model.Octets as FoeOctets
-use Rattle.idn_table.specs.of_soe_model.Octets as SoeOctets
-use Rattle.eoe_server.specs.of_eoe_model.Octets as EoeOctets
+use Rattle.coe_server.specs.of_protocol_models.CoeOctets as CoeOctets
+use Rattle.foe_server.specs.of_protocol_models.FoeOctets as FoeOctets
+use Rattle.idn_table.specs.of_protocol_models.SoeOctets as SoeOctets
+use Rattle.eoe_server.specs.of_protocol_models.EoeOctets as EoeOctets
 use Rattle.coe_server.specs.Serving as Coe
 use Rattle.foe_server.specs.Serving as Foe
 use Rattle.soe_server.specs.Serving as Soe
@@ -20,8 +20,8 @@ use Rattle.slave_parts.specs.of_slave_model.Server.{soe_quiet, eoe_quiet, eoe_co
 use Rattle.slave_parts.specs.of_slave_model.Product.{serve}
 use Rattle.eoe.specs.Message.{eoe_read}
 use Rattle.slave_parts.specs.Parts.{Core, Server, parts}
-use Rattle.coe_server.specs.of_coe_model.Server as CoeModel
-use Rattle.foe_server.specs.of_foe_model.Server as FoeModel
+use Rattle.coe_server.specs.of_protocol_models.CoeServer as CoeModel
+use Rattle.foe_server.specs.of_protocol_models.FoeServer as FoeModel
 
 -- a slave's server as its mailboxes see it
 pub record Serving : Type 0 where

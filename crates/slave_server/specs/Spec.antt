@@ -12,7 +12,7 @@ use Rattle.segment_plan.specs.declared.slave.SlaveSpec.{SlaveSpec}
 use Rattle.segment_plan.specs.Sound.{kept}
 use Rattle.slave_parts.specs.of_slave_model.Profile.{Profile}
 use Rattle.slave_parts.specs.Parts.{Core}
-use Rattle.slave_steps.specs.Node.{Node, new_node}
+use Rattle.slave_node.specs.Node.{Node, new_node}
 use Rattle.slave_server.specs.Serving.{Serving, fresh}
 
 -- a dictionary with more objects, each at its place among the indexes

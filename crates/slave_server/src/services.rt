@@ -2,11 +2,11 @@ use crate::server::SlaveServer;
 use mailbox_mail::{Mail, MailFault};
 use mailbox_slave::Server;
 use slave_node::Services;
-use slave_steps::Clear;
+use slave_node::slave_steps::Clear;
 
 impl Server for SlaveServer {
-    ghost use Rattle.std.specs.Prelude.{◌≡◌, ◌<◌, ◌-◌};
-    ghost use Rattle.slave_server.specs.Serving.{takes, next_mail, rest};
+    ghost use Rattle.std.specs.Prelude.{◌≡◌, ◌<◌, ◌-◌, refl};
+    ghost use Rattle.slave_server.specs.Serving.{takes, next_mail, rest, cleared};
 
     ghost room = { λ s. s.profile.back - 6 };
 
@@ -36,7 +36,6 @@ impl Server for SlaveServer {
 }
 
 impl Clear for SlaveServer {
-    ghost use Rattle.slave_server.specs.Serving.{cleared};
 
     ghost cleared = { cleared };
 
@@ -46,7 +45,6 @@ impl Clear for SlaveServer {
 }
 
 impl Services for SlaveServer {
-    ghost use Rattle.std.specs.Prelude.{refl};
     ghost use Rattle.slave_server.specs.Counting.{takes_one};
 
     ghost handled = { λ s. s.server.handled };

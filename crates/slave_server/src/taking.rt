@@ -1,8 +1,8 @@
 ghost use Rattle.std.specs.Prelude.{◌≡◌, ◌<◌, ◌+◌, ◌%◌, [], true, Ok};
 ghost use Rattle.coe_server.specs.declared.state.Emitted.{Emitted};
-ghost use Rattle.eoe_server.specs.of_eoe_model.Mails.{packet_mails};
+ghost use Rattle.eoe_server.specs.of_protocol_models.EoeMails.{packet_mails};
 ghost use Rattle.eoe_server.specs.Serving.{cut_mails};
-ghost use Rattle.slave_steps.specs.of_link_mails.Body.{link_read, uncounted};
+ghost use Rattle.slave_node.specs.of_link_mails.Body.{link_read, uncounted};
 ghost use Rattle.slave_parts.specs.of_slave_model.Profile.{Protocol, serves};
 ghost use Rattle.slave_server.specs.Serving.{takes, failed, counted};
 

@@ -2,9 +2,9 @@
 use Rattle.std.proofs.Common.{◌≡◌, ℕ, Bool, true, false, not, nat_lt, List, [], ◌∷◌, ◌++◌, length, if◌then◌else◌, None, refl, sym, ◌∙◌}
 use Rattle.ec_fields.specs.Fields.{number_at}
 use Rattle.mailbox_mail.specs.declared.outcome.ReplyKind.{ReplyKind}
-use Rattle.soe_parts.specs.of_soe_model.Mails.{Soe, SoeMail, mail, unread, failed, other}
-use Rattle.soe_parts.specs.of_soe_model.Server.{most}
-use Rattle.soe_parts.specs.of_soe_model.Client.{at_end, is_refusal, refused, is_part, is_written, read_ends, write_ends}
+use Rattle.soe_parts.specs.of_protocol_models.SoeMails.{Soe, SoeMail, mail, unread, failed, other}
+use Rattle.soe_parts.specs.of_protocol_models.SoeServer.{most}
+use Rattle.soe_parts.specs.of_protocol_models.SoeClient.{at_end, is_refusal, refused, is_part, is_written, read_ends, write_ends}
 use Rattle.soe_client.specs.declared.state.Task.{Task}
 use Rattle.soe_client.specs.declared.state.Unsent.{Unsent}
 use Rattle.soe_client.specs.declared.state.Awaits.{Awaits}

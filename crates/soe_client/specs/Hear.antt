@@ -3,9 +3,9 @@ use Rattle.std.specs.Prelude.{◌≡◌, ℕ, not, nat_lt, true, false, List, []
 use Rattle.ec_fields.specs.Fields.{number_at}
 use Rattle.mailbox_mail.specs.declared.outcome.ReplyKind.{ReplyKind}
 use Rattle.mailbox_mail.specs.declared.outcome.Took.{Took}
-use Rattle.soe_parts.specs.of_soe_model.Mails.{Soe, SoeMail, mail, failed}
-use Rattle.soe_parts.specs.of_soe_model.Server.{most}
-use Rattle.soe_parts.specs.of_soe_model.Client.{is_refusal, is_part, is_written}
+use Rattle.soe_parts.specs.of_protocol_models.SoeMails.{Soe, SoeMail, mail, failed}
+use Rattle.soe_parts.specs.of_protocol_models.SoeServer.{most}
+use Rattle.soe_parts.specs.of_protocol_models.SoeClient.{is_refusal, is_part, is_written}
 use Rattle.soe_client.specs.declared.state.Unsent.{Unsent}
 use Rattle.soe_client.specs.declared.state.Awaits.{Awaits}
 use Rattle.soe_client.specs.Talk.{Talking, about, left, awaited, awaits_nothing}

@@ -1,3 +1,3 @@
-pub use Rattle.soe_parts.specs.of_soe_model as of_soe_model
+pub use Rattle.soe_parts.specs.of_protocol_models as of_protocol_models
 pub mod Talk
 pub mod Hear

@@ -1,7 +1,7 @@
 ghost use Rattle.std.specs.Prelude.{◌≡◌, ◌≤◌, ◌<◌, ◌^◌, List, [], ◌++◌, true, length, IfOk, OnOk, OnErr, Some, None};
-ghost use Rattle.soe_parts.specs.of_soe_model.Elements.{target};
-ghost use Rattle.soe_parts.specs.of_soe_model.Mails.{SoeMail};
-ghost use Rattle.soe_parts.specs.of_soe_model.Client.{read, write, mails_of, ends};
+ghost use Rattle.soe_parts.specs.of_protocol_models.Elements.{target};
+ghost use Rattle.soe_parts.specs.of_protocol_models.SoeMails.{SoeMail};
+ghost use Rattle.soe_parts.specs.of_protocol_models.SoeClient.{read, write, mails_of, ends};
 ghost use Rattle.soe_parts.specs.Parts.{subject_view};
 ghost use Rattle.soe_client.specs.Talk.{about, is_near, left, awaited, awaits_nothing, begun, is_begun};
 

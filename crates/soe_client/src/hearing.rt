@@ -1,7 +1,7 @@
 ghost use Rattle.std.specs.Prelude.{◌≡◌, ◌≤◌, ◌+◌, length};
 ghost use Rattle.soe_codec.specs.View.{soe_seen};
-ghost use Rattle.soe_parts.specs.of_soe_model.Client.{is_answer, is_refusal};
-ghost use Rattle.soe_parts.specs.of_soe_model.Octets.{body_heard, soe_mail_heard};
+ghost use Rattle.soe_parts.specs.of_protocol_models.SoeClient.{is_answer, is_refusal};
+ghost use Rattle.soe_parts.specs.of_protocol_models.SoeOctets.{body_heard, soe_mail_heard};
 ghost use Rattle.soe_parts.specs.Parts.{subject_view};
 ghost use Rattle.soe_client.specs.Talk.{about};
 ghost use Rattle.soe_client.specs.Hear.{closed, valued, hear_refusal, hear_part, hear_answer, hear_message, hear_failed, hear_mail, TookIs};

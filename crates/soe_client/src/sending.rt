@@ -1,6 +1,6 @@
 ghost use Rattle.std.specs.Prelude.{◌≡◌, ◌≤◌, ◌+◌, ◌↔◌, List, [], false, length};
 ghost use Rattle.std.specs.Bool.{OnTrue, OnFalse};
-ghost use Rattle.soe_parts.specs.of_soe_model.Mails.{SoeMail};
+ghost use Rattle.soe_parts.specs.of_protocol_models.SoeMails.{SoeMail};
 ghost use Rattle.soe_parts.specs.Parts.{IsFirst};
 ghost use Rattle.soe_client.specs.Talk.{left, awaited, SendsNext};
 

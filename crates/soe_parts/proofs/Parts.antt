@@ -1,8 +1,8 @@
 -- The fragments of an element that are left, one by one.
 use Rattle.std.proofs.Common.{◌≡◌, inl, inr, ℕ, zero, suc, ◌+◌, ◌-◌, ◌<◌, ◌≤◌, true, false, List, [], ◌∷◌, length, take, drop, refl, sym, ap, ◌∙◌, arith, length-drop, drop-drop, le-leb}
 use Rattle.std.proofs.lemmas.Bool.{cases_lt, lt-leb}
-use Rattle.soe_model.specs.Elements.{Target}
-use Rattle.soe_model.specs.Mails.{mail, message, parts_of, fragments}
+use Rattle.protocol_models.specs.Elements.{Target}
+use Rattle.protocol_models.specs.SoeMails.{mail, message, parts_of, fragments}
 
 -- more fuel makes no other fragments
 pub parts_fuel : (f g opcode : ℕ) (t : Target) (part : ℕ) (bytes : List ℕ) → 0 < part → length bytes < f → length bytes < g → fragments f opcode t part bytes ≡ fragments g opcode t part bytes

@@ -1,7 +1,7 @@
 ghost use Rattle.std.specs.Prelude.{◌≡◌, ◌≤◌, ◌<◌, ◌+◌, ◌^◌, ◌∷◌, [], true, false, length, drop, Some, IfSome};
 ghost use Rattle.byteorder.specs.Endian.{little_bytes};
 ghost use Rattle.soe_codec.specs.Message.{IsSpellable, is_opcode, has_fragments, soe_text};
-ghost use Rattle.soe_model.specs.Mails.{message, refusal};
+ghost use Rattle.protocol_models.specs.SoeMails.{message, refusal};
 ghost use Rattle.soe_parts.specs.Parts.{subject_view, message_with, left_from, IsFirst};
 
 use crate::subject::Subject;

@@ -1,9 +1,9 @@
 -- What a server's state stands for: its join, and the mails that wait in it.
 use Rattle.std.specs.Prelude.{◌≡◌, ℕ, ◌==◌, ◌&&◌, ◌||◌, nat_le, nat_lt, Bool, true, false, List, [], ◌∷◌, map, length, Option, None, Some}
 use Rattle.mailbox_mail.specs.declared.mail.Mail.{Mail}
-use Rattle.soe_model.specs.Mails.{Soe, SoeMail, mail, failed, message, refusal}
-use Rattle.soe_model.specs.Server.{Join, Outcome, Server, one_more}
-use Rattle.soe_model.specs.Octets.{soe_mail_written}
+use Rattle.protocol_models.specs.SoeMails.{Soe, SoeMail, mail, failed, message, refusal}
+use Rattle.protocol_models.specs.SoeServer.{Join, Outcome, Server, one_more}
+use Rattle.protocol_models.specs.SoeOctets.{soe_mail_written}
 use Rattle.soe_parts.specs.declared.subject.Subject.{Subject}
 use Rattle.soe_parts.specs.Parts.{subject_view, left_from}
 use Rattle.soe_server.specs.declared.state.Common.{Common}

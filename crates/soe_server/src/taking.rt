@@ -1,8 +1,8 @@
 ghost use Rattle.std.specs.Prelude.{◌≡◌, ◌≤◌, ◌<◌, ◌+◌, ◌^◌, ◌++◌, true, false, IsTrue, length, take, Err, None};
 ghost use Rattle.soe_codec.specs.Message.{IsSpellable, soe_read};
 ghost use Rattle.soe_codec.specs.View.{soe_seen};
-ghost use Rattle.soe_model.specs.Server.{ahead, gathered, asked, written, soe_takes, takes_whole, takes_unread, soe_outcome};
-ghost use Rattle.soe_model.specs.Octets.{body_heard, is_marked};
+ghost use Rattle.protocol_models.specs.SoeServer.{ahead, gathered, asked, written, soe_takes, takes_whole, takes_unread, soe_outcome};
+ghost use Rattle.protocol_models.specs.SoeOctets.{body_heard, is_marked};
 ghost use Rattle.idn_table.specs.Idns.{Table, idn_elements};
 ghost use Rattle.soe_parts.specs.Parts.{subject_view};
 ghost use Rattle.soe_server.specs.Serving.{subject_of, join_of, goes_with, told_of, outcome_of};

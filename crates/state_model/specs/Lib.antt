@@ -5,3 +5,11 @@ pub mod States
 pub mod Promises
 pub mod Order
 pub mod Met
+pub mod Stated
+pub mod Families
+pub mod Toys
+pub mod Accounts
+pub mod Tasks
+pub mod Promise
+pub mod Books
+pub mod Steady

@@ -1,6 +1,10 @@
-//! AL states beside mails: the state services of a slave, their place among its services by mails, and what is done of them. Definitions and
-//! laws, no running code: the functions here do nothing, and their contracts state the laws.
+//! AL states beside mails: the state services of a slave, their place among its services by mails, and what is done of them; both as one exchange;
+//! and sessions of both, over a ring of slaves and its frames as data. Definitions and laws, no running code: the functions here do nothing, and
+//! their contracts state the laws.
 #![tactic(auto)]
+
+pub mod state_exchange;
+pub mod task_model;
 
 ghost use Rattle.std.specs.Prelude.{◌≡◌, ◌≤◌, ◌+◌, ◌-◌, ℕ, suc, Bool, true, false, Option, Some, None, List, [], ◌∷◌, ◌++◌, length, take};
 ghost use Rattle.segment_model.specs.of_exchange_model.Prefix.{IsPrefixOf};

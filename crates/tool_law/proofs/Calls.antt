@@ -6,18 +6,18 @@ use Rattle.mailbox_mail.specs.declared.mail.Mail.{Mail}
 use Rattle.exchange_model.specs.Lifted.{EachOf}
 use Rattle.object_dictionary.specs.declared.service.SdoService.{SdoService}
 use Rattle.segment_plan.specs.declared.service.Service.{Service as Asked}
-use Rattle.coe_model.specs.Mails as CoeMails
-use Rattle.coe_model.specs.Octets.{coe_mail_heard, coe_mail_written}
-use Rattle.coe_model.specs.Tables.{Ask}
-use Rattle.coe_model.specs.Meaning as CoeMeaning
-use Rattle.coe_model.specs.Client as CoeClient
-use Rattle.coe_model.specs.Model as CoeModel
+use Rattle.protocol_models.specs.CoeMails as CoeMails
+use Rattle.protocol_models.specs.CoeOctets.{coe_mail_heard, coe_mail_written}
+use Rattle.protocol_models.specs.Tables.{Ask}
+use Rattle.protocol_models.specs.CoeMeaning as CoeMeaning
+use Rattle.protocol_models.specs.CoeClient as CoeClient
+use Rattle.protocol_models.specs.CoeModel as CoeModel
 use Rattle.coe_client.specs.Talk.{service_view}
-use Rattle.foe_model.specs.Mails as FoeMails
-use Rattle.foe_model.specs.Octets.{foe_mail_heard, foe_mail_written}
-use Rattle.foe_model.specs.Meaning as FoeMeaning
-use Rattle.foe_model.specs.Client as FoeClient
-use Rattle.foe_model.specs.Model as FoeModel
+use Rattle.protocol_models.specs.FoeMails as FoeMails
+use Rattle.protocol_models.specs.FoeOctets.{foe_mail_heard, foe_mail_written}
+use Rattle.protocol_models.specs.FoeMeaning as FoeMeaning
+use Rattle.protocol_models.specs.FoeClient as FoeClient
+use Rattle.protocol_models.specs.FoeModel as FoeModel
 use Rattle.slave_model.specs.Profile.{Protocol, Profile, IsProfile, areas_of, serves}
 use Rattle.slave_model.specs.Application.{Parts, ArePartsLawful, station_tables, station_files}
 use Rattle.slave_model.specs.Server.{Server, seat, heard_by, told_by}

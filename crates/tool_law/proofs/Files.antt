@@ -10,15 +10,15 @@ use Rattle.exchange_model.specs.Prefix.{IsPrefixOf}
 use Rattle.exchange_model.specs.Dialogue.{said}
 use Rattle.exchange_model.proofs.Turns.{said_more}
 use Rattle.foe_codec.specs.Message.{is_name}
-use Rattle.foe_model.specs.Mails.{Foe, FoeMail, mail, failed, is_emission, Read, Ack}
-use Rattle.foe_model.specs.Files.{Files, AreLawful}
-use Rattle.foe_model.specs.Server.{Server, serve, packet_room, packet_of, is_last}
-use Rattle.foe_model.specs.Meaning.{Service, read, write, Reply}
-use Rattle.foe_model.specs.Client.{packets, acks, mails_of, decide, at_end, refused_by, is_ack, is_busy, last_end, acks_end, most, is_packet, octets_in, packets_end, full_packets, ends}
-use Rattle.foe_model.specs.Model.{is_service, turns, planned, full, foe_exchange}
-use Rattle.foe_model.specs.Octets.{foe_mail_written}
-use Rattle.foe_model.proofs.FoeLaw.{bound, kept}
-use Rattle.foe_model.proofs.Speaks.{decided, replies_few}
+use Rattle.protocol_models.specs.FoeMails.{Foe, FoeMail, mail, failed, is_emission, Read, Ack}
+use Rattle.protocol_models.specs.Files.{Files, AreLawful}
+use Rattle.protocol_models.specs.FoeServer.{Server, serve, packet_room, packet_of, is_last}
+use Rattle.protocol_models.specs.FoeMeaning.{Service, read, write, Reply}
+use Rattle.protocol_models.specs.FoeClient.{packets, acks, mails_of, decide, at_end, refused_by, is_ack, is_busy, last_end, acks_end, most, is_packet, octets_in, packets_end, full_packets, ends}
+use Rattle.protocol_models.specs.FoeModel.{is_service, turns, planned, full, foe_exchange}
+use Rattle.protocol_models.specs.FoeOctets.{foe_mail_written}
+use Rattle.protocol_models.proofs.FoeLaw.{bound, kept}
+use Rattle.protocol_models.proofs.FoeSpeaks.{decided, replies_few}
 use Rattle.tool_law.specs.Speaking.{IsSpeaking}
 use Rattle.tool_law.proofs.Dialogues.{said_within, said_longer, said_goes, said_each}
 

@@ -9,19 +9,19 @@ use Rattle.exchange_model.specs.Exchange.{given, plain}
 use Rattle.exchange_model.specs.Lifted.{EachOf}
 use Rattle.exchange_model.specs.Prefix.{IsPrefixOf}
 use Rattle.exchange_model.specs.Dialogue.{said}
-use Rattle.coe_model.specs.Mails.{CoeMail, mail, failed, is_emission, Expedited, First, Segment, Abort, ExpeditedAnswer, FirstAnswer}
-use Rattle.coe_model.specs.Tables.{Target, Ask, Tables, AreLawful}
-use Rattle.coe_model.specs.Server.{Server, serve, is_expedited, parts_of}
-use Rattle.coe_model.specs.Meaning.{Service, download, upload, information, Reply}
-use Rattle.coe_model.specs.Client.{decide, mails_of, segments, behind_first, download_mails, requests, at_end, sdo_refused, is_of, is_segment_answer, segments_end, is_download_answer, is_part, is_last, octets_of, most, whole_value, parts_end, first_ends, value_begins, ends}
-use Rattle.coe_model.specs.Model.{is_service, is_target, are_octets, planned, full, value_length, coe_exchange}
-use Rattle.coe_model.specs.Octets.{coe_mail_written}
-use Rattle.coe_model.proofs.CoeLaw.{IsSdo, full_all, planned_more, kept}
-use Rattle.coe_model.proofs.Progress.{goes_on}
-use Rattle.coe_model.proofs.Speaks.{AllRequests, is_request, replies_counted}
+use Rattle.protocol_models.specs.CoeMails.{CoeMail, mail, failed, is_emission, Expedited, First, Segment, Abort, ExpeditedAnswer, FirstAnswer}
+use Rattle.protocol_models.specs.Tables.{Target, Ask, Tables, AreLawful}
+use Rattle.protocol_models.specs.CoeServer.{Server, serve, is_expedited, parts_of}
+use Rattle.protocol_models.specs.CoeMeaning.{Service, download, upload, information, Reply}
+use Rattle.protocol_models.specs.CoeClient.{decide, mails_of, segments, behind_first, download_mails, requests, at_end, sdo_refused, is_of, is_segment_answer, segments_end, is_download_answer, is_part, is_last, octets_of, most, whole_value, parts_end, first_ends, value_begins, ends}
+use Rattle.protocol_models.specs.CoeModel.{is_service, is_target, are_octets, planned, full, value_length, coe_exchange}
+use Rattle.protocol_models.specs.CoeOctets.{coe_mail_written}
+use Rattle.protocol_models.proofs.CoeLaw.{IsSdo, full_all, planned_more, kept}
+use Rattle.protocol_models.proofs.Progress.{goes_on}
+use Rattle.protocol_models.proofs.CoeSpeaks.{AllRequests, is_request, replies_counted}
 use Rattle.tool_law.specs.Speaking.{IsSpeaking}
 use Rattle.tool_law.proofs.Dialogues.{said_within, said_longer, said_each}
-use Rattle.exchange_sum.proofs.SumLaw.{each_left}
+use Rattle.exchange_model.proofs.SumLaw.{each_left}
 
 -- ---- a mailbox error in the place of an answer
 

@@ -8,13 +8,13 @@ use Rattle.exchange_model.specs.Exchange.{IsLawful, given}
 use Rattle.exchange_model.specs.Lifted.{EachOf, ReadsBack, Spells}
 use Rattle.exchange_model.specs.Dialogue.{Turn, said}
 use Rattle.exchange_model.proofs.Lifting.{lifted_law}
-use Rattle.exchange_sum.specs.Refusing.{gated}
-use Rattle.coe_model.specs.Octets as CoeOctets
-use Rattle.foe_model.specs.Octets as FoeOctets
-use Rattle.soe_model.specs.Mails as SoeMails
-use Rattle.soe_model.specs.Octets as SoeOctets
-use Rattle.eoe_model.specs.Mails as EoeMails
-use Rattle.eoe_model.specs.Octets as EoeOctets
+use Rattle.exchange_model.specs.Refusing.{gated}
+use Rattle.protocol_models.specs.CoeOctets as CoeOctets
+use Rattle.protocol_models.specs.FoeOctets as FoeOctets
+use Rattle.protocol_models.specs.SoeMails as SoeMails
+use Rattle.protocol_models.specs.SoeOctets as SoeOctets
+use Rattle.protocol_models.specs.EoeMails as EoeMails
+use Rattle.protocol_models.specs.EoeOctets as EoeOctets
 use Rattle.slave_model.specs.Profile.{Protocol, Profile, IsProfile, serves}
 use Rattle.slave_model.specs.Application.{Parts, ArePartsLawful}
 use Rattle.slave_model.specs.Server.{Server, Seat, seat, reseated, ServiceOf, failure, heard_by, told_by, soe_quiet, eoe_quiet, refused_gives}

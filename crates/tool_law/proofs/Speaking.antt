@@ -7,9 +7,9 @@ use Rattle.exchange_model.specs.Lifted.{EachOf, ReadsBack, Spells, lifted, lifte
 use Rattle.exchange_model.specs.Prefix.{IsPrefixOf}
 use Rattle.exchange_model.proofs.Words.{given-append}
 use Rattle.exchange_model.proofs.Lifting.{map_append, map_begin, each_filter, CutBefore, cut_before, all_back}
-use Rattle.exchange_sum.specs.Refusing.{Refusal, refused_serve, gated}
-use Rattle.exchange_sum.specs.Sides.{Slave, IsSide, joined}
-use Rattle.exchange_sum.proofs.SumLaw.{each_left, plain_same, told_part}
+use Rattle.exchange_model.specs.Refusing.{Refusal, refused_serve, gated}
+use Rattle.exchange_model.specs.Sides.{Slave, IsSide, joined}
+use Rattle.exchange_model.proofs.SumLaw.{each_left, plain_same, told_part}
 use Rattle.tool_law.specs.Speaking.{IsSpeaking}
 
 -- ---- over other mails

@@ -4,10 +4,10 @@ use Rattle.arrayvec.specs.ArrayVec.{ArrayVec}
 use Rattle.object_dictionary.specs.declared.service.SdoService.{SdoService}
 use Rattle.segment_plan.specs.declared.service.Service.{Service as Asked}
 use Rattle.coe_client.specs.Talk.{service_view}
-use Rattle.coe_model.specs.Tables.{Ask}
-use Rattle.coe_model.specs.Meaning.{information}
-use Rattle.coe_model.specs.Model.{is_service}
-use Rattle.foe_model.specs.Meaning.{Service, read, write}
+use Rattle.protocol_models.specs.Tables.{Ask}
+use Rattle.protocol_models.specs.CoeMeaning.{information}
+use Rattle.protocol_models.specs.CoeModel.{is_service}
+use Rattle.protocol_models.specs.FoeMeaning.{Service, read, write}
 
 -- a download or an upload, with its numbers and octets within their fields
 pub record IsEntry (s : SdoService) : Type 0 where

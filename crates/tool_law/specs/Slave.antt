@@ -5,7 +5,7 @@ use Rattle.mailbox_mail.specs.Mail.{error_of}
 use Rattle.mailbox_mail.specs.declared.mail.Mail.{Mail}
 use Rattle.exchange_model.specs.Exchange.{Exchange}
 use Rattle.exchange_model.specs.Lifted.{lifted}
-use Rattle.eoe_model.specs.Network.{Station}
+use Rattle.protocol_models.specs.Network.{Station}
 use Rattle.slave_model.specs.Profile.{Protocol, Profile}
 use Rattle.slave_model.specs.Application.{Core, Parts}
 use Rattle.slave_model.specs.Server.{Server, ServiceOf, Reply}

@@ -5,7 +5,7 @@ use Rattle.slave_lives.specs.of_life_model.Eras.{Clearing}
 use Rattle.slave_lives.specs.of_life_model.Lives.{Spot, Era, Opening, Stand, new_era}
 use Rattle.slave_lives.specs.of_link_mails.Body.{Body}
 use Rattle.slave_lives.specs.of_segment_model.Record.{Frame, News}
-use Rattle.slave_lives.specs.of_task_model.Accounts.{Pick}
+use Rattle.slave_lives.specs.of_state_model.Accounts.{Pick}
 use Rattle.slave_lives.specs.Ends.{LeftEra, LeftEras, YetFrame}
 use Rattle.slave_lives.specs.Lived.{Behind, RingFrame, LivesEra, OpenFrame, OpensEra, node_behind, frame_of, opened_era}
 use Rattle.slave_lives.specs.Opening.{Plan}

@@ -3,12 +3,12 @@ use Rattle.std.proofs.Common.{◌≡◌, ◌⊎◌, inl, inr, ℕ, Bool, true, f
 use Rattle.std.specs.Prelude.{if◌then◌else◌}
 use Rattle.slave_lives.specs.of_datagrams.Datagram as Raw
 use Rattle.slave_lives.specs.of_esc_registers.declared.registers.Registers as Esc
-use Rattle.slave_lives.specs.of_frame_pass.Passing.{passed}
+use Rattle.slave_lives.specs.of_slave_node.Passing.{passed}
 use Rattle.slave_lives.specs.of_frame_view.View.{Lens}
 use Rattle.slave_lives.specs.of_frames_seen.Own.{NoneMeant, IsAlone}
 use Rattle.slave_lives.specs.of_mailbox_slave.Registers.{in_len}
 use Rattle.slave_lives.specs.of_segment_ring.Ring.{is_in_pace}
-use Rattle.slave_lives.specs.of_slave_steps.Node.{Node}
+use Rattle.slave_lives.specs.of_slave_node.Node.{Node}
 use Rattle.slave_lives.specs.of_life_model.Lives.{Opening}
 use Rattle.slave_lives.specs.Nodes.{IsRunning, IsRoomy, StepsOn, stepped}
 use Rattle.slave_lives.specs.Opening.{Plan, IsPlan, AtMostOne, JustOne}

@@ -3,7 +3,7 @@ use Rattle.std.proofs.Common.{◌≡◌, ◌≢◌, ◌⊎◌, inl, inr, ℕ, ze
 use Rattle.std.specs.Prelude.{Option, Some, None, if◌then◌else◌, ◌&&◌}
 use Rattle.std.proofs.lemmas.Bool.{eqb-true}
 use Rattle.slave_lives.specs.of_exchange_model.Exchange.{Speech}
-use Rattle.slave_lives.specs.of_frame_pass.Passing.{datagrams_after}
+use Rattle.slave_lives.specs.of_slave_node.Passing.{datagrams_after}
 use Rattle.slave_lives.specs.of_frame_view.Seen.{seen}
 use Rattle.slave_lives.specs.of_frames_seen.Own.{own_of, IsAlone}
 use Rattle.slave_lives.specs.of_frames_seen.Ring.{AllApart}
@@ -15,10 +15,10 @@ use Rattle.slave_lives.specs.of_segment_model.Record.{Frame, News}
 use Rattle.slave_lives.specs.of_segment_model.Seats.{Side}
 use Rattle.slave_lives.specs.of_segment_model.Slaves.{Found}
 use Rattle.slave_lives.specs.of_segment_ring.declared.wire.Fate.TheVariants.{Lost}
-use Rattle.slave_lives.specs.of_slave_steps.Node.{Node}
-use Rattle.slave_lives.specs.of_state_exchange.Stated.{Service}
-use Rattle.slave_lives.specs.of_task_model.Accounts.{Account, Pick, Duty, Stage, is_free, is_acknowledged, starts, state_begins, account_begins, duty_access}
-use Rattle.slave_lives.specs.of_task_model.Steady.{IsSteady, NoneToInit, HandToInit, StageToInit}
+use Rattle.slave_lives.specs.of_slave_node.Node.{Node}
+use Rattle.slave_lives.specs.of_state_model.Stated.{Service}
+use Rattle.slave_lives.specs.of_state_model.Accounts.{Account, Pick, Duty, Stage, is_free, is_acknowledged, starts, state_begins, account_begins, duty_access}
+use Rattle.slave_lives.specs.of_state_model.Steady.{IsSteady, NoneToInit, HandToInit, StageToInit}
 use Rattle.whole_ring.proofs.Steadied.{era_steady}
 use Rattle.slave_lives.specs.of_life_model.Lives.{Spot, Era, Life, Stand, AsksOpen, granted, returns_to_init, opens_state, reopening, reopens, reopens_at}
 use Rattle.slave_lives.specs.of_life_model.Eras.{Clearing}

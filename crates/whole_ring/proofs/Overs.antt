@@ -13,8 +13,8 @@ use Rattle.slave_lives.specs.of_segment_model.Slaves.{Datagram, Access, Found, f
 use Rattle.slave_lives.specs.of_segment_ring.declared.wire.Fate.{Fate}
 use Rattle.slave_lives.specs.of_segment_ring.declared.wire.Fate.TheVariants.{Pass, Lost}
 use Rattle.slave_lives.specs.of_state_model.States.{Phase}
-use Rattle.slave_lives.specs.of_task_model.Accounts.{Account, Duty, Stage, Progress, Change, IsServed, is_quiet, duty_access, stage_access, access_done, account_by, account_met, account_back}
-use Rattle.slave_lives.specs.of_task_model.Steady.{NoneToInit, HandToInit, StageToInit}
+use Rattle.slave_lives.specs.of_state_model.Accounts.{Account, Duty, Stage, Progress, Change, IsServed, is_quiet, duty_access, stage_access, access_done, account_by, account_met, account_back}
+use Rattle.slave_lives.specs.of_state_model.Steady.{NoneToInit, HandToInit, StageToInit}
 use Rattle.slave_lives.specs.of_life_model.Own.{own}
 use Rattle.slave_lives.specs.Lived.{Behind, RingFrame, IsForOpen, is_reached, fate_of, octets_back, returned}
 use Rattle.slave_lives.specs.Rings.{registers_of, come_back, is_met_at}

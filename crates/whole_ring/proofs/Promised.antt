@@ -3,10 +3,10 @@ use Rattle.std.proofs.Common.{◌≡◌, false, List, length, subst}
 use Rattle.slave_lives.specs.of_link_mails.Body.{Body}
 use Rattle.slave_lives.specs.of_segment_model.Laws.{HandedBy, KnowsCounters}
 use Rattle.slave_lives.specs.of_segment_model.Record.{Frame}
-use Rattle.slave_lives.specs.of_slave_steps.Node.{Node}
-use Rattle.slave_lives.specs.of_task_model.Promise.{TasksPromised, TasksAnswered, TasksRestIf}
-use Rattle.slave_lives.specs.of_task_model.Books.{TasksPast, TasksEndedIf}
-use Rattle.slave_lives.proofs.of_task_model.Sessions.{tasks_promised, tasks_rest, tasks_answered, tasks_handed, tasks_counted, tasks_past, tasks_ended}
+use Rattle.slave_lives.specs.of_slave_node.Node.{Node}
+use Rattle.slave_lives.specs.of_state_model.Promise.{TasksPromised, TasksAnswered, TasksRestIf}
+use Rattle.slave_lives.specs.of_state_model.Books.{TasksPast, TasksEndedIf}
+use Rattle.slave_lives.proofs.of_state_model.Sessions.{tasks_promised, tasks_rest, tasks_answered, tasks_handed, tasks_counted, tasks_past, tasks_ended}
 use Rattle.slave_lives.specs.of_life_model.Eras.{Clearing, OpenEra, era_frames}
 use Rattle.slave_lives.specs.of_life_model.Lives.{Spot, Life, Stand}
 use Rattle.slave_lives.proofs.of_life_model.Eras.{session_of, of_one}

@@ -8,7 +8,7 @@ use Rattle.slave_lives.specs.of_link_model.Segment.{RingFate}
 use Rattle.slave_lives.specs.of_segment_model.Record.{News}
 use Rattle.slave_lives.specs.of_segment_model.Slaves.{Datagram, grams}
 use Rattle.slave_lives.specs.of_segment_model.Seats.{Side, side_begins, side_holds, is_over, next_mail}
-use Rattle.slave_lives.specs.of_task_model.Accounts.{Pick, mails_choice}
+use Rattle.slave_lives.specs.of_state_model.Accounts.{Pick, mails_choice}
 use Rattle.slave_lives.specs.of_life_model.Lives.{Era, era_next, era_after, granted}
 use Rattle.slave_lives.specs.of_life_model.Own.{own}
 use Rattle.slave_lives.specs.Ends.{IsAnswered}

@@ -3,17 +3,17 @@ use Rattle.std.proofs.Common.{◌≡◌, inl, inr, ℕ, ◌==◌, true, false, L
 use Rattle.std.proofs.lemmas.Bool.{ne_eqb}
 use Rattle.slave_lives.specs.of_al_state.Request.{is_state}
 use Rattle.slave_lives.specs.of_ec_fields.Fields.{bits_of}
-use Rattle.slave_lives.specs.of_frame_pass.Passing.{datagrams_after}
+use Rattle.slave_lives.specs.of_slave_node.Passing.{datagrams_after}
 use Rattle.slave_lives.specs.of_frames_seen.Ring.{AllApart}
 use Rattle.slave_lives.specs.of_frames_seen.Slaves.{registers_seen}
 use Rattle.slave_lives.specs.of_link_mails.Body.{Body}
 use Rattle.slave_lives.specs.of_mailbox_slave.Registers.{in_len}
 use Rattle.slave_lives.specs.of_segment_model.Record.{Frame}
 use Rattle.slave_lives.specs.of_segment_ring.Ring.{is_in_pace}
-use Rattle.slave_lives.specs.of_slave_steps.Node.{Node}
+use Rattle.slave_lives.specs.of_slave_node.Node.{Node}
 use Rattle.slave_lives.specs.of_life_model.Eras.{Clearing}
 use Rattle.slave_lives.specs.of_life_model.Lives.{Spot, Era, Stand}
-use Rattle.slave_lives.specs.of_task_model.Steady.{IsSteady}
+use Rattle.slave_lives.specs.of_state_model.Steady.{IsSteady}
 use Rattle.slave_lives.specs.Ends.{LeftEra}
 use Rattle.slave_lives.specs.Lived.{Behind, LivesEra, RingFrame, node_met, node_seen}
 use Rattle.slave_lives.specs.Nodes.{IsRoomy}

@@ -15,8 +15,8 @@ use Rattle.slave_lives.specs.of_segment_ring.Ring.{is_in_pace}
 use Rattle.slave_lives.specs.of_life_model.Lives.{Spot, Era, Life, Opening, Stand, new_era, last_step, shows_clear, is_shown, steps_on, clears, opens, opening_back}
 use Rattle.slave_lives.specs.of_life_model.Eras.{Clearing}
 use Rattle.slave_lives.specs.Lived.{Behind, RingFrame, LivesEra, ClosedFrame, OpensEra, is_reached, node_met, node_behind, node_seen, frame_of}
-use Rattle.slave_lives.specs.of_task_model.Accounts.{Pick}
-use Rattle.slave_lives.specs.of_task_model.Steady.{IsSteady}
+use Rattle.slave_lives.specs.of_state_model.Accounts.{Pick}
+use Rattle.slave_lives.specs.of_state_model.Steady.{IsSteady}
 use Rattle.slave_lives.specs.Nodes.{IsRunning, IsRoomy, stepped}
 use Rattle.slave_lives.specs.Opening.{Plan, IsPlan, AtMostOne, JustOne}
 use Rattle.slave_lives.specs.Rings.{come_to, met, is_met_at}

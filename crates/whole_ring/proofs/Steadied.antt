@@ -9,14 +9,14 @@ use Rattle.segment_model.specs.Laws.{EachSeat}
 use Rattle.segment_model.specs.Record.{Frame}
 use Rattle.segment_model.specs.Seats.{Seat, Planned, IsFrame, ring_of, sides_of, seat_next, seats_next, seat_back, seats_after, side_lost, seat_steps, new_seats}
 use Rattle.segment_model.specs.Slaves.{Registers, Processor, Slave, Datagram, Ring, slave_after, frame_after, ring_back}
-use Rattle.state_exchange.specs.Stated.{Stated}
+use Rattle.state_model.specs.Stated.{Stated}
 use Rattle.state_model.specs.States.{Table}
-use Rattle.task_model.specs.Accounts.{Account, Pick, mails_choice, account_next, account_back}
-use Rattle.task_model.specs.Steady.{AsksNoInit, IsSteady, NoneToInit, HandToInit}
-use Rattle.task_model.specs.Tasks.{TaskTurn, TaskSession, AreServed, MayRun, mails_choices, accounts_next, accounts_after, happens, run, new_accounts, new_tasks}
-use Rattle.task_model.proofs.Steadies.{steady}
-use Rattle.task_model.proofs.Turns.{IsStately, next_is, back_is, lost_is, missed_is, step_is, new_is}
-use Rattle.task_model.proofs.Walks.{EachOne, IsPlaced, AllApart, SeatMet, seats_apart, all_apart, all_reach, each_map, each_next, each_back, each_lost, each_steps}
+use Rattle.state_model.specs.Accounts.{Account, Pick, mails_choice, account_next, account_back}
+use Rattle.state_model.specs.Steady.{AsksNoInit, IsSteady, NoneToInit, HandToInit}
+use Rattle.state_model.specs.Tasks.{TaskTurn, TaskSession, AreServed, MayRun, mails_choices, accounts_next, accounts_after, happens, run, new_accounts, new_tasks}
+use Rattle.state_model.proofs.Steadies.{steady}
+use Rattle.state_model.proofs.Turns.{IsStately, next_is, back_is, lost_is, missed_is, step_is, new_is}
+use Rattle.state_model.proofs.Walks.{EachOne, IsPlaced, AllApart, SeatMet, seats_apart, all_apart, all_reach, each_map, each_next, each_back, each_lost, each_steps}
 
 module _ {V A M Q R : Type 0} (x : Exchange V A M Q R) (s : Stated V A Q) (processor : Processor V) (table : ℕ → Table) where
   -- WHAT IS KEPT of a slave: its registers go with its account, and it began with the server of its plan

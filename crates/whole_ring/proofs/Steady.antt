@@ -7,7 +7,7 @@ use Rattle.slave_lives.specs.of_esc_registers.Registers.{are_areas_right}
 use Rattle.slave_lives.specs.of_frames_seen.Slaves.{registers_seen}
 use Rattle.slave_lives.specs.of_segment_model.Slaves.{Registers}
 use Rattle.slave_lives.specs.of_state_model.States as States
-use Rattle.slave_lives.specs.of_state_law.Shows.{slave_table}
+use Rattle.slave_lives.specs.of_frames_seen.Shows.{slave_table}
 use Rattle.slave_lives.specs.Steps.{StaysUp, word_carried}
 
 -- the state isn't Init, and no word that waits leads there

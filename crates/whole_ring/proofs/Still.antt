@@ -3,7 +3,7 @@ use Rattle.std.proofs.Common.{◌≡◌, inl, inr, ℕ, Bool, true, false, List,
 use Rattle.std.specs.Prelude.{if◌then◌else◌}
 use Rattle.slave_lives.specs.of_datagrams.Datagram as Raw
 use Rattle.slave_lives.specs.of_esc_registers.declared.registers.Registers as Esc
-use Rattle.slave_lives.specs.of_frame_pass.Passing.{datagrams_after}
+use Rattle.slave_lives.specs.of_slave_node.Passing.{datagrams_after}
 use Rattle.slave_lives.specs.of_frame_view.Seen.{seen, datagrams_seen}
 use Rattle.slave_lives.specs.of_frames_seen.Own.{own_of, is_to, NoneMeant}
 use Rattle.slave_lives.specs.of_frames_seen.Ring.{all_after, AllApart}

@@ -1,15 +1,15 @@
 -- A LIFE TURNS, by how the master stands to the slave; it begins with the slave as it is switched on; and it goes on where the slave is given up.
 use Rattle.std.proofs.Common.{◌≡◌, inl, inr, ℕ, Bool, true, false, List, [], ◌∷◌, ◌++◌, length, refl, ap, sym, ◌∙◌, subst}
 use Rattle.std.specs.Prelude.{Option, Some, None, if◌then◌else◌, nat_lt}
-use Rattle.slave_lives.specs.of_frame_pass.Passing.{datagrams_after}
+use Rattle.slave_lives.specs.of_slave_node.Passing.{datagrams_after}
 use Rattle.slave_lives.specs.of_frames_seen.Own.{own_of, NoneMeant}
 use Rattle.slave_lives.specs.of_frames_seen.Ring.{AllApart}
 use Rattle.slave_lives.specs.of_link_mails.Body.{Body}
 use Rattle.slave_lives.specs.of_link_model.Segment.{RingFate}
 use Rattle.slave_lives.specs.of_segment_model.Record.{Frame, News}
 use Rattle.slave_lives.specs.of_segment_model.Slaves.{Found}
-use Rattle.slave_lives.specs.of_slave_steps.Node.{Node, new_node}
-use Rattle.slave_lives.specs.of_task_model.Accounts.{Pick}
+use Rattle.slave_lives.specs.of_slave_node.Node.{Node, new_node}
+use Rattle.slave_lives.specs.of_state_model.Accounts.{Pick}
 use Rattle.slave_lives.specs.of_life_model.Eras.{Clearing}
 use Rattle.slave_lives.specs.of_life_model.Lives.{Spot, Era, Opening, Life, Stand, new_life, gives_up, reopening}
 use Rattle.slave_lives.specs.Ends.{LeftEra, LeftEras}

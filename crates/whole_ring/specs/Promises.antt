@@ -3,10 +3,10 @@ use Rattle.std.specs.Prelude.{Bool, List, length}
 use Rattle.slave_lives.specs.of_link_mails.Body.{Body}
 use Rattle.slave_lives.specs.of_segment_model.Laws.{HandedBy, KnowsCounters}
 use Rattle.slave_lives.specs.of_segment_model.Record.{Frame}
-use Rattle.slave_lives.specs.of_slave_steps.Node.{Node}
-use Rattle.slave_lives.specs.of_task_model.Books.{TasksPast, TasksEndedIf}
-use Rattle.slave_lives.specs.of_task_model.Promise.{TasksPromised, TasksAnswered, TasksRestIf}
-use Rattle.slave_lives.specs.of_task_model.Steady.{IsSteady}
+use Rattle.slave_lives.specs.of_slave_node.Node.{Node}
+use Rattle.slave_lives.specs.of_state_model.Books.{TasksPast, TasksEndedIf}
+use Rattle.slave_lives.specs.of_state_model.Promise.{TasksPromised, TasksAnswered, TasksRestIf}
+use Rattle.slave_lives.specs.of_state_model.Steady.{IsSteady}
 use Rattle.slave_lives.specs.of_life_model.Eras.{era_frames}
 use Rattle.slave_lives.specs.of_life_model.Lives.{Spot, Era}
 use Rattle.slave_lives.specs.Lived.{Behind, table_of, node_seen, LivesEra}

@@ -1,7 +1,7 @@
 -- ONE EXCHANGE OF A FRAME, for one slave of the ring and its life.
 use Rattle.std.specs.Prelude.{◌≡◌, Bool, true, Option, Some, None, List, length, ⊤}
 use Rattle.slave_lives.specs.of_datagrams.Datagram as Raw
-use Rattle.slave_lives.specs.of_frame_pass.Passing.{datagrams_after}
+use Rattle.slave_lives.specs.of_slave_node.Passing.{datagrams_after}
 use Rattle.slave_lives.specs.of_frames_seen.Ring.{AllApart}
 use Rattle.slave_lives.specs.of_frame_view.Seen.{seen}
 use Rattle.slave_lives.specs.of_link_mails.Body.{Body}
@@ -10,12 +10,12 @@ use Rattle.slave_lives.specs.of_mailbox_slave.Registers.{in_len}
 use Rattle.slave_lives.specs.of_segment_model.Record.{Frame, News}
 use Rattle.slave_lives.specs.of_segment_model.Slaves.{Found}
 use Rattle.slave_lives.specs.of_segment_ring.Ring.{is_in_pace}
-use Rattle.slave_lives.specs.of_task_model.Accounts.{Pick, Duty}
+use Rattle.slave_lives.specs.of_state_model.Accounts.{Pick, Duty}
 use Rattle.slave_lives.specs.of_life_model.Lives.{Spot, Era, Opening, Stand, Life, AsksOpen, era_next, era_after, life_next, life_back, life_lost}
 use Rattle.slave_lives.specs.Lived.{Behind, RingFrame, is_reached, node_met, node_behind, frame_of, AccessBack}
 use Rattle.slave_lives.specs.Nodes.{IsRoomy}
 use Rattle.slave_lives.specs.Opening.{Plan}
-use Rattle.slave_lives.specs.of_slave_steps.Node.{Node}
+use Rattle.slave_lives.specs.of_slave_node.Node.{Node}
 use Rattle.slave_lives.specs.Rings.{registers_of, come_to}
 use Rattle.slave_lives.specs.Seats.{Seat, ComesAs, MeetsAs}
 use Rattle.whole_ring.specs.Whole.{plan_to}

@@ -3,9 +3,9 @@ use Rattle.std.specs.Prelude.{◌≡◌, ◌⊎◌, ℕ, true, false, List, [], 
 use Rattle.slave_lives.specs.of_exchange_model.Exchange.{IsLawful}
 use Rattle.slave_lives.specs.of_link_mails.Body.{Body}
 use Rattle.slave_lives.specs.of_segment_model.Record.{Frame}
-use Rattle.slave_lives.specs.of_slave_steps.Node.{Node}
-use Rattle.slave_lives.specs.of_state_exchange.Stated.{IsStated}
-use Rattle.slave_lives.specs.of_task_model.Steady.{IsSteady, NoneToInit, HandToInit}
+use Rattle.slave_lives.specs.of_slave_node.Node.{Node}
+use Rattle.slave_lives.specs.of_state_model.Stated.{IsStated}
+use Rattle.slave_lives.specs.of_state_model.Steady.{IsSteady, NoneToInit, HandToInit}
 use Rattle.slave_lives.specs.of_life_model.Lives.{Spot, Era, Opening, Stand, Life, new_era}
 use Rattle.slave_lives.specs.of_life_model.Eras.{Clearing}
 use Rattle.slave_lives.specs.Ends.{LeftEra, LeftEras, ClearsAs, IsAnswered}

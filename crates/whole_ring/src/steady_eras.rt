@@ -7,9 +7,9 @@ ghost use Rattle.life_model.specs.Eras.{EraIs};
 ghost use Rattle.life_model.specs.Lives.{Spot, Era};
 ghost use Rattle.segment_model.specs.Record.{Frame};
 ghost use Rattle.segment_model.specs.Slaves.{Registers, Processor, Slave};
-ghost use Rattle.state_exchange.specs.Stated.{Stated};
+ghost use Rattle.state_model.specs.Stated.{Stated};
 ghost use Rattle.state_model.specs.States.{Table};
-ghost use Rattle.task_model.specs.Steady.{AsksNoInit, IsSteady};
+ghost use Rattle.state_model.specs.Steady.{AsksNoInit, IsSteady};
 
 /// AN EPOCH IN WHICH NO STATE SERVICE ASKS FOR INIT leaves its slave in another state, also of an exchange that owes no laws: by its registers, its account and
 /// the frames alone.

@@ -4,8 +4,8 @@ ghost use Rattle.std.specs.Prelude.{◌≡◌, ◌==◌, ◌∷◌, ◌++◌, �
 ghost use Rattle.slave_lives.specs.of_link_mails.Body.{Body};
 ghost use Rattle.slave_lives.specs.of_segment_model.Record.{Frame, News};
 ghost use Rattle.slave_lives.specs.of_segment_model.Slaves.{Found};
-ghost use Rattle.slave_lives.specs.of_slave_steps.Node.{Node, new_node};
-ghost use Rattle.slave_lives.specs.of_task_model.Accounts.{Pick};
+ghost use Rattle.slave_lives.specs.of_slave_node.Node.{Node, new_node};
+ghost use Rattle.slave_lives.specs.of_state_model.Accounts.{Pick};
 ghost use Rattle.slave_lives.specs.of_life_model.Eras.{Clearing, Eras};
 ghost use Rattle.slave_lives.specs.of_life_model.Lives.{Spot, Life, Stand, new_life, gives_up};
 ghost use Rattle.slave_lives.specs.of_mailbox_slave.Registers.{in_len};

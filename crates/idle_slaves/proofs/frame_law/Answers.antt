@@ -1,5 +1,5 @@
 use Rattle.std.proofs.Common.{subst, sym, ap, ◌∙◌}
-use Rattle.life_measure.specs.Gains.{gains}
+use Rattle.life_model.specs.Gains.{gains}
 use Rattle.life_model.specs.Lives.{life_back}
 use Rattle.idle_slaves.specs.Waiting.{memory_behind, tried}
 use Rattle.idle_slaves.specs.Visited.{Waiting, life_visit, memory_of}

@@ -2,8 +2,8 @@ use Rattle.std.proofs.Common.{◌≡◌, None, sym, ◌∙◌, subst}
 use Rattle.eoe.specs.Joining.{joins}
 use Rattle.exchange_model.specs.Prefix.{IsPrefixOf}
 use Rattle.master_node.specs.of_master_hand.Joins.{fragment_in}
-use Rattle.packet_model.specs.Packets.{octets_of, parts, wholes}
-use Rattle.packet_model.proofs.Parts.{joined_first, joined_all}
+use Rattle.packets_heard.specs.Packets.{octets_of, parts, wholes}
+use Rattle.packets_heard.proofs.PacketParts.{joined_first, joined_all}
 use Rattle.packets_heard.proofs.Parts.{packets_whole, run_joined, serving_joined}
 use Rattle.packets_heard.proofs.packets_law.Goals as goal
 

@@ -4,7 +4,7 @@ use Rattle.slave_parts.specs.of_slave_model.Acknowledged as Slave
 use Rattle.slave_parts.specs.of_slave_model.Product.{product}
 use Rattle.slave_parts.specs.of_slave_model.Profile.{areas_of}
 use Rattle.slave_parts.specs.Parts.{parts}
-use Rattle.slave_parts.specs.of_state_exchange.Families.{states_of}
+use Rattle.slave_parts.specs.of_state_model.Families.{states_of}
 use Rattle.plan_ring.proofs.Named.{named_stated}
 use Rattle.plan_ring.specs.Asked.{as_asked}
 use Rattle.plan_ring.proofs.Asked as Its

@@ -1,6 +1,6 @@
 use Rattle.std.proofs.Common.{◌≡◌, subst, arith}
 use Rattle.std.specs.Prelude.{◌≤◌, ◌<◌, ◌+◌, ◌*◌, length}
-use Rattle.life_measure.specs.Tally.{Counted, new_tally}
+use Rattle.life_model.specs.Tally.{Counted, new_tally}
 use Rattle.life_runs.specs.First.{lens_of, first_leads}
 use Rattle.life_runs.specs.Led.{speech_at, is_passed}
 use Rattle.link_mails.specs.Body.{Body}

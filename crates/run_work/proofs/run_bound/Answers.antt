@@ -1,6 +1,6 @@
 use Rattle.std.proofs.Common.{◌≡◌, ◌+◌, ◌-◌, ◌*◌, ◌<◌, length, subst, arith}
-use Rattle.plan_counts.specs.Split.{own_work}
-use Rattle.script_runs.specs.Begun.{work_in}
+use Rattle.life_counts.specs.Split.{own_work}
+use Rattle.run_frames.specs.Begun.{work_in}
 use Rattle.segment_plan.specs.Bound.{services_work, host_work, slowest}
 use Rattle.run_work.specs.Switched.{cuts_begun}
 use Rattle.run_work.specs.Together.{packets_begun}

@@ -1,6 +1,6 @@
 use Rattle.run_frames.specs.of_life_runs.First.{lens_of, first_leads}
 use Rattle.plan_ring.specs.Round.{ring_of}
-use Rattle.ring_returns.proofs.Returned as Returned
+use Rattle.frames_seen.proofs.Returned as Returned
 use Rattle.segment_plan.specs.Bound.{slowest}
 use Rattle.run_work.proofs.Rounds.{frames_returned, toured_framed}
 use Rattle.run_work.proofs.tallied_law.Goals as goal

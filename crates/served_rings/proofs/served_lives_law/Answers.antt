@@ -1,4 +1,4 @@
-use Rattle.served_runs.specs.of_life_runs.First.{first_leads, lens_of}
+use Rattle.life_runs.specs.First.{first_leads, lens_of}
 use Rattle.plan_ring.specs.Round.{all_seen}
 use Rattle.plan_ring.proofs.Known.{macs_in}
 use Rattle.run_work.proofs.Placed.{all_fresh}

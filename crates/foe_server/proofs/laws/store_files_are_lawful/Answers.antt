@@ -1,8 +1,8 @@
 use Rattle.exchange_model.proofs.Lifting.{lifted_law}
-use Rattle.foe_model.specs.Model.{foe_exchange}
-use Rattle.foe_model.specs.Octets.{foe_mail_heard, foe_mail_written}
-use Rattle.foe_model.proofs.FoeLaw.{foe_law}
-use Rattle.foe_model.proofs.Spelled.{foe_spells}
+use Rattle.protocol_models.specs.FoeModel.{foe_exchange}
+use Rattle.protocol_models.specs.FoeOctets.{foe_mail_heard, foe_mail_written}
+use Rattle.protocol_models.proofs.FoeLaw.{foe_law}
+use Rattle.protocol_models.proofs.FoeSpelled.{foe_spells}
 use Rattle.foe_server.specs.Stores.{store_files}
 use Rattle.foe_server.proofs.Lawful.{files_are_lawful, files_are_spelled}
 use Rattle.foe_server.proofs.laws.store_files_are_lawful.Goals as goal

@@ -1,7 +1,7 @@
 use Rattle.plan_ring.proofs.NamedNames.{named_never}
 use Rattle.idle_slaves.proofs.asked_waits.asked_waits_law.Goals as goal
 use Rattle.plan_ring.specs.of_life_runs.of_master_hand.Spoken.{hand_speech}
-use Rattle.never_waits.proofs.Slaves.{slave_never}
+use Rattle.slave_model.proofs.Slaves.{slave_never}
 use Rattle.plan_ring.proofs.Asked.{agrees}
 use Rattle.plan_ring.specs.Asked.{as_asked}
 use Rattle.slave_parts.specs.of_slave_model.Product.{product}

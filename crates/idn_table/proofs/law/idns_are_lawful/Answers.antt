@@ -1,8 +1,8 @@
-use Rattle.soe_model.proofs.of_exchange_model.Lifting.{lifted_law}
-use Rattle.soe_model.specs.Model.{soe_exchange}
-use Rattle.soe_model.specs.Octets.{soe_mail_heard, soe_mail_written}
-use Rattle.soe_model.proofs.SoeLaw.{soe_law}
-use Rattle.soe_model.proofs.Spelled.{soe_spells}
+use Rattle.protocol_models.proofs.of_exchange_model.Lifting.{lifted_law}
+use Rattle.protocol_models.specs.SoeModel.{soe_exchange}
+use Rattle.protocol_models.specs.SoeOctets.{soe_mail_heard, soe_mail_written}
+use Rattle.protocol_models.proofs.SoeLaw.{soe_law}
+use Rattle.protocol_models.proofs.SoeSpelled.{soe_spells}
 use Rattle.idn_table.specs.Idns.{idn_elements}
 use Rattle.idn_table.proofs.Lawful.{idns_lawful}
 use Rattle.idn_table.proofs.law.idns_are_lawful.Goals as goal

@@ -1,6 +1,6 @@
 -- The lemmas on epochs in a book, at the types of the function.
-use Rattle.task_model.specs.Promise.{TasksPromised, TasksRestIf}
-use Rattle.task_model.proofs.Sessions.{tasks_promised, tasks_rest}
+use Rattle.state_model.specs.Promise.{TasksPromised, TasksRestIf}
+use Rattle.state_model.proofs.Sessions.{tasks_promised, tasks_rest}
 use Rattle.life_model.specs.Eras.{frames_of}
 use Rattle.life_model.proofs.Eras.{session_of, of_one}
 use Rattle.life_model.proofs.Books.{epoch_done}

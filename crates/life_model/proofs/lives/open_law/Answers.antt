@@ -1,10 +1,10 @@
 -- The promises of a session of one slave, at the types of the function.
 use Rattle.std.proofs.Common.{false}
-use Rattle.task_model.specs.of_segment_model.Laws.{HandedBy, KnowsCounters}
-use Rattle.task_model.specs.Promise.{TasksPromised, TasksAnswered, TasksRestIf}
-use Rattle.task_model.specs.Books.{TasksPast, TasksEndedIf}
-use Rattle.task_model.specs.Steady.{AsksNoInit, IsSteady}
-use Rattle.task_model.proofs.Sessions.{tasks_promised, tasks_rest, tasks_answered, tasks_handed, tasks_counted, tasks_past, tasks_ended, tasks_steady}
+use Rattle.state_model.specs.of_segment_model.Laws.{HandedBy, KnowsCounters}
+use Rattle.state_model.specs.Promise.{TasksPromised, TasksAnswered, TasksRestIf}
+use Rattle.state_model.specs.Books.{TasksPast, TasksEndedIf}
+use Rattle.state_model.specs.Steady.{AsksNoInit, IsSteady}
+use Rattle.state_model.proofs.Sessions.{tasks_promised, tasks_rest, tasks_answered, tasks_handed, tasks_counted, tasks_past, tasks_ended, tasks_steady}
 use Rattle.life_model.specs.Eras.{frames_of}
 use Rattle.life_model.proofs.Eras.{session_of, of_one}
 use Rattle.life_model.proofs.lives.open_law.Goals as goal

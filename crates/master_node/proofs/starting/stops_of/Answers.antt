@@ -1,6 +1,6 @@
 use Rattle.std.proofs.Common.{◌∙◌, ◌+◌, ◌++◌, ◌∷◌, [], sym, ap, subst, arith, get_or, length, take}
 use Rattle.std.proofs.lemmas.List.{take_more}
-use Rattle.served_runs.specs.of_life_runs.of_life_frames.Shares.{AllBoth, AllFrom}
+use Rattle.life_runs.specs.of_frame_view.Shares.{AllBoth, AllFrom}
 use Rattle.master_node.specs.First.{IsFirst}
 use Rattle.master_node.proofs.Filleds.{from_length}
 use Rattle.master_node.proofs.Firsts.{from_more}

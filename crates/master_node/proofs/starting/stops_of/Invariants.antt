@@ -1,5 +1,5 @@
 use Rattle.std.proofs.Common.{◌≡◌, take, vec_len}
-use Rattle.served_runs.specs.of_life_runs.of_life_frames.Shares.{AllBoth, AllFrom}
+use Rattle.life_runs.specs.of_frame_view.Shares.{AllBoth, AllFrom}
 use Rattle.master_node.specs.First.{IsFirst}
 use Rattle.master_node.specs.Serving.{IsPaced}
 use Rattle.master_node.proofs.starting.stops_of.Given as goal

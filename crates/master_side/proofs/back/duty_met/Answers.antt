@@ -3,7 +3,7 @@ use Rattle.frame_view.specs.of_segment_model.Slaves.{Access}
 use Rattle.master_side.specs.declared.carried.Carried.{Carried}
 use Rattle.master_side.specs.Carried.{Asks}
 use Rattle.frame_view.specs.View.{found_of}
-use Rattle.master_duty.specs.of_task_model.Accounts.{access_done}
+use Rattle.master_duty.specs.of_state_model.Accounts.{access_done}
 use Rattle.master_duty.specs.Stages.{stage_of}
 use Rattle.master_side.proofs.back.duty_met.Goals as goal
 

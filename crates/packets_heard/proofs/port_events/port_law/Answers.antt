@@ -9,7 +9,7 @@ use Rattle.packets_heard.proofs.Owns.{own_port}
 use Rattle.packets_heard.proofs.Runs.{run_downs, run_arrivals, serving_arrivals, serving_downs}
 use Rattle.packets_heard.proofs.Unfinished.{under_way, served_under_way, joined_so}
 use Rattle.packets_heard.proofs.port_events.port_law.Goals as goal
-use Rattle.master_node.specs.of_served_runs.Served.{served_behind}
+use Rattle.master_node.specs.of_life_runs.Served.{served_behind}
 
 pub returns-clause-downs : goal.returns-clause-downs
 returns-clause-downs c = λ lens recover retry missed ports first as' fs led es k port own live x. run_downs lens recover retry ports k port own led es live x

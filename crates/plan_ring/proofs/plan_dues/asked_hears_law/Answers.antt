@@ -1,7 +1,7 @@
 use Rattle.plan_ring.proofs.Names.{named_hears}
 use Rattle.plan_ring.proofs.plan_dues.asked_hears_law.Goals as goal
 use Rattle.run_frames.specs.of_life_runs.of_master_hand.Spoken.{hand_speech}
-use Rattle.never_waits.proofs.HearsSlaves.{slave_hears}
+use Rattle.slave_model.proofs.HearsSlaves.{slave_hears}
 use Rattle.plan_ring.proofs.Asked.{agrees}
 use Rattle.plan_ring.specs.Asked.{as_asked}
 use Rattle.slave_parts.specs.of_slave_model.Product.{product}

@@ -17,7 +17,7 @@ use Rattle.segment_plan.specs.Bound.{slowest}
 use Rattle.segment_plan.specs.declared.service.Service as Plan
 use Rattle.segment_plan.specs.declared.slave.SlaveSpec.{SlaveSpec}
 use Rattle.run_record.proofs.of_served_places.Slaves.{begins_so, first_leads_in}
-use Rattle.served_runs.specs.Served.{all_serve}
+use Rattle.life_runs.specs.Served.{all_serve}
 use Rattle.promised_run.proofs.TouredTours.{bridged}
 use Rattle.promised_run.proofs.eager_servings.eager_serving_law.Goals as goal
 

@@ -6,7 +6,7 @@ use Rattle.run_book.specs.of_master_node.Shows.{is_opening_lead}
 use Rattle.run_book.specs.of_master_node.of_master_tour.Goes.{holds_at}
 use Rattle.segment_plan.specs.Bound.{slowest}
 use Rattle.run_record.proofs.of_served_places.Slaves.{begins_so, first_leads_in}
-use Rattle.served_runs.specs.Served.{all_serve}
+use Rattle.life_runs.specs.Served.{all_serve}
 use Rattle.promised_run.proofs.News.{all_news}
 use Rattle.promised_run.proofs.TouredTours.{asks_none, bridged, frames_none, knows_none, stays_none, steps_none}
 use Rattle.promised_run.proofs.toured_servings.toured_law.Goals as goal

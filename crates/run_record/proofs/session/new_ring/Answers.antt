@@ -1,7 +1,7 @@
 use Rattle.std.proofs.Common.{sym, ap, ◌∙◌, subst, length, map}
 use Rattle.segment_ring.specs.Ring.{ArePaces, AllFew}
 use Rattle.segment_ring.specs.Schedule.{Rises}
-use Rattle.slave_node.specs.of_slave_steps.Node.{Node}
+use Rattle.slave_node.specs.Node.{Node}
 use Rattle.slave_server.specs.declared.server.SlaveServer.{SlaveServer}
 use Rattle.slave_server.specs.Spec.{node_of}
 use Rattle.run_record.proofs.Plans.{paces_are, lost_rise, few_new}

@@ -3,14 +3,13 @@ use Rattle.master_node.specs.of_life_runs.Led.{gives_up_at, missed_behind}
 use Rattle.master_node.specs.Backtold.{returned_at}
 use Rattle.master_node.specs.Eager.{recalls}
 use Rattle.master_node.specs.Listing.{events_in, told_in}
-use Rattle.master_node.specs.Serving.{ServedShows}
+use Rattle.master_node.specs.Serving.{ServedShows, run_lead, run_turn}
 use Rattle.master_node.specs.Toured.{tour_of}
 use Rattle.segment_ring.specs.declared.wire.Fate.{Fate}
 use Rattle.segment_ring.specs.declared.wire.Fate.TheVariants as Fates
-use Rattle.master_node.specs.of_served_runs.Served.{served_behind}
+use Rattle.master_node.specs.of_life_runs.Served.{served_behind}
 use Rattle.packets_heard.specs.Toured.{tour_behind}
 use Rattle.packets_heard.specs.Served.{serves_behind}
-use Rattle.master_node.specs.Serving.{run_lead, run_turn}
 use Rattle.master_node.specs.of_frame_view.Seen.{seen}
 use Rattle.master_node.specs.Joined.{HasUnfinished, stand_before, unfinished_after, mails_back}
 use Rattle.packets_heard.specs.Listed.{unfinished_of}

@@ -3,8 +3,8 @@ use Rattle.serving_model.proofs.StatesLaw.{tagged_stated}
 use Rattle.slave_model.specs.Acknowledged.{acknowledged}
 use Rattle.slave_model.specs.Profile.{Profile, IsProfile}
 use Rattle.slave_parts.specs.Parts.{Server, parts}
-use Rattle.slave_served.specs.Served.{product_whole}
-use Rattle.state_exchange.specs.Families.{InState, states_of}
+use Rattle.slave_parts.specs.Served.{product_whole}
+use Rattle.state_model.specs.Families.{InState, states_of}
 use Rattle.run_work.proofs.ServedLasts.{led_unopened}
 use Rattle.run_work.proofs.Paid.{Owes, all_paid}
 use Rattle.run_work.proofs.served_counts.served_law.Goals as goal

@@ -1,6 +1,6 @@
 use Rattle.std.proofs.Common.{length}
 use Rattle.run_frames.specs.of_life_runs.First.{lens_of}
-use Rattle.plan_counts.specs.Split.{entering}
+use Rattle.life_counts.specs.Split.{entering}
 use Rattle.run_work.specs.ServedGained.{leads_of}
 use Rattle.run_work.proofs.Packets.{switched_few}
 use Rattle.run_work.proofs.Placed.{led_placed}

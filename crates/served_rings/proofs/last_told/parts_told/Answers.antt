@@ -1,6 +1,6 @@
 use Rattle.std.proofs.Common.{refl, suc, ◌-◌, length, arith}
-use Rattle.coe_model.specs.Client as CoeClient
-use Rattle.soe_model.specs.Client as SoeClient
+use Rattle.protocol_models.specs.CoeClient as CoeClient
+use Rattle.protocol_models.specs.SoeClient as SoeClient
 use Rattle.served_rings.proofs.Ends
 use Rattle.served_rings.proofs.last_told.parts_told.Goals as goal
 

@@ -1,5 +1,5 @@
 use Rattle.std.proofs.Common.{sym, ◌∙◌, subst}
-use Rattle.served_runs.specs.of_life_runs.First.{lens_of}
+use Rattle.life_runs.specs.First.{lens_of}
 use Rattle.plan_ring.specs.Round.{all_seen}
 use Rattle.plan_ring.proofs.Known.{macs_in}
 use Rattle.served_rings.specs.Rings.{nodes_behind}

@@ -1,6 +1,6 @@
 use Rattle.std.proofs.Common.{[], sym, ◌∙◌, subst}
 use Rattle.served_places.proofs.of_life_runs.First.{apart_from, have_lens}
-use Rattle.served_runs.specs.of_life_runs.First.{first_leads, lens_of}
+use Rattle.life_runs.specs.First.{first_leads, lens_of}
 use Rattle.plan_ring.specs.Round.{ring_after, ring_of}
 use Rattle.run_work.proofs.Placed.{all_fresh}
 use Rattle.served_rings.specs.Rings.{AllServedAt, nodes_behind}

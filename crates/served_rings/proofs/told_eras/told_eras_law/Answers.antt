@@ -1,4 +1,4 @@
-use Rattle.served_runs.specs.of_life_runs.First.{lens_of}
+use Rattle.life_runs.specs.First.{lens_of}
 use Rattle.plan_ring.specs.Plan.{plan_of}
 use Rattle.plan_ring.proofs.Known.{macs_in}
 use Rattle.served_rings.proofs.ToldLives.{lives_so}

@@ -1,5 +1,5 @@
 use Rattle.std.proofs.Common.{◌-◌, length, true, false, take, refl}
-use Rattle.soe_model.specs.Mails.{parts_of}
+use Rattle.protocol_models.specs.SoeMails.{parts_of}
 use Rattle.soe_parts.specs.Parts.{subject_view, message_with}
 use Rattle.soe_parts.proofs.Parts.{part_given}
 use Rattle.soe_parts.proofs.writing.write_part.Goals as goal

@@ -3,8 +3,8 @@ use Rattle.mailbox_mail.specs.declared.mail.Kind.TheVariants.{CoE}
 use Rattle.coe_codec.specs.View.{coe_seen}
 use Rattle.coe_codec.specs.declared.viewing.CoeView.{CoeView}
 use Rattle.coe_codec.proofs.Only.{read-only}
-use Rattle.coe_model.specs.Mails.{mail}
-use Rattle.coe_model.specs.Octets.{heard, mail_with}
+use Rattle.protocol_models.specs.CoeMails.{mail}
+use Rattle.protocol_models.specs.CoeOctets.{heard, mail_with}
 use Rattle.coe_client.specs.declared.state.Unsent.{Unsent}
 use Rattle.coe_client.specs.Talk.{Talking, later, is_left}
 use Rattle.coe_client.specs.Send.{sent_by, send_next}

@@ -1,5 +1,5 @@
 use Rattle.std.proofs.Common.{◌≡◌, ◌≤◌, true, sym, subst}
-use Rattle.coe_model.specs.Octets.{coe_mail_heard}
+use Rattle.protocol_models.specs.CoeOctets.{coe_mail_heard}
 use Rattle.coe_client.specs.Talk.{Talking, is_sound, is_left, is_paced}
 use Rattle.coe_client.specs.Hear.{Heard, TookIs}
 use Rattle.coe_client.proofs.TookIs.{took_is}

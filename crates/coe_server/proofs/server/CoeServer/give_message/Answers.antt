@@ -1,5 +1,5 @@
 use Rattle.std.proofs.Common.{◌≤◌, ◌∷◌, sym, ap, subst, ◌∙◌}
-use Rattle.coe_model.specs.Mails.{mail}
+use Rattle.protocol_models.specs.CoeMails.{mail}
 use Rattle.coe_server.specs.Serving.{Serving, pending_mails, message_of}
 use Rattle.coe_server.proofs.Gives.{first_given}
 use Rattle.coe_server.proofs.server.CoeServer.give_message.Goals as goal

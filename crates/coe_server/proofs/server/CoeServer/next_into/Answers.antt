@@ -1,8 +1,8 @@
 use Rattle.std.proofs.Common.{ap}
 use Rattle.mailbox_mail.specs.declared.mail.Kind.TheVariants.{CoE}
 use Rattle.coe_codec.proofs.Only.{read-only}
-use Rattle.coe_model.specs.Mails.{mail}
-use Rattle.coe_model.specs.Octets.{heard, mail_with}
+use Rattle.protocol_models.specs.CoeMails.{mail}
+use Rattle.protocol_models.specs.CoeOctets.{heard, mail_with}
 use Rattle.coe_server.specs.Serving.{message_of}
 use Rattle.coe_server.proofs.Gives.{given_next}
 use Rattle.coe_server.proofs.server.CoeServer.next_into.Goals as goal

@@ -1,6 +1,6 @@
 use Rattle.std.proofs.Common.{ap, ◌∙◌, subst}
 use Rattle.eoe.specs.Message.{eoe_text}
-use Rattle.eoe_model.specs.Mails.{SetIp}
+use Rattle.protocol_models.specs.EoeMails.{SetIp}
 use Rattle.eoe_client.specs.declared.address.Unsent.{Unsent}
 use Rattle.eoe_client.specs.Talk.{Talking, SendsNext}
 use Rattle.eoe_client.proofs.Sends.{set_sent, get_sent}

@@ -1,7 +1,7 @@
 use Rattle.std.proofs.Common.{◌≡◌, ◌≤◌, true, sym, ap, ◌∙◌, subst}
 use Rattle.mailbox_mail.specs.declared.mail.Kind.TheVariants.{FoE}
-use Rattle.foe_model.specs.Mails.{mail}
-use Rattle.foe_model.specs.Octets.{mail_with}
+use Rattle.protocol_models.specs.FoeMails.{mail}
+use Rattle.protocol_models.specs.FoeOctets.{mail_with}
 use Rattle.foe_client.specs.Talk.{Talking, is_left}
 use Rattle.foe_client.specs.Send.{message_of, IsNext}
 use Rattle.foe_client.proofs.Sends.{next_is}

@@ -1,5 +1,5 @@
 use Rattle.std.proofs.Common.{◌≡◌, true, sym, subst}
-use Rattle.foe_model.specs.Octets.{foe_mail_heard}
+use Rattle.protocol_models.specs.FoeOctets.{foe_mail_heard}
 use Rattle.foe_client.specs.Talk.{Talking, is_sound, is_next}
 use Rattle.foe_client.specs.Hear.{Heard, TookIs}
 use Rattle.foe_client.proofs.TookIs.{took_is}

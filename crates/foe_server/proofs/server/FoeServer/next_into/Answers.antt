@@ -1,5 +1,5 @@
 use Rattle.std.proofs.Common.{sym, ap, ◌∙◌}
-use Rattle.foe_model.specs.Mails.{failed}
+use Rattle.protocol_models.specs.FoeMails.{failed}
 use Rattle.foe_server.specs.declared.state.Pending.{Pending}
 use Rattle.foe_server.specs.Serving.{Serving, waiting_mails, pending_mails}
 use Rattle.foe_server.proofs.server.FoeServer.next_into.Goals as goal

@@ -1,6 +1,6 @@
 use Rattle.std.proofs.Common.{◌≡◌, Some, sym, ap, ◌∙◌}
 use Rattle.std.specs.Map.{lookup}
-use Rattle.soe_model.specs.Elements.{target}
+use Rattle.protocol_models.specs.Elements.{target}
 use Rattle.idn_table.specs.Idns.{is_key, idn_at}
 use Rattle.idn_table.proofs.table.IdnTable.has.Goals as goal
 

@@ -1,5 +1,5 @@
 use Rattle.std.proofs.Common.{subst}
-use Rattle.eoe_client.specs.of_eoe_model.Client as EoeClient
+use Rattle.eoe_client.specs.of_protocol_models.EoeClient as EoeClient
 use Rattle.master_hand.specs.Spoken.{net}
 use Rattle.master_hand.specs.Talk.{Talking, Starts}
 use Rattle.master_hand.specs.declared.clients.Which.{Which}

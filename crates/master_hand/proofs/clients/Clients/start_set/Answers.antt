@@ -1,6 +1,6 @@
 use Rattle.std.proofs.Common.{◌≡◌, Bool, false, Option, Some, None, sym, ap, subst, nat_lt, length, ◌+◌, arith}
 use Rattle.std.specs.Prelude.{if◌then◌else◌}
-use Rattle.eoe_client.specs.of_eoe_model.Client as EoeClient
+use Rattle.eoe_client.specs.of_protocol_models.EoeClient as EoeClient
 use Rattle.master_hand.specs.Spoken.{Asked, net}
 use Rattle.master_hand.specs.Talk.{Talking, Begins, asked_set}
 use Rattle.master_hand.specs.declared.clients.Which.{Which}

@@ -1,11 +1,10 @@
-use Rattle.std.proofs.Common.{◌≡◌, ◌<◌, ◌∙◌, [], sym, arith, length}
+use Rattle.std.proofs.Common.{◌≡◌, ◌<◌, ◌∙◌, [], sym, arith, length, subst}
 use Rattle.std.specs.Prelude.{slice_get}
 use Rattle.master_node.proofs.Restings.{if_less, none_before}
 use Rattle.master_tour.proofs.Walks.{steps_both, steps_set}
 use Rattle.master_node.specs.Appends.{AppendsMail}
 use Rattle.master_node.proofs.Places.{waiting_here}
-use Rattle.std.proofs.Common.{subst}
-use Rattle.served_runs.specs.of_life_runs.of_life_frames.Shares.{AreDistinct}
+use Rattle.life_runs.specs.of_frame_view.Shares.{AreDistinct}
 use Rattle.master_node.specs.Shows.{GoesOn, lived_of}
 use Rattle.master_node.proofs.Servings.{asked_so, leads_same}
 use Rattle.master_node.proofs.Numbereds.{numbers_asked}

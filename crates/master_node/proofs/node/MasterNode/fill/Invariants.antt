@@ -2,9 +2,9 @@ use Rattle.std.proofs.Common.{◌≡◌, ◌≤◌, ◌+◌, ℕ, List, length, 
 use Rattle.std.specs.Prelude.{map}
 use Rattle.datagrams.specs.Datagram as Raw
 use Rattle.datagrams.specs.Frame.{IsBegun}
-use Rattle.served_runs.specs.of_life_runs.of_frame_view.View.{Lens}
-use Rattle.served_runs.specs.of_life_runs.of_life_frames.Shares.{AreDistinct}
-use Rattle.served_runs.specs.of_life_runs.Led.{Leads}
+use Rattle.life_runs.specs.of_frame_view.View.{Lens}
+use Rattle.life_runs.specs.of_frame_view.Shares.{AreDistinct}
+use Rattle.life_runs.specs.Led.{Leads}
 use Rattle.master_node.specs.Filling.{IsEmpty}
 use Rattle.master_node.specs.Happened.{Happens}
 use Rattle.master_node.specs.Kept.{TourOn}
@@ -17,7 +17,7 @@ use Rattle.master_node.proofs.Toureds.{Visiting}
 use Rattle.master_node.specs.Answered.{AnswersOn}
 use Rattle.master_node.specs.Listing.{Before, events_before}
 use Rattle.master_node.specs.Made.{Makes}
-use Rattle.served_runs.specs.Served.{Serves}
+use Rattle.life_runs.specs.Served.{Serves}
 use Rattle.master_node.specs.Passes.{BeginsFrame, IsPassing}
 use Rattle.master_node.specs.Serving.{run_lead}
 use Rattle.master_node.proofs.Roundings.{Rounds}

@@ -1,5 +1,5 @@
 use Rattle.std.proofs.Common.{◌≡◌, ◌<◌, ◌∙◌, length, arith}
-use Rattle.served_runs.specs.of_life_runs.Spans.{is_open}
+use Rattle.life_runs.specs.Spans.{is_open}
 use Rattle.master_node.specs.Told.{IsTold}
 use Rattle.master_node.proofs.Says.{both_here}
 use Rattle.master_node.proofs.Stoods.{lead_up}

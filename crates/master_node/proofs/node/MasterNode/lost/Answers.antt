@@ -1,58 +1,43 @@
-use Rattle.std.proofs.Common.{◌≡◌, ◌≤◌, ◌+◌, Bool, [], refl, sym, ap, ◌∙◌, arith, length}
-use Rattle.std.specs.Prelude.{map, not, nat_lt, if◌then◌else◌}
-use Rattle.served_runs.specs.of_life_runs.Led.{speech_at, gives_up_at, led_behind}
+use Rattle.std.proofs.Common.{◌≡◌, ◌≤◌, ◌+◌, Bool, [], refl, sym, ap, ◌∙◌, arith, length, subst, None, ℕ, suc, ◌++◌}
+use Rattle.std.specs.Prelude.{map, not, nat_lt, if◌then◌else◌, ◌&&◌}
+use Rattle.life_runs.specs.Led.{speech_at, gives_up_at, led_behind}
 use Rattle.master_tour.specs.Orders.{last_behind}
-use Rattle.master_node.specs.Shows.{is_opening_lead}
+use Rattle.master_node.specs.Shows.{is_opening_lead, turned_of, IsOnFrame, IsUnder, is_led, is_live_turn, is_live_lead, side_shows, GoesOn}
 use Rattle.master_node.proofs.Toureds.{lost_same}
-use Rattle.master_node.proofs.Behinds.{opens_behind, behind_long}
+use Rattle.master_node.proofs.Behinds.{opens_behind, behind_long, life_lost_is, lead_behind, all_led, goes_lost, behind_shows, missed_is}
 use Rattle.master_hand.specs.Spoken.{Asked, acknowledged, is_followed, is_passed}
-use Rattle.master_tour.specs.Goes.{is_opened, opened_behind}
-use Rattle.master_node.specs.Shows.{turned_of}
+use Rattle.master_tour.specs.Goes.{is_opened, opened_behind, is_live, holds_at}
 use Rattle.master_node.proofs.Lists.{both_map, each_length}
-use Rattle.master_node.proofs.Behinds.{life_lost_is, lead_behind, all_led, goes_lost, behind_shows, missed_is}
-use Rattle.std.proofs.Common.{subst, None}
-use Rattle.std.specs.Prelude.{◌&&◌}
-use Rattle.served_runs.specs.of_life_runs.of_frame_view.Seen.{seen}
-use Rattle.served_runs.specs.of_life_runs.of_life_frames.Shares.{Lived}
+use Rattle.life_runs.specs.of_frame_view.Seen.{seen}
+use Rattle.life_runs.specs.of_frame_view.Shares.{Lived, AllThree}
 use Rattle.master_duty.specs.Reply.{Reply}
 use Rattle.master_hand.specs.Joins.{unfinished_behind}
 use Rattle.master_tour.specs.Joins.{join_at}
-use Rattle.master_node.specs.Shows.{IsOnFrame, IsUnder}
 use Rattle.master_node.specs.Joined.{IsUnfinished, stand_before, stand_under, mails_lost, unfinished_after}
 use Rattle.master_node.proofs.ServedJoins.{holds_map, lost_life, on_frame, served_after}
 use Rattle.master_node.proofs.ServedSents.{map_map}
 use Rattle.master_side.specs.of_link_mails.Body.{Body}
 use Rattle.master_tour.specs.of_life_model.Lives.{Life}
-use Rattle.master_node.proofs.Joineds.{lost_unfinished, three_on, three_kept, three_of, three_after, unfinished_kept}
+use Rattle.master_node.proofs.Joineds.{lost_unfinished, three_on, three_kept, three_of, three_after, unfinished_kept, pair_both}
 use Rattle.master_node.specs.Rooms.{FitAgain}
 use Rattle.master_node.proofs.Fits.{again_lost}
 use Rattle.master_node.proofs.Happenings.{happens_so}
-use Rattle.std.proofs.Common.{ℕ}
 use Rattle.master_node.specs.Downs.{downs_in, gives_at, goes_down, is_given_up}
-use Rattle.master_node.specs.Shows.{is_led, is_live_turn, is_live_lead, side_shows}
-use Rattle.master_tour.specs.Goes.{is_live}
-use Rattle.master_node.proofs.Downs.{lists_all, lists_as, downs_few, downs_same, goes_at, gone_is, live_is, under_live, both_true}
+use Rattle.master_node.proofs.Downs.{lists_all, lists_as, downs_few, downs_same, goes_at, gone_is, live_is, under_live, both_true, given_is}
 use Rattle.master_node.proofs.OnFrames.{all_run}
 use Rattle.master_node.proofs.Recalled.{recalls_lost, recalls_run}
 use Rattle.master_node.specs.Eager.{recalls}
-use Rattle.std.proofs.Common.{suc}
-use Rattle.counters_kept.proofs.Lives.{stands_kept}
-use Rattle.served_runs.specs.of_life_runs.of_life_frames.Shares.{AllThree}
+use Rattle.life_runs.proofs.Lives.{stands_kept}
 use Rattle.master_tour.specs.Stands.{StandShows}
-use Rattle.served_runs.specs.Served.{served_behind}
+use Rattle.life_runs.specs.Served.{served_behind}
 use Rattle.master_node.specs.Serving.{IsServed, IsServedUnder, mails_in, run_lead, run_turn}
-use Rattle.master_node.specs.Shows.{GoesOn}
-use Rattle.master_node.proofs.Downs.{given_is}
-use Rattle.master_node.proofs.Joineds.{pair_both}
 use Rattle.master_node.proofs.Serveds.{distinct_served, long_served, opens_served, three_both}
 use Rattle.master_tour.specs.Made.{is_in}
-use Rattle.master_tour.specs.Goes.{holds_at}
 use Rattle.master_node.specs.Dropped.{gave_at}
 use Rattle.master_node.specs.Passes.{waits_in}
 use Rattle.master_node.proofs.ServedLosts as Losts
 use Rattle.master_node.specs.Handed.{work_at}
 use Rattle.master_node.proofs.Numbereds.{numbers_behind}
-use Rattle.std.proofs.Common.{[], ◌++◌}
 use Rattle.master_side.specs.Passing.{news_lost}
 use Rattle.master_node.specs.Besides.{given_at, given_told}
 use Rattle.master_node.specs.Lifetold.{lost_at}

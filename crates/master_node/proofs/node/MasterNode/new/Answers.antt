@@ -1,10 +1,8 @@
-use Rattle.std.proofs.Common.{◌≡◌, ◌∙◌, [], true, false, sym}
-use Rattle.served_runs.specs.of_life_runs.First.{lens_of}
-use Rattle.served_runs.proofs.of_life_runs.First.{apart_from, have_lens, distinct_from}
+use Rattle.std.proofs.Common.{◌≡◌, ◌∙◌, [], true, false, sym, subst, refl, arith}
+use Rattle.life_runs.specs.First.{lens_of, first_leads}
+use Rattle.life_runs.proofs.First.{apart_from, have_lens, distinct_from}
 use Rattle.master_node.proofs.Firsts.{all_known, all_leads, all_open, all_unfinished}
-use Rattle.std.proofs.Common.{subst, refl, arith}
-use Rattle.served_runs.specs.of_life_runs.First.{first_leads}
-use Rattle.served_runs.specs.of_life_runs.of_life_frames.Shares.{AreDistinct}
+use Rattle.life_runs.specs.of_frame_view.Shares.{AreDistinct}
 use Rattle.master_node.specs.Shows.{GoesOn}
 use Rattle.master_node.proofs.Servings.{firsts_served, leads_kept, lives_all, run_all}
 use Rattle.master_node.specs.Serving.{IsServed}

@@ -1,8 +1,8 @@
-use Rattle.std.proofs.Common.{◌≡◌, ◌≤◌, ◌∙◌, true, [], refl, sym, ap, subst, length, arith}
+use Rattle.std.proofs.Common.{◌≡◌, ◌≤◌, ◌∙◌, true, [], refl, sym, ap, subst, length, arith, ◌+◌, ◌%◌, ◌^◌, suc, ℕ, ◌++◌, take}
 use Rattle.master_node.proofs.Begins.{has_none}
 use Rattle.master_node.specs.Origins.{forwards_at}
 use Rattle.master_node.proofs.Listing.{before_of_list, listed_whole, services_made, unlisted}
-use Rattle.served_runs.specs.of_life_runs.of_frame_view.Seen.{seen}
+use Rattle.life_runs.specs.of_frame_view.Seen.{seen}
 use Rattle.std.specs.List.{list_any}
 use Rattle.master_tour.specs.Goes.{is_live, holds_at}
 use Rattle.master_node.proofs.Sents.{shows_same}
@@ -16,7 +16,7 @@ use Rattle.master_node.specs.Eager.{recall_of, recalls}
 use Rattle.master_node.proofs.Eagers.{all_take, each_recalls}
 use Rattle.master_node.proofs.Visitings.{all_asked, all_visit, sent_at}
 use Rattle.master_node.proofs.Toureds.{turns_tour, tour_by}
-use Rattle.master_node.specs.Shows.{is_live_lead}
+use Rattle.master_node.specs.Shows.{is_live_lead, IsLead}
 use Rattle.master_node.specs.Toured.{stop_share, tour_of}
 use Rattle.master_tour.specs.Toured.{IsOfTour}
 use Rattle.master_tour.specs.Sizes.{frame_size}
@@ -24,16 +24,13 @@ use Rattle.master_node.specs.Rooms.{area_at}
 use Rattle.master_node.proofs.Happenings.{happens_so, happens_then}
 use Rattle.master_node.proofs.Made.{makes_all, makes_then, makes_none}
 use Rattle.master_node.specs.Happened.{NoneWaits}
-use Rattle.master_node.specs.Shows.{IsLead}
 use Rattle.master_node.proofs.Entering.{all_opened, first_more, rests_same}
 use Rattle.master_node.proofs.Lists.{both_length}
 use Rattle.master_node.proofs.Restings.{all_rest, all_still, rest_leads, serves_rest}
 use Rattle.master_node.proofs.Serveds.{long_served}
-use Rattle.std.proofs.Common.{◌+◌, ◌%◌, ◌^◌, suc}
 use Rattle.std.proofs.Math.Nat.{mod-eq_of_lt}
 use Rattle.master_node.proofs.ServedSents.{served_same}
 use Rattle.master_node.proofs.ServedTells.{served_made}
-use Rattle.std.proofs.Common.{ℕ, ◌++◌, take}
 use Rattle.master_node.specs.Listed.{listed, listed_last}
 use Rattle.master_node.specs.Listing.{events_before, events_in}
 use Rattle.master_node.specs.Answered.{AnswersBy, answer_at, answer_behind}

@@ -1,6 +1,6 @@
 use Rattle.std.proofs.Common.{◌≡◌, ◌<◌, length, arith}
 use Rattle.master_tour.specs.of_life_model.Lives.{Stand}
-use Rattle.served_runs.specs.of_life_runs.Led.{speech_at}
+use Rattle.life_runs.specs.Led.{speech_at}
 use Rattle.master_node.specs.Told.{IsTold, Tells}
 use Rattle.master_node.proofs.Says.{if_ok_so, both_here, lead_open}
 use Rattle.master_node.proofs.node.MasterNode.told.Goals as goal

@@ -1,6 +1,6 @@
 use Rattle.std.proofs.Common.{◌≡◌, ◌<◌, ◌≤◌, ◌∙◌, ◌++◌, true, false, length, ap, sym, arith}
 use Rattle.master_tour.specs.of_life_model.Lives.{Stand}
-use Rattle.served_runs.specs.of_life_runs.Led.{speech_at}
+use Rattle.life_runs.specs.Led.{speech_at}
 use Rattle.master_node.specs.Shows.{IsLived}
 use Rattle.master_node.specs.Told.{has_value, value_in}
 use Rattle.master_node.proofs.Says.{answer_here, answer_out, both_here, lived_open}

@@ -1,80 +1,63 @@
-use Rattle.std.proofs.Common.{ℕ, ◌⊎◌, inl, ◌≡◌, ◌∙◌, ◌+◌, ◌%◌, refl, sym, ap, subst, arith}
-use Rattle.std.specs.Prelude.{map, false, is_some, nat_lt, IfSome, slice_get}
+use Rattle.std.proofs.Common.{ℕ, ◌⊎◌, inl, ◌≡◌, ◌∙◌, ◌+◌, ◌%◌, refl, sym, ap, subst, arith, true, [], ◌∷◌, length}
+use Rattle.std.specs.Prelude.{map, false, is_some, nat_lt, IfSome, slice_get, None}
 use Rattle.std.proofs.lemmas.Bool.{le-ltb, lt-ltb}
 use Rattle.master_node.proofs.Lefts.{true_false}
 use Rattle.master_node.specs.Toured.{StaysPut, TakesPart}
 use Rattle.master_node.proofs.Toureds.{takes_part, part_steps}
-use Rattle.master_hand.specs.Laying.{ready_of}
+use Rattle.master_hand.specs.Laying.{ready_of, Scripted}
 use Rattle.master_hand.specs.contracts.hand.InHandHand.TheImpl as Impl
 use Rattle.master_hand.specs.declared.hand.InHand.{InHand}
 use Rattle.master_tour.specs.declared.stop.Stop.{Stop}
-use Rattle.master_side.specs.Shown.{wish_begun}
-use Rattle.served_runs.specs.of_life_runs.Led.{speech_at}
-use Rattle.master_hand.specs.Spoken.{is_followed, is_passed}
+use Rattle.master_side.specs.Shown.{wish_begun, SideShows}
+use Rattle.life_runs.specs.Led.{speech_at}
+use Rattle.master_hand.specs.Spoken.{is_followed, is_passed, acknowledged}
 use Rattle.master_tour.specs.Goes.{is_live}
 use Rattle.master_tour.specs.Made.{FrameMade, ComesAt}
 use Rattle.master_tour.specs.Walks.{StepsAt}
-use Rattle.master_tour.proofs.Walks.{steps_both}
+use Rattle.master_tour.proofs.Walks.{steps_both, each_map}
 use Rattle.master_node.specs.Filling.{StopFills}
 use Rattle.master_node.specs.Shows.{lived_of}
-use Rattle.master_node.proofs.Lists.{steps_map, steps_holds, steps_each, each_trans}
+use Rattle.master_node.proofs.Lists.{steps_map, steps_holds, steps_each, each_trans, steps_trans, steps_got, steps_mid, steps_some, both_each}
 use Rattle.master_node.proofs.Filleds.{count_behind}
 use Rattle.master_node.proofs.Visits.{Fitted, Began, SomeKept, here, what, what_is, none_here, now, now_here, comes, frame, frame_kept, spot, leaves, waits_none, told, among, among_fitted}
-use Rattle.master_node.proofs.Begins.{begun_step}
+use Rattle.master_node.proofs.Begins.{begun_step, at_other, at_place}
 use Rattle.master_node.specs.Listing.{number_at, run_tells, where_began}
 use Rattle.master_node.proofs.Listing.{ToldSo, before_of_list, laid_from, listed_on, listed_step, listed_visit, number_here}
-use Rattle.master_node.specs.Begins.{NoneMore, TakesOn, taken_where}
-use Rattle.std.proofs.Common.{◌∙◌}
-use Rattle.master_node.proofs.Lists.{steps_each, each_trans}
-use Rattle.std.proofs.Common.{true}
+use Rattle.master_node.specs.Begins.{NoneMore, TakesOn, taken_where, begun_for}
 use Rattle.master_side.specs.Again.{HasNoRoom, area_of}
 use Rattle.master_side.specs.Sent.{SameLink}
 use Rattle.master_tour.specs.Rooms.{Looks, StopRepeats, Visits, stop_len}
 use Rattle.master_node.specs.Rooms.{SendsSame, Takes}
 use Rattle.master_node.proofs.Fits.{sends_again, sends_len, stays_sends, takes_before, takes_not, takes_visit}
-use Rattle.master_node.proofs.Lists.{steps_trans}
 use Rattle.master_node.proofs.Rooms.{steps_room, looks_full, visits_full}
 use Rattle.master_node.proofs.Eagers.{goes_kept, recall_kept, steps_tested}
 use Rattle.master_node.proofs.Visits as Visited
 use Rattle.master_node.specs.Eager.{StopGoes, recall_of}
-use Rattle.master_tour.proofs.Walks.{each_map}
 use Rattle.master_node.proofs.Happenings.{happens_none, happens_from}
 use Rattle.master_node.proofs.Made.{makes_none, makes_then}
-use Rattle.std.proofs.Common.{[], ◌∷◌}
-use Rattle.master_hand.specs.Shown.{Shows, knows}
-use Rattle.master_hand.specs.Spoken.{acknowledged}
-use Rattle.master_side.specs.Shown.{SideShows}
+use Rattle.master_hand.specs.Shown.{Shows, knows, awaits_reply}
 use Rattle.master_tour.specs.Recalls.{BeginsAll as Begins}
-use Rattle.master_node.specs.Begins.{begun_for}
 use Rattle.master_node.specs.Starts.{HasStarted}
-use Rattle.master_node.proofs.Begins.{at_other, at_place}
 use Rattle.master_node.proofs.Fills.{from_each, from_map}
-use Rattle.master_node.proofs.Lists.{steps_got, steps_mid, steps_some}
 use Rattle.master_node.proofs.Starts.{Asks, ComesSo, LeavesNone, Readies, from_both, from_steps, leaves_none, mail_none, readies, some_so, started_here, started_same, started_there, waits_yet}
-use Rattle.std.specs.Prelude.{None}
 use Rattle.master_tour.specs.First.{FitsFirst}
 use Rattle.master_tour.specs.declared.stop.Stand.{Stand}
 use Rattle.master_node.proofs.Unvisited.{Lacking, Roomed, Roomy, Went, roomy, some_wish, steps_behind, without}
-use Rattle.master_hand.specs.Shown.{awaits_reply}
 use Rattle.master_side.specs.Free.{is_free_side}
 use Rattle.master_node.specs.Coming.{IsComing, next_of, wish_of}
-use Rattle.master_hand.specs.Laying.{Scripted}
 use Rattle.master_node.specs.Handed.{IsHanding}
 use Rattle.master_node.specs.Kept.{StopKept}
-use Rattle.master_node.specs.Passes.{IsNextState, IsServing, waits_in}
+use Rattle.master_node.specs.Passes.{IsNextState, IsServing, waits_in, ThreeFrom}
 use Rattle.master_node.specs.Serving.{mails_in, run_lead}
-use Rattle.master_node.specs.Passes.{ThreeFrom}
 use Rattle.master_node.proofs.ServedVisits as Served
 use Rattle.master_node.proofs.Alikes.{Alike, alike_same, serving_alike}
 use Rattle.master_node.proofs.MailsReady.{mail_ready}
 use Rattle.master_node.proofs.ServedStarts.{all_without, leaves_all, serves_started}
 use Rattle.master_node.proofs.Threes.{three_each}
 use Rattle.master_node.proofs.FreeKept as Frees
-use Rattle.std.proofs.Common.{length}
-use Rattle.served_runs.specs.of_life_runs.of_life_frames.Shares.{AreDistinct}
+use Rattle.life_runs.specs.of_frame_view.Shares.{AreDistinct}
 use Rattle.master_node.specs.Events.{served_tells}
 use Rattle.master_node.specs.Numbered.{IsNumbered, StaysNumbered}
-use Rattle.master_node.proofs.Lists.{both_each}
 use Rattle.master_node.proofs.ServedSents.{map_map}
 use Rattle.master_node.proofs.ServedTells.{told_visit}
 use Rattle.master_node.proofs.Answereds.{laid_answers, visit_answers}

@@ -1,6 +1,6 @@
 use Rattle.std.proofs.Common.{rules, arith, eq-eqb, sym, subst, inl, inr, ◌∙◌, Option, Some}
 use Rattle.std.proofs.lemmas.Grind.{common_steps}
-use Rattle.master_duty.specs.of_task_model.Accounts.{duty_access, account_back}
+use Rattle.master_duty.specs.of_state_model.Accounts.{duty_access, account_back}
 use Rattle.master_duty.specs.declared.duty.Duty.{Duty}
 use Rattle.master_side.specs.Carried.{one}
 use Rattle.master_side.specs.Shown.{DutyShows}

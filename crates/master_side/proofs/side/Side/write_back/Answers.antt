@@ -1,10 +1,9 @@
-use Rattle.std.proofs.Common.{subst, sym, rules}
-use Rattle.master_duty.specs.of_task_model.Accounts.{duty_access}
+use Rattle.std.proofs.Common.{subst, sym, rules, ap, ◌∙◌}
+use Rattle.master_duty.specs.of_state_model.Accounts.{duty_access}
 use Rattle.master_side.specs.declared.carried.Carried.{Carried}
 use Rattle.master_side.specs.Carried.{Meant, one}
 use Rattle.master_side.proofs.Backs.{write_back}
 use Rattle.std.specs.Prelude.{Option}
-use Rattle.std.proofs.Common.{ap, ◌∙◌}
 use Rattle.master_side.specs.declared.passing.Passing.{Passing}
 use Rattle.master_side.specs.Passes.{written_by}
 use Rattle.life_model.specs.Lives.{passes}

@@ -1,6 +1,6 @@
-use Rattle.std.proofs.Common.{◌≡◌, [], Option, sym, subst, refl}
-use Rattle.life_frames.specs.of_frame_view.Seen.{seen}
-use Rattle.life_frames.specs.of_life_model.Lives as Lives
+use Rattle.std.proofs.Common.{◌≡◌, [], Option, sym, subst, refl, ◌∙◌}
+use Rattle.frame_view.specs.Seen.{seen}
+use Rattle.frame_view.specs.of_life_model.Lives as Lives
 use Rattle.master_side.specs.Heard.{Brought}
 use Rattle.master_side.specs.Shown.{SideShows}
 use Rattle.master_side.specs.declared.hand.Heard.{Heard}
@@ -9,7 +9,6 @@ use Rattle.master_tour.specs.Stands.{StopShows, came_at}
 use Rattle.master_tour.proofs.Backs.{gone_follows}
 use Rattle.master_tour.proofs.Joins.{turned_joins}
 use Rattle.master_tour.proofs.Passings.{gone_passing}
-use Rattle.std.proofs.Common.{◌∙◌}
 use Rattle.master_tour.proofs.Counting.{gone_counts}
 use Rattle.master_tour.proofs.stop.Stop.back.Goals as goal
 

@@ -1,8 +1,8 @@
-use Rattle.std.proofs.Common.{ℕ, sym, subst, ap, ◌∙◌, refl}
-use Rattle.life_frames.specs.of_frame_view.Seen.{seen}
-use Rattle.life_frames.specs.of_segment_model.Seats
-use Rattle.life_frames.specs.of_life_model.Lives.{life_lost}
-use Rattle.life_frames.specs.of_life_model.Own
+use Rattle.std.proofs.Common.{ℕ, sym, subst, ap, ◌∙◌, refl, suc, leb-true}
+use Rattle.frame_view.specs.Seen.{seen}
+use Rattle.frame_view.specs.of_segment_model.Seats
+use Rattle.frame_view.specs.of_life_model.Lives.{life_lost}
+use Rattle.frame_view.specs.of_life_model.Own
 use Rattle.master_side.specs.Shown.{SideShows}
 use Rattle.master_tour.specs.Stands.{StopShows, FollowShows, StandUnder, is_open}
 use Rattle.master_tour.proofs.Backs.{still_follows, lost_follows, own_lost, seen_aims}
@@ -10,7 +10,6 @@ use Rattle.master_tour.proofs.Rooms.{loses_gone, loses_opens, loses_open}
 use Rattle.master_side.specs.Passing.{news_lost}
 use Rattle.master_tour.specs.Passing.{StandPassing, StandKept}
 use Rattle.master_tour.proofs.Passings.{lost_still, lost_open}
-use Rattle.std.proofs.Common.{suc, leb-true}
 use Rattle.master_tour.proofs.Counting.{gone_counts, opening_stays, counts_open, lost_counts}
 use Rattle.master_tour.proofs.stop.Stop.lost.Goals as goal
 

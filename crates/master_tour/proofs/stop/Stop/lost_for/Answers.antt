@@ -1,12 +1,10 @@
-use Rattle.std.proofs.Common.{sym, subst, ap, ◌∙◌}
+use Rattle.std.proofs.Common.{sym, subst, ap, ◌∙◌, ◌≡◌, true, false}
 use Rattle.std.specs.Prelude.{◌&&◌, nat_lt}
-use Rattle.master_tour.specs.Stands.{IsSpot}
-use Rattle.life_frames.specs.of_frame_view.Seen.{seen}
-use Rattle.life_frames.specs.of_life_model.Lives.{life_lost}
+use Rattle.master_tour.specs.Stands.{IsSpot, FollowShows, given_where}
+use Rattle.frame_view.specs.Seen.{seen}
+use Rattle.frame_view.specs.of_life_model.Lives.{life_lost}
 use Rattle.master_side.specs.Shown.{SideShows}
-use Rattle.master_tour.specs.Stands.{FollowShows, given_where}
 use Rattle.master_tour.proofs.Backs.{gave_turned, lost_gave}
-use Rattle.std.proofs.Common.{◌≡◌, true, false}
 use Rattle.master_side.specs.Passing.{news_lost}
 use Rattle.master_tour.specs.Passing.{StandPassing}
 use Rattle.master_tour.proofs.stop.Stop.lost_for.Goals as goal

@@ -1,11 +1,10 @@
-use Rattle.life_frames.specs.of_task_model.Accounts.{duty_access}
+use Rattle.frame_view.specs.of_state_model.Accounts.{duty_access}
 use Rattle.master_side.specs.Shown.{SideShows}
 use Rattle.master_tour.proofs.Unders.{nothing_under, none_lost, has_lost}
-use Rattle.std.proofs.Common.{sym, ◌∙◌}
-use Rattle.life_frames.specs.of_life_model.Lives.{passes}
+use Rattle.std.proofs.Common.{sym, ◌∙◌, refl}
+use Rattle.frame_view.specs.of_life_model.Lives.{passes}
 use Rattle.master_side.specs.Passing.{PassingShows}
 use Rattle.master_tour.proofs.Passings.{has_gone, nothing_gone}
-use Rattle.std.proofs.Common.{refl}
 use Rattle.master_tour.proofs.stop.Stop.open_lost.Goals as goal
 
 pub returns-then-self-clause-shown : goal.returns-then-self-clause-shown

@@ -1,14 +1,14 @@
-use Rattle.std.proofs.Common.{ℕ, sym, subst, ap, ◌∙◌, refl}
+use Rattle.std.proofs.Common.{ℕ, sym, subst, ap, ◌∙◌, refl, ◌≡◌, true, suc}
 use Rattle.std.specs.Prelude.{is_some, nat_lt}
 use Rattle.datagrams.specs.Frame.{parts_of}
-use Rattle.life_frames.specs.of_frame_view.Seen.{seen}
-use Rattle.life_frames.specs.of_segment_model.Seats
-use Rattle.life_frames.specs.of_task_model.Accounts.{account_back, duty_access}
-use Rattle.life_frames.specs.of_life_model.Lives as Lives
-use Rattle.life_frames.specs.of_life_model.Lives.{era_back}
-use Rattle.life_frames.specs.of_life_model.Own
-use Rattle.life_frames.specs.of_link_model.Frames.{all_accepted}
-use Rattle.life_frames.specs.of_segment_model.Slaves.{grams}
+use Rattle.frame_view.specs.Seen.{seen}
+use Rattle.frame_view.specs.of_segment_model.Seats
+use Rattle.frame_view.specs.of_state_model.Accounts.{account_back, duty_access}
+use Rattle.frame_view.specs.of_life_model.Lives as Lives
+use Rattle.frame_view.specs.of_life_model.Lives.{era_back}
+use Rattle.frame_view.specs.of_life_model.Own
+use Rattle.frame_view.specs.of_link_model.Frames.{all_accepted}
+use Rattle.frame_view.specs.of_segment_model.Slaves.{grams}
 use Rattle.master_side.specs.Heard.{Brought, HasJoined}
 use Rattle.master_side.specs.Shown.{SideShows}
 use Rattle.master_tour.specs.Stands.{StopShows, StandUnder, StandShows, IsSpot, came_at}
@@ -20,11 +20,9 @@ use Rattle.master_tour.proofs.Joins.{still_joins}
 use Rattle.master_side.specs.Passing.{counts_at, news_back}
 use Rattle.master_tour.specs.Passing.{StandPassing, StandKept}
 use Rattle.master_tour.proofs.Passings.{open_passing}
-use Rattle.std.proofs.Common.{◌≡◌, true}
 use Rattle.master_side.specs.Due.{EachDue}
 use Rattle.master_tour.specs.Behind.{VisitBack}
-use Rattle.std.proofs.Common.{suc}
-use Rattle.news_kept.specs.Counts.{counts_behind, counts_on}
+use Rattle.master_side.specs.Counts.{counts_behind, counts_on}
 use Rattle.master_tour.specs.Counting.{StandCounts}
 use Rattle.master_tour.proofs.Counting.{counts_open, open_counts}
 use Rattle.master_tour.proofs.stop.Stop.open_met.Goals as goal

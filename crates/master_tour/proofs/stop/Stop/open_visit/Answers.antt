@@ -1,14 +1,11 @@
-use Rattle.std.proofs.Common.{◌≡◌}
+use Rattle.std.proofs.Common.{◌≡◌, sym, subst, ap, ◌∙◌, arith}
 use Rattle.master_side.specs.Recall.{recall_by}
-use Rattle.std.proofs.Common.{sym, subst, ap, ◌∙◌}
-use Rattle.life_frames.specs.of_task_model.Accounts.{duty_access}
+use Rattle.frame_view.specs.of_state_model.Accounts.{duty_access}
 use Rattle.master_tour.proofs.Visits.{picked_map, holds_map, same_shown, same_meant}
 use Rattle.master_side.specs.of_mailbox_master.Any.{in_half_of}
 use Rattle.master_tour.proofs.Grams.{choice_clear}
-use Rattle.std.proofs.Common.{arith}
 use Rattle.master_side.specs.Again.{HasNoRoom}
 use Rattle.master_side.proofs.Agains.{area_same}
-use Rattle.std.proofs.Common.{subst}
 use Rattle.master_side.specs.First.{HoldsFirst}
 use Rattle.master_tour.proofs.stop.Stop.open_visit.Goals as goal
 

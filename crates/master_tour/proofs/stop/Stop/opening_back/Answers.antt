@@ -1,16 +1,14 @@
-use Rattle.std.proofs.Common.{sym, subst, ap, ◌∙◌, get_or, ◌≤◌}
+use Rattle.std.proofs.Common.{sym, subst, ap, ◌∙◌, get_or, ◌≤◌, suc, refl}
 use Rattle.datagrams.specs.Frame.{parts_of}
-use Rattle.life_frames.specs.of_frame_view.Seen.{seen}
-use Rattle.life_frames.specs.of_life_model.Lives.{life_back}
+use Rattle.frame_view.specs.Seen.{seen}
+use Rattle.frame_view.specs.of_life_model.Lives.{life_back}
 use Rattle.master_side.specs.Shown.{SideShows}
 use Rattle.master_tour.specs.Under.{no_part}
-use Rattle.master_tour.specs.Stands.{StopShows, FollowShows, StandUnder, came_at}
+use Rattle.master_tour.specs.Stands.{StopShows, FollowShows, StandUnder, came_at, opening_of}
 use Rattle.master_tour.proofs.Cursors.{stands_part, stands_in, parts_length, seen_parts}
 use Rattle.master_tour.proofs.Backs.{opening_came, opening_there, nothing_came}
 use Rattle.master_tour.specs.Passing.{StandPassing}
-use Rattle.master_tour.specs.Stands.{opening_of}
 use Rattle.master_tour.proofs.Passings.{nothing_passing}
-use Rattle.std.proofs.Common.{suc, refl}
 use Rattle.master_tour.proofs.Counting.{opening_stays}
 use Rattle.master_tour.proofs.stop.Stop.opening_back.Goals as goal
 

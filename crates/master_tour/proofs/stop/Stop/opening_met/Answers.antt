@@ -1,16 +1,13 @@
-use Rattle.std.proofs.Common.{sym, subst, ◌∙◌}
+use Rattle.std.proofs.Common.{sym, subst, ◌∙◌, ap, ◌≡◌, true, suc}
 use Rattle.master_side.specs.Shown.{SideShows}
 use Rattle.master_tour.specs.Stands.{StopShows, FollowShows}
-use Rattle.life_frames.specs.of_life_model.Lives.{life_back}
+use Rattle.frame_view.specs.of_life_model.Lives.{life_back}
 use Rattle.std.specs.Prelude.{Some}
 use Rattle.master_tour.proofs.Openings.{opening_follows}
-use Rattle.std.proofs.Common.{ap}
 use Rattle.master_tour.specs.Joins.{join_behind}
 use Rattle.master_tour.proofs.Joins.{cleared_join}
-use Rattle.std.proofs.Common.{◌≡◌, true}
 use Rattle.master_tour.specs.Passing.{StandPassing}
 use Rattle.master_tour.proofs.Passings.{opening_passing}
-use Rattle.std.proofs.Common.{suc}
 use Rattle.master_tour.specs.Counting.{StandCounts}
 use Rattle.master_tour.proofs.Counting.{opening_counts}
 use Rattle.master_tour.proofs.stop.Stop.opening_met.Goals as goal

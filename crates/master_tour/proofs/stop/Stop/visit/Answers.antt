@@ -1,7 +1,7 @@
-use Rattle.std.proofs.Common.{◌≡◌, ℕ, true, sym, subst, ap, ◌∙◌, refl}
+use Rattle.std.proofs.Common.{◌≡◌, ℕ, true, sym, subst, ap, ◌∙◌, refl, false}
 use Rattle.std.specs.Prelude.{Bool, is_some}
-use Rattle.life_frames.specs.of_task_model.Accounts.{duty_access}
-use Rattle.life_frames.specs.of_frame_view.View.{datagram_seen}
+use Rattle.frame_view.specs.of_state_model.Accounts.{duty_access}
+use Rattle.frame_view.specs.View.{datagram_seen}
 use Rattle.master_side.specs.Shown.{SideShows, wish_begun}
 use Rattle.master_side.specs.Carried.{Meant}
 use Rattle.master_side.specs.Sent.{visit_gram}
@@ -11,7 +11,6 @@ use Rattle.master_tour.proofs.Visits.{still_next, open_next}
 use Rattle.master_tour.proofs.Rooms.{visit_gone, visit_full, visit_opens, visit_open}
 use Rattle.master_tour.specs.Passing.{StandPassing}
 use Rattle.master_tour.proofs.Passings.{gone_passing, next_still, next_open, passing_waits}
-use Rattle.std.proofs.Common.{◌≡◌, true, false}
 use Rattle.master_tour.proofs.stop.Stop.visit.Goals as goal
 
 pub returns-in-Gone-clause-lives : goal.returns-in-Gone-clause-lives

@@ -1,12 +1,12 @@
 use Rattle.std.proofs.Common.{◌≡◌, ◌+◌, List, ℕ, sym, ◌∙◌, arith, add-one}
 use Rattle.std.specs.Prelude.{◌&&◌, Bool, false, None}
-use Rattle.life_frames.specs.of_segment_model.Record.{News}
-use Rattle.life_frames.specs.of_life_model.Lives.{Life, Spot, life_lost}
+use Rattle.frame_view.specs.of_segment_model.Record.{News, Kept}
+use Rattle.frame_view.specs.of_life_model.Lives.{Life, Spot, life_lost}
 use Rattle.master_tour.specs.Stands.{StopShows, FollowShows, IsSpot, StandUnder, given_where}
-use Rattle.life_frames.specs.of_frame_view.View.{Lens}
-use Rattle.life_frames.specs.of_frame_view.Seen.{seen}
-use Rattle.life_frames.specs.of_exchange_model.Exchange.{Speech}
-use Rattle.life_frames.specs.of_link_mails.Body.{Body}
+use Rattle.frame_view.specs.View.{Lens}
+use Rattle.frame_view.specs.Seen.{seen}
+use Rattle.frame_view.specs.of_exchange_model.Exchange.{Speech}
+use Rattle.frame_view.specs.of_link_mails.Body.{Body}
 use Rattle.master_side.specs.of_master_duty.Reply.{Reply}
 use Rattle.master_side.specs.Shown.{SideShows}
 use Rattle.master_tour.proofs.Walks.{walk_on, walk_over, walked_length}
@@ -14,7 +14,6 @@ use Rattle.master_side.specs.of_mailbox_master.Any.{in_area_len}
 use Rattle.master_side.specs.Sent.{SameLink}
 use Rattle.master_tour.specs.Made.{IsSized}
 use Rattle.master_tour.specs.Rooms.{LosesAgain}
-use Rattle.life_frames.specs.of_segment_model.Record.{Kept}
 use Rattle.master_side.specs.Passing.{news_lost}
 use Rattle.master_tour.specs.Passing.{StandPassing, StandKept}
 use Rattle.master_tour.specs.Behind.{StopLost}

@@ -1,23 +1,21 @@
-use Rattle.std.proofs.Common.{◌≡◌, ℕ, List, [], ◌∷◌, ◌++◌, true, false, sym, subst}
-use Rattle.std.specs.Prelude.{Bool, is_some}
+use Rattle.std.proofs.Common.{◌≡◌, ℕ, List, [], ◌∷◌, ◌++◌, true, false, sym, subst, ap, ◌∙◌, ◌+◌, ◌==◌, None, Some}
+use Rattle.std.specs.Prelude.{Bool, is_some, if◌then◌else◌}
 use Rattle.datagrams.specs.Datagram as Raw
 use Rattle.master_side.specs.Recall.{recall_by}
 use Rattle.master_tour.specs.Recalls.{TakesUp, BeginsAll}
 use Rattle.datagrams.specs.Frame.{IsBegun}
-use Rattle.life_frames.specs.of_exchange_model.Exchange.{Speech}
-use Rattle.life_frames.specs.of_link_mails.Body.{Body}
-use Rattle.life_frames.specs.of_life_model.Lives.{Life, Spot}
-use Rattle.life_frames.specs.of_frame_view.View.{Lens, datagram_seen}
+use Rattle.frame_view.specs.of_exchange_model.Exchange.{Speech}
+use Rattle.frame_view.specs.of_link_mails.Body.{Body}
+use Rattle.frame_view.specs.of_life_model.Lives.{Life, Spot, life_next}
+use Rattle.frame_view.specs.View.{Lens, datagram_seen}
 use Rattle.master_side.specs.of_mailbox_master.Any.{in_area_len}
 use Rattle.master_side.specs.of_master_duty.Reply.{Reply}
 use Rattle.master_side.specs.Shown.{SideShows, wish_begun, takes_ready}
 use Rattle.master_tour.specs.Walks.{StepsAt}
-use Rattle.master_tour.specs.Stands.{StopShows, IsSpot, stand_gram, StandMeant, NextShows}
-use Rattle.std.proofs.Common.{ap, ◌∙◌, ◌+◌, ◌==◌, None, Some}
-use Rattle.std.specs.Prelude.{if◌then◌else◌}
+use Rattle.master_tour.specs.Stands.{StopShows, IsSpot, stand_gram, StandMeant, NextShows, Counts}
 use Rattle.master_side.specs.Sent.{SameLink}
 use Rattle.master_tour.specs.Made.{IsClearFor, ComesAt}
-use Rattle.life_frames.proofs.Frames.{apart_back}
+use Rattle.frame_view.proofs.Frames.{apart_back}
 use Rattle.std.proofs.lemmas.List.{get_or-set_same}
 use Rattle.master_tour.specs.Goes.{is_live}
 use Rattle.master_tour.proofs.Goes.{holds_here}
@@ -26,8 +24,6 @@ use Rattle.master_tour.proofs.Steps.{frame_grows}
 use Rattle.master_tour.proofs.Mades.{made_visit, made_other, grown_of}
 use Rattle.master_tour.proofs.Walks.{steps_set, at_place}
 use Rattle.master_tour.specs.Rooms.{Visits}
-use Rattle.life_frames.specs.of_life_model.Lives.{life_next}
-use Rattle.master_tour.specs.Stands.{Counts}
 use Rattle.master_tour.specs.Passing.{StandPassing}
 use Rattle.master_tour.specs.declared.stop.Stand.{Stand}
 use Rattle.master_tour.specs.Counting.{ReadStays}

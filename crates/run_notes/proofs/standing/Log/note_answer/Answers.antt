@@ -8,7 +8,7 @@ use Rattle.run_notes.proofs.Reporting.{to_next, got_there, awaited_at, reply_tol
 use Rattle.run_notes.proofs.Stations.{same_noted}
 use Rattle.run_notes.proofs.Stays.{stays_set}
 use Rattle.run_notes.proofs.Ways.{any_ok}
-use Rattle.script_runs.specs.Steps.{PassesSo}
+use Rattle.run_frames.specs.Steps.{PassesSo}
 use Rattle.master_node.specs.of_life_model.Lives.{Stand}
 use Rattle.master_node.specs.Told.{Tells}
 use Rattle.run_notes.proofs.Handings.{stay_set, told_goes}

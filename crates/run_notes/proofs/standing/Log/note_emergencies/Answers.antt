@@ -1,7 +1,7 @@
 use Rattle.std.proofs.Common.{◌≡◌, ◌+◌, ℕ, suc, refl, ◌∙◌, subst, arith}
 use Rattle.std.proofs.lemmas.List.{length-map}
-use Rattle.life_heard.proofs.Heards as Heards
-use Rattle.life_heard.specs.Heard.{AllNoted, brought_of, heard_to}
+use Rattle.run_book.proofs.Heards as Heards
+use Rattle.run_book.specs.Heard.{AllNoted, brought_of, heard_to}
 use Rattle.run_notes.specs.Heard.{emergencies_noted}
 use Rattle.run_notes.specs.declared.notes.Notes.{Notes}
 use Rattle.run_notes.proofs.Kept.{slaves_more}

@@ -14,7 +14,7 @@ use Rattle.run_notes.specs.Reports.{Reports}
 use Rattle.run_notes.proofs.Heard.{same_heard}
 use Rattle.run_notes.proofs.Ways.{any_ok}
 use Rattle.run_notes.proofs.Reporting.{to_next, to_same, got_there, same_whole, loss_same, loss_more}
-use Rattle.script_runs.specs.Steps.{LosesSo}
+use Rattle.run_frames.specs.Steps.{LosesSo}
 use Rattle.run_notes.proofs.Packets.{same_begun}
 use Rattle.run_notes.proofs.Handings.{stay_same, stay_set}
 use Rattle.run_notes.specs.Handed.{GoesBy}

@@ -9,7 +9,7 @@ use Rattle.run_notes.proofs.Gaves.{walked, walked_on, walked_all}
 use Rattle.run_notes.proofs.Kept.{slaves_more}
 use Rattle.run_notes.specs.Reports.{ReportsTo}
 use Rattle.run_notes.proofs.Reporting.{to_first, to_last, both_lengths}
-use Rattle.script_runs.specs.Steps.{LosesSo}
+use Rattle.run_frames.specs.Steps.{LosesSo}
 use Rattle.run_notes.proofs.Handings.{mails_then, stay_same}
 use Rattle.run_notes.proofs.standing.Log.note_losses.Goals as goal
 

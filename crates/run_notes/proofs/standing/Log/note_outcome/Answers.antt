@@ -7,7 +7,7 @@ use Rattle.run_notes.proofs.Reporting.{to_next, got_there, awaited_at, reply_cha
 use Rattle.run_notes.proofs.Stations.{same_noted}
 use Rattle.run_notes.proofs.Stays.{stays_set}
 use Rattle.run_notes.proofs.Ways.{any_ok}
-use Rattle.script_runs.specs.Steps.{PassesSo}
+use Rattle.run_frames.specs.Steps.{PassesSo}
 use Rattle.run_notes.proofs.Handings.{stay_set, change_goes}
 use Rattle.run_notes.specs.Handed.{GoesBy}
 use Rattle.run_notes.specs.Notes.{change_noted}

@@ -3,7 +3,7 @@ use Rattle.run_notes.proofs.Kept.{slaves_more}
 use Rattle.run_notes.proofs.Stays.{stays_more, stays_same}
 use Rattle.run_notes.specs.Reports.{ReportsTo}
 use Rattle.run_notes.proofs.Reporting.{to_first, to_last, both_lengths}
-use Rattle.script_runs.specs.Steps.{PassesSo}
+use Rattle.run_frames.specs.Steps.{PassesSo}
 use Rattle.run_notes.proofs.Handings.{mails_then, stay_same}
 use Rattle.run_notes.proofs.Timings.{seen_first, seen_last}
 use Rattle.run_notes.specs.Times.{AllTimed, seen_to}

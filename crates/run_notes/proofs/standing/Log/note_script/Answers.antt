@@ -5,7 +5,7 @@ use Rattle.run_notes.specs.Notes.{began_script}
 use Rattle.run_notes.specs.Reports.{Reports}
 use Rattle.run_notes.proofs.Reporting.{to_next, to_same, got_there, same_whole, script_same, script_more}
 use Rattle.run_notes.proofs.Stations.{same_noted}
-use Rattle.script_runs.specs.Steps.{TurnsSo}
+use Rattle.run_frames.specs.Steps.{TurnsSo}
 use Rattle.run_notes.proofs.Packets.{script_rows}
 use Rattle.run_notes.proofs.Handings.{script_doubt}
 use Rattle.run_notes.specs.Handed.{Doubts}

@@ -2,7 +2,7 @@ use Rattle.std.proofs.Common.{◌≡◌, ◌+◌, ℕ, suc, refl, ◌∙◌, sub
 use Rattle.run_notes.proofs.Kept.{slaves_more}
 use Rattle.run_notes.specs.Reports.{ReportsTo}
 use Rattle.run_notes.proofs.Reporting.{to_first, to_last, both_lengths}
-use Rattle.script_runs.specs.Steps.{TurnsSo}
+use Rattle.run_frames.specs.Steps.{TurnsSo}
 use Rattle.run_notes.proofs.Stays.{making_more, making_same}
 use Rattle.run_notes.proofs.standing.Log.note_scripts.Goals as goal
 

@@ -1,7 +1,7 @@
 use Rattle.std.proofs.Common.{◌≡◌, ◌<◌, ◌^◌, refl, sym, ℕ, suc, List, ◌+◌, ◌++◌, ◌∷◌, [], length, vec_len, ap, ◌∙◌, subst, arith}
 use Rattle.arrayvec.specs.ArrayVec.{ArrayVec}
 use Rattle.segment_ring.specs.Ring.{RingState}
-use Rattle.slave_node.specs.of_slave_steps.Node.{Node}
+use Rattle.slave_node.specs.Node.{Node}
 use Rattle.slave_server.specs.declared.server.SlaveServer.{SlaveServer}
 use Rattle.run_book.specs.declared.book.SentFrame.{SentFrame}
 use Rattle.master_node.specs.Happened.{events_of}

@@ -1,5 +1,5 @@
 use Rattle.std.proofs.Common.{ap, ◌∙◌}
-use Rattle.slave_steps.specs.Step.{pdi_step}
+use Rattle.slave_node.specs.Step.{pdi_step}
 use Rattle.slave_node.proofs.node.SlaveNode.pdi.Goals as goal
 
 pub returns : goal.returns

@@ -1,5 +1,5 @@
 use Rattle.std.proofs.Common.{sym, subst}
-use Rattle.soe_parts.specs.of_soe_model.Octets.{soe_mail_heard}
+use Rattle.soe_parts.specs.of_protocol_models.SoeOctets.{soe_mail_heard}
 use Rattle.soe_client.specs.Hear.{Heard, TookIs}
 use Rattle.soe_client.proofs.TookIs.{took_is}
 use Rattle.soe_client.proofs.client.SoeClient.take.Goals as goal

@@ -1,6 +1,6 @@
 use Rattle.std.proofs.Common.{◌≡◌, ◌≤◌, ◌-◌, ◌++◌, ℕ, List, length, take, ap, ◌∙◌, arith}
 use Rattle.soe_codec.specs.View.{soe_seen}
-use Rattle.soe_model.specs.Server.{ahead}
+use Rattle.protocol_models.specs.SoeServer.{ahead}
 use Rattle.soe_server.specs.Serving.{Serving, join_of}
 use Rattle.soe_server.proofs.Joins.{kept_first}
 use Rattle.soe_server.proofs.server.SoeServer.gather.Goals as goal

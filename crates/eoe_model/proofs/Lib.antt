@@ -1,4 +1,0 @@
-pub mod Packets
-pub mod EoeLaw
-pub mod Spelled
-pub mod WorkedRows

@@ -1,5 +1,0 @@
-use Rattle.eoe.proofs.Whole.{every_area_gives_the_packet}
-use Rattle.eoe_model.proofs.packets_arrive.Goals as goal
-
-pub returns : goal.returns
-returns c = λ before octets room frame least greatest wide. every_area_gives_the_packet before octets room frame least greatest wide

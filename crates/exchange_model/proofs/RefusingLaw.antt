@@ -1,0 +1,66 @@
+-- A refused protocol keeps the laws.
+use Rattle.std.proofs.Common.{◌≡◌, ◌⊎◌, inl, inr, ◌≤◌, Bool, true, false, List, [], ◌++◌, refl, sym, ap, ◌∙◌, subst, arith}
+use Rattle.std.specs.Prelude.{if◌then◌else◌}
+use Rattle.exchange_model.specs.Exchange.{Exchange, IsLawful, Before, Behind, given, plain, emitted}
+use Rattle.exchange_model.specs.Refusing.{Refusal, refusing, gated, IsAsked, IsRefusal}
+use Rattle.exchange_model.proofs.Refusals.{snoc_cut, each_front, all_taken, Quiet, heard_of, quiet_after, quiet_given, all_after, replies, none_emitted, some_mail, follows, all_planned}
+
+module _ {V A M Q R : Type 0} (x : Exchange V A M Q R) (r : Refusal V M Q R) where
+  abbrev y : Exchange V A M Q R
+  y = refusing x r
+
+  module _ (law : IsLawful x) (is : IsRefusal x r) where
+    before : (v : V) (ms : List M) → Quiet r ms → Before y v ms
+    before v ms quiet = record {
+      app = ap x.app (quiet_after r v ms quiet);
+      handled = ap x.handled (quiet_after r v ms quiet);
+      emitted = ap (emitted x.speech.emission) (quiet_given r v ms quiet);
+    }
+
+    behind : (v : V) (q : Q) (handed : Bool) (ms : List M) → IsAsked r handed ms → Behind y v q ms
+    behind v q handed ms a = record {
+      app = ap x.app (all_after r v handed ms a) ∙ is.app v;
+      handled = ap x.handled (all_after r v handed ms a) ∙ is.handled v;
+      emitted = ([], ap (λ (l : List M). l ++ []) (none_emitted r x.speech is.plain v handed ms a));
+    }
+
+    part : (v : V) (q : Q) → x.speech.valid q ≡ true → (p rest : List M) → r.asked q ≡ p ++ rest → Before y v p ⊎ Behind y v q p
+    part v q valid p rest e =
+        let a = is.asked q valid in
+        elim (snoc_cut a.front a.last p rest (sym a.mails ∙ e)) [
+          | inl front ↦ inl (before v p (each_front _ p front.0 (subst (Quiet r) front.1 a.quiet)))
+          | inr whole ↦ inr (behind v q (x.speech.handed q) p (subst (IsAsked r (x.speech.handed q)) (a.mails ∙ sym whole.0) a))
+        ]
+
+    -- where the replies came, the last mail was taken
+    counted : (v : V) (q : Q) → x.speech.valid q ≡ true → x.speech.handed q ≡ false → (p rest : List M) → r.asked q ≡ p ++ rest →
+        plain x.speech.emission (given y.serve v p) ≡ plain x.speech.emission (given y.serve v (r.asked q)) → Behind y v q p
+    counted v q valid answers p rest e same =
+        let a = is.asked q valid in
+        behind v q (x.speech.handed q) p (subst (IsAsked r (x.speech.handed q)) (sym (all_taken r x.speech is.plain v q answers a p rest e same).0) a)
+
+    pub refusing_law : IsLawful y
+    refusing_law = record {
+      ready = λ v q ready valid. ap x.ready (all_after r v (x.speech.handed q) (r.asked q) (is.asked q valid)) ∙ is.ready v ready;
+      whole = λ v q ready valid. behind v q (x.speech.handed q) (r.asked q) (is.asked q valid);
+      all_emitted = λ v q ready valid. none_emitted r x.speech is.plain v (x.speech.handed q) (r.asked q) (is.asked q valid);
+      replied = λ v q ready valid answers. ap (x.speech.ends q) (replies r x.speech is.plain v (x.speech.handed q) (r.asked q) (is.asked q valid) ∙ ap (heard_of r) answers) ∙ is.ends q valid answers;
+      silent = λ v q ready valid posts. replies r x.speech is.plain v (x.speech.handed q) (r.asked q) (is.asked q valid) ∙ ap (heard_of r) posts;
+      part = λ v q ready valid p rest e. part v q valid p rest e;
+      counted = λ v q ready valid answers p rest e same. counted v q valid answers p rest e same;
+      none = law.none;
+      ended = law.ended;
+      follows = λ v q ready valid hs more e. follows r x.speech is.plain q (is.begins q valid) (is.sends q valid) (is.posts q valid) (x.speech.handed q) refl hs more (sym (replies r x.speech is.plain v (x.speech.handed q) (r.asked q) (is.asked q valid)) ∙ e);
+      all_planned = λ v q ready valid. ap (x.speech.planned q) (replies r x.speech is.plain v (x.speech.handed q) (r.asked q) (is.asked q valid)) ∙ all_planned r x.speech is.plain q (is.begins q valid) (is.sends q valid) (is.posts q valid) (x.speech.handed q) refl;
+      unanswered = law.unanswered;
+      some = λ v q ready valid posts e. some_mail r (is.asked q valid) e;
+      grows = λ v m. grows v (r.counts m);
+    }
+      where
+        grows : (v : V) (b : Bool) → x.handled v ≤ x.handled (if b then r.counted v else v)
+        grows v true = omega (arith, is.handled v)
+        grows v false = omega arith
+
+    pub gated_law : (served : Bool) → IsLawful (gated served x r)
+    gated_law true = law
+    gated_law false = refusing_law

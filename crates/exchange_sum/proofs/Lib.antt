@@ -1,4 +1,0 @@
-pub mod SumLaw
-pub mod Refusals
-pub mod RefusingLaw
-mod ToyLaw

@@ -1,5 +1,0 @@
-use Rattle.never_waits.proofs.Laws.{heard}
-use Rattle.never_waits.proofs.answered_rows.heard_law.Goals as goal
-
-pub returns : goal.returns
-returns g c = λ x s processor table spot e opened last fs v r slave law stated never is nothing mails row now. heard x s processor table spot e opened last fs v r slave law stated is never nothing mails row now

@@ -1,2 +1,0 @@
-pub use Rattle.master_side.specs as of_master_side
-pub mod Counts

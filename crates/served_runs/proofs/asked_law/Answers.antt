@@ -1,5 +1,0 @@
-use Rattle.served_runs.proofs.Came.{serves_come}
-use Rattle.served_runs.proofs.asked_law.Goals as goal
-
-pub returns : goal.returns
-returns c = λ lens recover retry paces first fs missed ws fresh led. serves_come lens recover retry paces first fresh fs missed ws led

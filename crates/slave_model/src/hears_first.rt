@@ -1,0 +1,48 @@
+//! Clients that hear first: while a reply to what they told isn't heard yet, they have no further mail to tell. No running code: the functions here do nothing,
+//! and their contracts state the laws.
+
+ghost use Rattle.std.specs.Prelude.{ℕ, Bool};
+ghost use Rattle.exchange_model.specs.Areas.{Areas, AreMailboxes};
+ghost use Rattle.exchange_model.specs.Exchange.{Exchange};
+ghost use Rattle.exchange_model.specs.Lifted.{Spells, lifted};
+ghost use Rattle.exchange_model.specs.Refusing.{Refusal, IsRefusal, gated};
+ghost use Rattle.exchange_model.specs.Sides.{Slave, IsSide, joined};
+ghost use Rattle.state_model.specs.Families.{AreOneClient, in_states};
+ghost use Rattle.state_model.specs.Stated.{Stated, with_states};
+ghost use Rattle.state_model.specs.States.{Table};
+ghost use Rattle.protocol_models.specs.Tables as Tables;
+ghost use Rattle.protocol_models.specs.CoeModel.{coe_exchange};
+ghost use Rattle.protocol_models.specs.Files as Files;
+ghost use Rattle.protocol_models.specs.FoeModel.{foe_exchange};
+ghost use Rattle.protocol_models.specs.Elements as Elements;
+ghost use Rattle.protocol_models.specs.SoeModel.{soe_exchange};
+ghost use Rattle.protocol_models.specs.Network.{Network, IsSound};
+ghost use Rattle.protocol_models.specs.EoeModel.{eoe_exchange};
+ghost use Rattle.slave_model.specs.Profile.{Profile, IsProfile};
+ghost use Rattle.slave_model.specs.Application.{Parts, ArePartsLawful};
+ghost use Rattle.slave_model.specs.Product.{product};
+ghost use Rattle.slave_model.specs.Hears.{HearsFirst};
+
+/// So it is of each protocol's client: of SDO and of files each mail but an acknowledgement has its answer before the next is told, and elements, packets and
+/// address blocks are answered for their last mail alone.
+pub fn protocols_law<S>()
+    ensures objects { (o : Tables.Tables S) (eoe : Bool) (areas : Areas) → Tables.AreLawful o → AreMailboxes areas → HearsFirst (coe_exchange o eoe areas) }
+    ensures files { (o : Files.Files S) (areas : Areas) → Files.AreLawful o → AreMailboxes areas → HearsFirst (foe_exchange o areas) }
+    ensures elements { (o : Elements.Elements S) (areas : Areas) → Elements.AreLawful o → AreMailboxes areas → HearsFirst (soe_exchange o areas) }
+    ensures packets { (o : Network S) (areas : Areas) → IsSound o → AreMailboxes areas → HearsFirst (eoe_exchange o areas) }
+{}
+
+/// It stays so over what mails are written as, where a protocol is refused, of protocols together, and of a family over the AL states; and so it is with state
+/// services beside.
+pub fn forms_law<I, J, V, A, M, N, Q, R>()
+    ensures lifted { (x : Exchange V A M Q R) (read : N → M) (write : M → N) → Spells x read write → HearsFirst x → HearsFirst (lifted x read write) }
+    ensures refused { (x : Exchange V A M Q R) (r : Refusal V M Q R) → IsRefusal x r → HearsFirst x → (served : Bool) → HearsFirst (gated served x r) }
+    ensures joined { (s : Slave J A M) (x : I → Exchange V A M Q R) (seat : I → J → V) → ((i : I) → IsSide s (x i) (seat i)) → ((i : I) → HearsFirst (x i)) → HearsFirst (joined s x seat) }
+    ensures family { (x : ℕ → Exchange V A M Q R) → AreOneClient x → ((state : ℕ) → HearsFirst (x state)) → HearsFirst (in_states x) }
+    ensures states { (x : Exchange V A M Q R) (s : Stated V A Q) (table : Table) → HearsFirst x → HearsFirst (with_states x s table) }
+{}
+
+/// So it is of the one exchange of a slave.
+pub fn slave_law<T, F, I>()
+    ensures { (o : Parts T F I) → ArePartsLawful o → (p : Profile) → IsProfile p → HearsFirst (product o p) }
+{}

@@ -1,5 +1,0 @@
-use Rattle.slave_served.proofs.EoeServedLaw.{eoe_is_served}
-use Rattle.slave_served.proofs.eoe_served.eoe_is_served.Goals as goal
-
-pub returns : goal.returns
-returns g c = λ o areas sound sized. eoe_is_served o sound areas sized

@@ -1,5 +1,0 @@
-use Rattle.slave_served.proofs.FoeServedLaw.{foe_is_served}
-use Rattle.slave_served.proofs.foe_served.foe_is_served.Goals as goal
-
-pub returns : goal.returns
-returns g c = λ o areas law stays sized. foe_is_served o law stays areas sized

@@ -1,5 +1,0 @@
-use Rattle.slave_served.proofs.RefusedLaw.{gated_served}
-use Rattle.slave_served.proofs.serving_sum.refused_is_served.Goals as goal
-
-pub returns : goal.returns
-returns g c = λ x core r law is served. gated_served x core r law is served

@@ -1,5 +1,0 @@
-use Rattle.slave_served.proofs.WholeLaw.{whole_served}
-use Rattle.slave_served.proofs.serving_sum.whole_is_served.Goals as goal
-
-pub returns : goal.returns
-returns g c = λ x ready exec law is. whole_served x ready exec law is

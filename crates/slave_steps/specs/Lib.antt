@@ -1,7 +1,0 @@
-pub use Rattle.esc_registers.specs as of_esc_registers
-pub use Rattle.frame_pass.specs as of_frame_pass
-pub use Rattle.mailbox_slave.specs.of_link_mails as of_link_mails
-pub use Rattle.mailbox_slave.specs.of_mailbox_mail as of_mailbox_mail
-pub use Rattle.mailbox_slave.specs as of_mailbox_slave
-pub mod Node
-pub mod Step

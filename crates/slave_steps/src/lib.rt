@@ -1,6 +1,0 @@
-//! The steps of one slave's processor over the registers of its controller and the box of its mails, for any services behind its mailboxes.
-#![tactic(auto)]
-
-mod stepping;
-
-pub use stepping::{Clear, step};

@@ -1,9 +1,0 @@
-use Rattle.steps_shown.proofs.Meeting.{requests, reads, bits_stay}
-use Rattle.steps_shown.proofs.asked_law.Goals as goal
-
-pub returns : goal.returns
-returns g c = record {
-  requests = λ lens before r behind k v sent x bit ring own ask. requests lens before r behind k v sent ring x own bit ask;
-  reads = λ lens before r behind k v sent x bit ring own ask. reads lens before r behind k v sent ring x own bit ask;
-  stays = λ lens before r behind k v sent ring none. bits_stay lens before r behind k v sent ring none;
-}
