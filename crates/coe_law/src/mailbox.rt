@@ -66,7 +66,6 @@ pub struct Mailboxes {
 }
 
 impl Model for Mailboxes {
-
     ghost Value = { Post };
 
     ghost view = { λ m. record { out = m.outward; back = m.inward } };

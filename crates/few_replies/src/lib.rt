@@ -24,7 +24,6 @@ ghost use Rattle.slave_parts.specs.of_slave_model.Profile.{Profile, IsProfile};
 ghost use Rattle.slave_parts.specs.of_slave_model.Server.{Server};
 ghost use Rattle.std.specs.Prelude.{◌≡◌, ◌≤◌, ℕ, true, false, length};
 
-
 /// A SLAVE ANSWERS ONE MAIL WITH FEW: of whatever protocol it is, valid or not, in each AL state and whatever transfers are unfinished, it gives no more
 /// mails than the parts of an information, the fragments of an element, those of a packet that goes back, or an answer with an emergency. Only a
 /// download to the entry 2F01:01, which sends a packet, is apart; and where none was begun, none is unfinished behind the mail.

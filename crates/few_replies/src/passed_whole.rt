@@ -11,7 +11,6 @@ ghost use Rattle.segment_model.specs.Slaves.{Registers, Processor, Slave};
 ghost use Rattle.serving_model.specs.Tagged.{IsServed, Tagged, Asked, Rowed, ideal, tagged};
 ghost use Rattle.std.specs.Prelude.{◌≡◌, ℕ, Bool, Option, List};
 
-
 /// A service of one mail that is always answered isn't over before a reply of it was heard: a master that reads the status of mailbox 0 only where
 /// nothing is in doubt, and counts an empty read of mailbox 1 only behind a step of the slave, hears it first.
 pub fn heard_law<V, A, M, Q, R>()

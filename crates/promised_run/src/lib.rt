@@ -21,16 +21,16 @@ pub mod toured_servings;
 
 use crate::bounded_runs::fewer_law;
 use life_runs::epochs_law;
+use life_runs::served_runs::run_served_law;
 use plan_ring::plan_dues::plan_due_law;
 use plan_ring::plan_rooms::room_law;
 use run_book::{Book, Ending};
-use run_promises::{read_promise_law, rest_promise_law};
 use run_frames::script_runs::script_run_law;
-use segment_plan::Scenario;
 use run_promises::accepted_mails::accepted_law;
 use run_promises::whole_packets::whole_packets_law;
+use run_promises::{read_promise_law, rest_promise_law};
+use segment_plan::Scenario;
 use served_rings::served_replies::served_replies_law;
-use life_runs::served_runs::run_served_law;
 use std::alloc::Global;
 
 /// Runs a plan that was read, as `run_record` does. Whatever frames are lost, each slave begins just the first services of its script, each once and

@@ -73,7 +73,6 @@ module _ {S : Type 0} (o : Files S) (law : AreLawful o) (areas : Areas) (sized :
           let count = read_counts areas name pass hs ReplyKind.Value (o.get v.app name) reply in
           let more : length (full o areas v (read name pass)) ≡ 1 + length hs = ap length (sym (l.all_planned v (read name pass) ready valid)) ∙ count in
           absurd (let no : true ≡ false = sym (lt-ltb (length hs) (length (full o areas v (read name pass))) (omega (arith, more))) ∙ quiet in cc)
-
   foe_last v (write name pass bytes) ready valid answers quiet p r e same = all_there v (write name pass bytes) (write_asked v name pass bytes) p r e same
 
   pub foe_mail_last : AreSpelled o → AnswersLast (foe_mail_exchange o areas) is_file_read

@@ -6,7 +6,6 @@ ghost use Rattle.life_runs.specs.of_segment_plan.declared.plan.Scenario.{Scenari
 ghost use Rattle.run_frames.specs.Slaves.{AllCome};
 ghost use Rattle.std.specs.Prelude.{ℕ, List};
 
-
 /// OF EACH SLAVE'S SCRIPT just the first services came into hand, each once and in order, with the packets of its port among them, over all epochs of
 /// its life and whatever frames are lost.
 pub fn script_run_law()

@@ -11,7 +11,6 @@ ghost use Rattle.segment_plan.specs.declared.plan.Scenario.{Scenario};
 ghost use Rattle.run_promises.specs.Sent.{AllSend};
 ghost use Rattle.std.specs.Prelude.{ℕ, List};
 
-
 /// WHAT A MASTER JOINED OF A SLAVE'S PACKETS over a run weighs no more, whatever each packet weighs, than what the services that came into hand of it may
 /// make it send: each service makes it send its packet once at most, in whatever epoch, whatever frames are lost and whoever is given up.
 pub fn sent_law()

@@ -74,7 +74,7 @@ module _ {N M P Q S R : Type 0} (f : N → M) (g : P → Q) (h : S → R) where
     over_by r holding fresh held none over hands b c is was =
         (λ i. is_none_left (none i) && (if is i && none_same r.answer i then is_none (box_as f (held i)) else some_same {Y = R × ℕ} (λ (a : S × ℕ). (h a.0, a.1)) r.answer i && not fresh))
         ∙ by b c is was r.answer (sym (ap (λ (d : Bool). if d && is_none r.answer then is_none holding else is_some r.answer && not fresh) was)
-            ∙ and_right (is_none_left (left z r)) (if z.handed r.service && is_none r.answer then is_none holding else is_some r.answer && not fresh) over)
+        ∙ and_right (is_none_left (left z r)) (if z.handed r.service && is_none r.answer then is_none holding else is_some r.answer && not fresh) over)
       where
         none_same : (a : Option (S × ℕ)) → is_none {T = R × ℕ} (option_map (λ (k : S × ℕ). (h k.0, k.1)) a) ≡ is_none a
         none_same None = refl

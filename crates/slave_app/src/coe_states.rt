@@ -14,7 +14,6 @@ ghost use Rattle.state_model.specs.Families.{states_of};
 ghost use Rattle.state_model.specs.Stated.{IsStated};
 ghost use Rattle.std.specs.Prelude.{◌≡◌, ℕ, Bool, length};
 
-
 /// Each mail of an SDO or information service brings a reply, so where all replies came, all mails were taken.
 pub fn coe_answers_last<S>()
     ensures messages { (o : Tables S) (eoe : Bool) (areas : Areas) → AreLawful o → AreMailboxes areas → AnswersLast (coe_exchange o eoe areas) acknowledged }

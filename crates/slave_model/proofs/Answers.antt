@@ -91,7 +91,7 @@ module _ {V A M Q R : Type 0} (x : Exchange V A M Q R) (s : Stated V A Q) (table
       let equal : acts (plain x.speech.emission (given x.serve c.server (mails p))) ≡ acts (plain x.speech.emission (given x.serve c.server full)) =
       sym (plain_given_acts x s table c (mails p)) ∙ ap (λ l. plain (with_states x s table).speech.emission (given (with_states x s table).serve c l)) front ∙ same ∙ plain_given_acts x s table c full in
       let unheard : outnumbers full (plain x.speech.emission (given x.serve c.server full))
-          ≡ outnumbers (acts full) (plain (with_states x s table).speech.emission (given (with_states x s table).serve c (acts full))) =
+      ≡ outnumbers (acts full) (plain (with_states x s table).speech.emission (given (with_states x s table).serve c (acts full))) =
       ap₂ nat_lt (sym (acts_length (plain x.speech.emission (given x.serve c.server full))) ∙ ap length (sym (plain_given_acts x s table c full))) (sym (acts_length full)) in
       sym (rest_acts full p r e) ∙ ap acts (stated.last c.server q ready valid replies (ap (λ b. s.acknowledged q && b) unheard ∙ quiet) (mails p) (mails r) (cut_mails full p r e) (acts_same _ _ equal))
   states_last c (Service.State target) ready valid replies quiet p r e same = absurd (let no : true ≡ false = replies in cc)

@@ -23,7 +23,6 @@ ghost use Rattle.state_model.specs.Stated.{Stated, with_states};
 ghost use Rattle.state_model.specs.States.{Table};
 ghost use Rattle.std.specs.Prelude.{ℕ, Bool};
 
-
 /// So it is of each protocol's client: of SDO and of files each answer brings the next mail or the end, and elements, packets and address blocks are told
 /// whatever was heard.
 pub fn protocols_law<S>()

@@ -2,13 +2,13 @@ ghost use Rattle.std.specs.Prelude.{◌≡◌, ◌≤◌, ◌<◌, ◌+◌, IfOk
 ghost use Rattle.slave_node.specs.Node.{new_node, node_passed, is_settled};
 ghost use Rattle.slave_node.specs.Step.{pdi_step};
 
+use crate::slave_steps::Clear;
 use al_state::Al;
 use datagrams::FrameBuf;
 use ec_fields::NoMemory;
 use esc_registers::Esc;
 use mailbox_slave::{Server, SlaveBox};
 use segment_ring::Slave;
-use crate::slave_steps::Clear;
 use std::alloc::Global;
 use std::marker::Model;
 

@@ -12,7 +12,6 @@ ghost use Rattle.slave_parts.specs.Served.{product_whole, AreFilesServed};
 ghost use Rattle.slave_model.specs.of_state_model.Families.{InState, states_of};
 ghost use Rattle.std.specs.Prelude.{◌≡◌};
 
-
 /// The one exchange of a session owes the laws of its services from whatever server: a mail of another sender may have left unfinished transfers
 /// of any protocol. The AL state is a part of the server. It takes each mail as the exchange of a session does.
 pub fn slave_is_served<T, F, I>()

@@ -36,7 +36,6 @@ impl Server for SlaveServer {
 }
 
 impl Clear for SlaveServer {
-
     ghost cleared = { cleared };
 
     fn clear(&mut self) {
