@@ -1,6 +1,6 @@
 use Rattle.std.specs.Prelude.{ℕ, Bool, true, false, not, ◌==◌, ◌&&◌, nat_le, if◌then◌else◌, List, [], ◌∷◌, ◌++◌, length}
 use Rattle.byteorder.specs.Endian.{little_bytes}
-use Rattle.ec_fields.specs.Fields.{number_at}
+use Rattle.datagrams.specs.of_ec_fields.Fields.{number_at}
 use Rattle.datagrams.specs.declared.command.Command.{Command}
 use Rattle.datagrams.specs.declared.command.Command.TheVariants.{Aprd, Apwr, Fpwr, Fprd}
 use Rattle.datagrams.specs.declared.head.Head.{Head}

@@ -1,5 +1,5 @@
 use Rattle.std.specs.Prelude.{ℕ, ◌+◌, ◌==◌, if◌then◌else◌}
-use Rattle.ec_fields.specs.Fields.{bits_of}
+use Rattle.datagrams.specs.of_ec_fields.Fields.{bits_of}
 use Rattle.al_state.specs.declared.climbing.Climb.{Climb}
 use Rattle.al_state.specs.declared.climbing.Climb.TheVariants.{Ask, Await, Acknowledge, Recover, Arrived, Refused}
 use Rattle.al_state.specs.declared.climbing.ClimbNext.{ClimbNext}

@@ -1,5 +1,5 @@
-pub use Rattle.ec_fields.specs as of_ec_fields
 pub use Rattle.datagrams.specs as of_datagrams
+pub use Rattle.datagrams.specs.of_ec_fields as of_ec_fields
 pub mod BringUp
 pub mod Climb
 pub mod Request

@@ -1,5 +1,5 @@
 use Rattle.std.specs.Prelude.{ℕ, Bool, not, ◌==◌, ◌&&◌, ◌||◌, if◌then◌else◌, Option, Some, None}
-use Rattle.ec_fields.specs.Fields.{bits_of}
+use Rattle.datagrams.specs.of_ec_fields.Fields.{bits_of}
 use Rattle.al_state.specs.declared.machine.Al.{Al}
 use Rattle.al_state.specs.declared.machine.Asked.{Asked}
 use Rattle.al_state.specs.declared.machine.Asked.TheVariants.{Changed, Ignored, Refused}

@@ -1,8 +1,8 @@
 ghost use Rattle.std.specs.Prelude.{◌≡◌, ◌≢◌, ◌↔◌};
-ghost use Rattle.ec_fields.specs.Fields.{bits_of};
+ghost use Rattle.datagrams.specs.of_ec_fields.Fields.{bits_of};
 ghost use Rattle.al_state.specs.Request.{is_state, is_change, refusal_of, carried, request_of};
 
-use ec_fields::bits;
+use datagrams::ec_fields::bits;
 
 /// Init.
 pub const INIT: u8 = 1;

@@ -1,6 +1,6 @@
 -- The openings in a capture that obeys the rules.
 use Rattle.std.proofs.Common.{◌≡◌, ℕ, false, List, ◌∷◌, ◌++◌, ap, ◌∙◌, subst}
-use Rattle.pcap_frames.specs.declared.capture.Capture.{Capture}
+use Rattle.capture_audit.specs.of_pcap_frames.declared.capture.Capture.{Capture}
 use Rattle.mailbox_law.specs.Steps.{first_link, given, link_behind}
 use Rattle.mailbox_law.specs.declared.steps.LinkStep.{LinkStep}
 use Rattle.capture_audit.specs.declared.station.StationAudit.{StationAudit}
@@ -8,8 +8,7 @@ use Rattle.capture_audit.specs.declared.verdict.Verdict.TheVariants.{Yes}
 use Rattle.capture_audit.specs.Exchanges.{Sent, exchanges}
 use Rattle.capture_audit.specs.Rules.{new_link}
 use Rattle.capture_audit.specs.Audit.{first_known, met, verdict_of, with_mails}
-use Rattle.capture_audit.specs.Causes.{behind, all_of}
-use Rattle.capture_audit.specs.Causes.{Obeys as KeepsRules}
+use Rattle.capture_audit.specs.Causes.{behind, all_of, Obeys as KeepsRules}
 use Rattle.capture_audit.proofs.Causes.{yes_cause, obeys_front, obeys_rest}
 use Rattle.audit_law.specs.Told.{Obeys, told, sent_by, accepted_by}
 use Rattle.audit_law.specs.Possible.{Possible, IsOnce}

@@ -1,13 +1,13 @@
 -- One opening: what was taken and accepted of what was told.
 use Rattle.std.proofs.Common.{◌≡◌, ℕ, ◌≤◌, Bool, true, false, List, [], ◌∷◌, ◌++◌, map, length, refl, sym, ap, ◌∙◌, subst, append_assoc, append-nil, Option, Some, None, if◌then◌else◌, arith, length-append}
 use Rattle.std.proofs.lemmas.List.{append_cancel_right}
-use Rattle.mailbox_mail.specs.declared.mail.Mail.{Mail}
-use Rattle.link_model.specs.Mails.{LinkMail, is_repeat, news, seen, bodies}
-use Rattle.link_model.specs.Slave.{node_look, is_free}
-use Rattle.link_model.specs.Link.{Link, happens, run, held_after, out_side_after, in_news}
-use Rattle.link_model.specs.Agree.{Agrees, last_met_of, unread}
-use Rattle.link_model.proofs.Law.{happens_keeps, run_keeps, new_agrees}
-use Rattle.link_mails.specs.Body.{Body}
+use Rattle.capture_audit.specs.of_mailbox_mail.declared.mail.Mail.{Mail}
+use Rattle.mailbox_law.specs.of_link_model.Mails.{LinkMail, is_repeat, news, seen, bodies}
+use Rattle.mailbox_law.specs.of_link_model.Slave.{node_look, is_free}
+use Rattle.mailbox_law.specs.of_link_model.Link.{Link, happens, run, held_after, out_side_after, in_news}
+use Rattle.mailbox_law.specs.of_link_model.Agree.{Agrees, last_met_of, unread}
+use Rattle.mailbox_law.proofs.of_link_model.Law.{happens_keeps, run_keeps, new_agrees}
+use Rattle.mailbox_law.specs.of_link_mails.Body.{Body}
 use Rattle.mailbox_law.specs.Waiting.{keeper, bodies_of}
 use Rattle.mailbox_law.specs.Steps.{event_of, fate_of, first_link, given, link_behind}
 use Rattle.mailbox_law.specs.declared.steps.LinkFate.{LinkFate}
@@ -18,8 +18,7 @@ use Rattle.capture_audit.specs.declared.access.MailAccess.{MailAccess}
 use Rattle.capture_audit.specs.declared.access.MailAccess.TheVariants.{WriteMail}
 use Rattle.capture_audit.specs.declared.link.Link.{Link as AuditLink}
 use Rattle.capture_audit.specs.Rules.{link_rule, link_on, mails_sent, mails_accepted, new_link}
-use Rattle.audit_law.specs.Told.{Told, Obeys, sent_by, accepted_by}
-use Rattle.audit_law.specs.Told.{link_behind as told_behind}
+use Rattle.audit_law.specs.Told.{Told, Obeys, sent_by, accepted_by, link_behind as told_behind}
 use Rattle.audit_law.specs.Possible.{access_by, SendsMail, SendsInward, Possible, IsOnce}
 use Rattle.audit_law.proofs.Tracks.{state_of, TracksOut, Tracks, bodies-append, seen_served, side_out, hold_out, out_tracks, write_inward, in_tracks}
 

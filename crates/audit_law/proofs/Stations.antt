@@ -1,8 +1,8 @@
 -- What the datagrams of a capture do to what is known of one station.
 use Rattle.std.proofs.Common.{◌≡◌, ℕ, ◌==◌, Bool, true, false, not, ◌&&◌, ◌||◌, if◌then◌else◌, is_some, List, [], ◌∷◌, ◌++◌, length, refl, sym, ap, ◌∙◌, subst, append_assoc, append-nil, Option, Some, None, arith}
 use Rattle.std.proofs.lemmas.Bool.Decides.{nat_tests}
-use Rattle.ec_fields.specs.Fields.{number_at}
-use Rattle.mailbox_mail.specs.declared.mail.Mail.{Mail}
+use Rattle.mailbox_law.specs.of_ec_fields.Fields.{number_at}
+use Rattle.capture_audit.specs.of_mailbox_mail.declared.mail.Mail.{Mail}
 use Rattle.capture_audit.specs.declared.access.Access.{Access}
 use Rattle.capture_audit.specs.declared.access.Access.TheVariants.{Manager, Mailbox, Other}
 use Rattle.capture_audit.specs.declared.access.Manager.{Manager as WhichManager}
@@ -16,8 +16,7 @@ use Rattle.capture_audit.specs.Access.{access_of}
 use Rattle.capture_audit.specs.Exchanges.{Sent}
 use Rattle.capture_audit.specs.Rules.{link_rule, link_on, mails_sent, mails_accepted, is_done}
 use Rattle.capture_audit.specs.Audit.{row_of, changed_at, new_seat, new_station, seat_of, seat_changed, station_changed, with_mails, enables, opened_by, enabled, disabled, managed, other_enabled, opens, station_of, mailbox_rule, rule_by, rule_at, mailbox_met, manager_met, met_by, met}
-use Rattle.capture_audit.specs.Causes.{behind}
-use Rattle.capture_audit.specs.Causes.{Obeys as KeepsRules}
+use Rattle.capture_audit.specs.Causes.{behind, Obeys as KeepsRules}
 use Rattle.audit_law.specs.Told.{Told, told_by, told, Obeys, link_behind, sent_by, accepted_by}
 use Rattle.audit_law.specs.Openings.{turns_by, turns, Stays, mails_of, AddsMails}
 

@@ -5,15 +5,15 @@ use Rattle.std.specs.Str.{bytes_eq}
 use Rattle.std.proofs.lemmas.Slice.Eq.{bytes_eq-Decides}
 use Rattle.std.proofs.lemmas.Grind.{common_steps}
 use Rattle.std.proofs.lemmas.Bool.Decides.{nat_tests}
-use Rattle.mailbox_mail.specs.declared.mail.Mail.{Mail}
-use Rattle.mailbox_mail.specs.declared.mail.MailFault.{MailFault}
-use Rattle.mailbox_mail.specs.Mail.{mail_read}
-use Rattle.link_model.specs.Counters.{next_counter}
-use Rattle.link_model.specs.Mails.{LinkMail, is_repeat, news, seen, differs}
-use Rattle.link_model.specs.Master.{InHalf, InState, OutHalf, read_lost, read_answered}
-use Rattle.link_model.specs.Slave.{OutSide, served}
-use Rattle.link_model.specs.Link.{Link, written, write_counter, out_half_after, in_half_after, in_news}
-use Rattle.link_mails.specs.Body.{Body, link_mail, uncounted, bit_1}
+use Rattle.capture_audit.specs.of_mailbox_mail.declared.mail.Mail.{Mail}
+use Rattle.capture_audit.specs.of_mailbox_mail.declared.mail.MailFault.{MailFault}
+use Rattle.capture_audit.specs.of_mailbox_mail.Mail.{mail_read}
+use Rattle.mailbox_law.specs.of_link_model.Counters.{next_counter}
+use Rattle.mailbox_law.specs.of_link_model.Mails.{LinkMail, is_repeat, news, seen, differs}
+use Rattle.mailbox_law.specs.of_link_model.Master.{InHalf, InState, OutHalf, read_lost, read_answered}
+use Rattle.mailbox_law.specs.of_link_model.Slave.{OutSide, served}
+use Rattle.mailbox_law.specs.of_link_model.Link.{Link, written, write_counter, out_half_after, in_half_after, in_news}
+use Rattle.mailbox_law.specs.of_link_mails.Body.{Body, link_mail, uncounted, bit_1}
 use Rattle.mailbox_law.specs.Waiting.{bodies_of}
 use Rattle.mailbox_law.specs.Steps.{fate_of}
 use Rattle.mailbox_law.specs.declared.steps.LinkFate.{LinkFate}
@@ -25,7 +25,7 @@ use Rattle.capture_audit.specs.declared.link.Inward.{Inward}
 use Rattle.capture_audit.specs.declared.link.Inward.TheVariants.{Clear, Doubt, Asked, Refetch}
 use Rattle.capture_audit.specs.declared.rule.Rule.{Rule}
 use Rattle.capture_audit.specs.declared.rule.Rule.TheVariants.{NoMail, OtherMail, BadReturn}
-use Rattle.mailbox_mail.specs.Counter.{counter_behind}
+use Rattle.capture_audit.specs.of_mailbox_mail.Counter.{counter_behind}
 use Rattle.capture_audit.specs.Exchanges.{Return, Sent}
 use Rattle.capture_audit.specs.Rules.{link_rule, link_on, mails_sent, mails_accepted, write_rule, return_rule, sent_rule, first_rule, goes_on, write_on, mail_written, is_done, is_due, read_on, accept_on, mail_new, mail_back, request_on, acknowledge_on, same_bit}
 use Rattle.audit_law.specs.Possible.{access_by, WriteReturns, InwardReturns}

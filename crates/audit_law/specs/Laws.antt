@@ -1,6 +1,6 @@
 -- What the laws say of an opening of a link, and of a capture that obeys the rules.
 use Rattle.std.specs.Prelude.{◌≡◌, ℕ, List, false}
-use Rattle.pcap_frames.specs.declared.capture.Capture.{Capture}
+use Rattle.capture_audit.specs.of_pcap_frames.declared.capture.Capture.{Capture}
 use Rattle.mailbox_law.specs.Steps.{first_link, given, link_behind}
 use Rattle.mailbox_law.specs.declared.steps.LinkStep.{LinkStep}
 use Rattle.capture_audit.specs.declared.station.StationAudit.{StationAudit}

@@ -1,6 +1,6 @@
 -- The openings of a station's link in a capture.
 use Rattle.std.specs.Prelude.{◌≡◌, ℕ, ◌==◌, ◌&&◌, ◌||◌, not, Bool, true, false, List, [], ◌∷◌, ◌++◌, length, Some, ⊤}
-use Rattle.pcap_frames.specs.declared.capture.Capture.{Capture}
+use Rattle.capture_audit.specs.of_pcap_frames.declared.capture.Capture.{Capture}
 use Rattle.capture_audit.specs.declared.access.Access.{Access}
 use Rattle.capture_audit.specs.declared.access.Access.TheVariants.{Manager}
 use Rattle.capture_audit.specs.declared.access.Manager.{Manager as WhichManager}

@@ -1,12 +1,12 @@
 -- Which steps of a link may have been behind the accesses that were told.
 use Rattle.std.specs.Prelude.{◌≡◌, ℕ, ◌≤◌, Bool, List, [], ◌∷◌, ◌++◌, length, slice_index, Option, Some, None, Ok}
-use Rattle.mailbox_mail.specs.declared.mail.Mail.{Mail}
-use Rattle.mailbox_mail.specs.Mail.{mail_read}
-use Rattle.link_model.specs.Mails.{LinkMail, IsPrefixOf}
-use Rattle.link_model.specs.Master.{InState}
-use Rattle.link_model.specs.Link.{Link, happens, write_counter}
-use Rattle.link_mails.specs.Body.{Body, link_mail, bit_1}
-use Rattle.mailbox_master.specs.Any.{in_access}
+use Rattle.capture_audit.specs.of_mailbox_mail.declared.mail.Mail.{Mail}
+use Rattle.capture_audit.specs.of_mailbox_mail.Mail.{mail_read}
+use Rattle.mailbox_law.specs.of_link_model.Mails.{LinkMail, IsPrefixOf}
+use Rattle.mailbox_law.specs.of_link_model.Master.{InState}
+use Rattle.mailbox_law.specs.of_link_model.Link.{Link, happens, write_counter}
+use Rattle.mailbox_law.specs.of_link_mails.Body.{Body, link_mail, bit_1}
+use Rattle.mailbox_law.specs.of_mailbox_master.Any.{in_access}
 use Rattle.mailbox_law.specs.Waiting.{keeper, bodies_of}
 use Rattle.mailbox_law.specs.Steps.{event_of, FitsLink}
 use Rattle.mailbox_law.specs.declared.steps.LinkFate.{LinkFate}

@@ -1,6 +1,6 @@
 -- The told accesses of a mailbox link while it is open, and how the link of an audit goes on by them.
 use Rattle.std.specs.Prelude.{◌≡◌, ℕ, ◌==◌, if◌then◌else◌, List, [], ◌∷◌, ◌++◌, length, None, ⊤}
-use Rattle.mailbox_mail.specs.declared.mail.Mail.{Mail}
+use Rattle.capture_audit.specs.of_mailbox_mail.declared.mail.Mail.{Mail}
 use Rattle.capture_audit.specs.declared.access.Access.{Access}
 use Rattle.capture_audit.specs.declared.access.Access.TheVariants.{Mailbox}
 use Rattle.capture_audit.specs.declared.access.MailAccess.{MailAccess}

@@ -5,4 +5,5 @@
 mod chain;
 mod pool;
 
+pub use ec_fields;
 pub use pool::{ChainId, Pool, PoolFull};

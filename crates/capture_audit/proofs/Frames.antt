@@ -3,7 +3,7 @@ use Rattle.std.proofs.Common.{◌≡◌, ℕ, zero, suc, ◌==◌, Bool, true, f
 use Rattle.std.specs.Prelude.{All, IsTrue, ◌↔◌}
 use Rattle.std.specs.Str.{bytes_eq}
 use Rattle.std.proofs.lemmas.Slice.Eq.{bytes_eq-Decides}
-use Rattle.datagrams.specs.declared.frame.Part.{Part}
+use Rattle.capture_view.specs.of_datagrams.declared.frame.Part.{Part}
 use Rattle.capture_audit.specs.Exchanges.{same_lengths}
 
 lengths_behind : (b : Bool) (xs ys : List Part) → false ≡ same_lengths xs ys → false ≡ (b && same_lengths xs ys)

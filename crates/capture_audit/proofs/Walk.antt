@@ -1,6 +1,6 @@
 -- The walk over the packets of a capture.
 use Rattle.std.proofs.Common.{◌≡◌, ℕ, zero, suc, ◌+◌, true, false, List, [], ◌∷◌, drop, refl, sym, ap, ◌∙◌, arith, subst, Result, Ok, Err, IfOk}
-use Rattle.pcap_frames.specs.declared.capture.PacketAt.{PacketAt}
+use Rattle.capture_view.specs.of_pcap_frames.declared.capture.PacketAt.{PacketAt}
 use Rattle.capture_audit.specs.declared.known.Known.{Known}
 use Rattle.capture_audit.specs.declared.verdict.Verdict.{Verdict}
 use Rattle.capture_audit.specs.Exchanges.{Exchange, exchanges}

@@ -1,8 +1,8 @@
 -- What a datagram is to an audit.
 use Rattle.std.specs.Prelude.{ℕ, ◌==◌, ◌&&◌, if◌then◌else◌}
-use Rattle.datagrams.specs.declared.head.Head.{Head}
-use Rattle.datagrams.specs.declared.command.Command.{Command}
-use Rattle.datagrams.specs.declared.command.Command.TheVariants as commands
+use Rattle.capture_view.specs.of_datagrams.declared.head.Head.{Head}
+use Rattle.capture_view.specs.of_datagrams.declared.command.Command.{Command}
+use Rattle.capture_view.specs.of_datagrams.declared.command.Command.TheVariants as commands
 use Rattle.capture_audit.specs.declared.access.Access.{Access}
 use Rattle.capture_audit.specs.declared.access.Access.TheVariants.{Manager, Mailbox, Other}
 use Rattle.capture_audit.specs.declared.access.Manager.TheVariants as managers

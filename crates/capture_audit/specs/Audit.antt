@@ -1,8 +1,8 @@
 -- Stations, the links that open and close at them, and the verdict.
 use Rattle.std.specs.Prelude.{ℕ, ◌%◌, ◌==◌, Bool, false, not, is_some, ◌&&◌, if◌then◌else◌, List, [], ◌∷◌, ◌++◌, length, slice_index, Option, Some, None, Result, Ok, Err}
-use Rattle.ec_fields.specs.Fields.{number_at}
-use Rattle.mailbox_mail.specs.declared.mail.Mail.{Mail}
-use Rattle.pcap_frames.specs.declared.capture.Capture.{Capture}
+use Rattle.capture_view.specs.of_ec_fields.Fields.{number_at}
+use Rattle.capture_view.specs.of_mailbox_mail.declared.mail.Mail.{Mail}
+use Rattle.capture_view.specs.of_pcap_frames.declared.capture.Capture.{Capture}
 use Rattle.capture_audit.specs.declared.access.Access.{Access}
 use Rattle.capture_audit.specs.declared.access.Access.TheVariants.{Manager, Mailbox, Other}
 use Rattle.capture_audit.specs.declared.access.Manager.{Manager as WhichManager}

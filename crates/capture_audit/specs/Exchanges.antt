@@ -1,11 +1,11 @@
 -- The exchanges of a capture: frames that were sent, with what returned of each.
 use Rattle.std.specs.Prelude.{ℕ, ◌+◌, ◌==◌, ◌&&◌, Bool, true, false, is_some, if◌then◌else◌, List, [], ◌∷◌, slice_get, Option, Some, None, option_map, Result, Ok, Err}
-use Rattle.datagrams.specs.declared.head.Head.{Head}
-use Rattle.datagrams.specs.declared.frame.Frame.{Frame}
-use Rattle.datagrams.specs.declared.frame.FrameFault.{FrameFault}
-use Rattle.datagrams.specs.declared.frame.Part.{Part}
-use Rattle.datagrams.specs.Frame.{frame_read}
-use Rattle.pcap_frames.specs.declared.capture.PacketAt.{PacketAt}
+use Rattle.capture_view.specs.of_datagrams.declared.head.Head.{Head}
+use Rattle.capture_view.specs.of_datagrams.declared.frame.Frame.{Frame}
+use Rattle.capture_view.specs.of_datagrams.declared.frame.FrameFault.{FrameFault}
+use Rattle.capture_view.specs.of_datagrams.declared.frame.Part.{Part}
+use Rattle.capture_view.specs.of_datagrams.Frame.{frame_read}
+use Rattle.capture_view.specs.of_pcap_frames.declared.capture.PacketAt.{PacketAt}
 use Rattle.capture_view.specs.View.{octets_of, body_of}
 
 -- what returned of a datagram: its working counter and its body

@@ -1,7 +1,7 @@
 -- What an access of a mailbox does to its link and its station.
 use Rattle.std.specs.Prelude.{◌≡◌, ℕ, Bool, not, if◌then◌else◌, List, [], ◌∷◌, Some, None, Result, Ok, Err}
-use Rattle.mailbox_mail.specs.declared.mail.Mail.{Mail}
-use Rattle.mailbox_mail.specs.declared.mail.MailFault.{MailFault}
+use Rattle.capture_view.specs.of_mailbox_mail.declared.mail.Mail.{Mail}
+use Rattle.capture_view.specs.of_mailbox_mail.declared.mail.MailFault.{MailFault}
 use Rattle.capture_audit.specs.declared.access.MailAccess.{MailAccess}
 use Rattle.capture_audit.specs.declared.link.Link.{Link}
 use Rattle.capture_audit.specs.declared.link.Moved.{Moved}

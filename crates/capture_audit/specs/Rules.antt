@@ -1,10 +1,10 @@
 -- The rules of the mailboxes, and how an open link goes on by its datagrams.
 use Rattle.std.specs.Prelude.{ℕ, ◌/◌, ◌%◌, ◌==◌, Bool, true, false, not, ◌&&◌, ◌||◌, if◌then◌else◌, List, [], ◌∷◌, length, replicate, slice_index, Option, Some, None, Result, Ok, Err}
 use Rattle.std.specs.Str.{bytes_eq}
-use Rattle.mailbox_mail.specs.declared.mail.Mail.{Mail}
-use Rattle.mailbox_mail.specs.declared.mail.MailFault.{MailFault}
-use Rattle.mailbox_mail.specs.Mail.{mail_read}
-use Rattle.mailbox_mail.specs.Counter.{counter_behind}
+use Rattle.capture_view.specs.of_mailbox_mail.declared.mail.Mail.{Mail}
+use Rattle.capture_view.specs.of_mailbox_mail.declared.mail.MailFault.{MailFault}
+use Rattle.capture_view.specs.of_mailbox_mail.Mail.{mail_read}
+use Rattle.capture_view.specs.of_mailbox_mail.Counter.{counter_behind}
 use Rattle.capture_audit.specs.declared.rule.Rule.{Rule}
 use Rattle.capture_audit.specs.declared.rule.Rule.TheVariants.{NoMail, OtherMail, OtherAccess, BadReturn, NotOpen}
 use Rattle.capture_audit.specs.declared.access.MailAccess.{MailAccess}

@@ -1,7 +1,7 @@
 -- Datagrams and frames as they stand in a file.
 use Rattle.std.specs.Prelude.{ℕ, List, All, option_map}
-use Rattle.datagrams.specs.Frame.{IsPart}
-use Rattle.datagrams.specs.declared.frame.Frame.{Frame}
+use Rattle.capture_view.specs.of_datagrams.Frame.{IsPart}
+use Rattle.capture_view.specs.of_datagrams.declared.frame.Frame.{Frame}
 use Rattle.capture_audit.specs.Exchanges.{Return, Sent, Found}
 use Rattle.capture_audit.specs.declared.exchange.Return.{Return as ReturnView}
 use Rattle.capture_audit.specs.declared.exchange.Datagram.{Datagram}

@@ -1,6 +1,6 @@
 ghost use Rattle.std.specs.Prelude.{◌≡◌, ◌<◌, ◌+◌, ◌^◌, false, Ok, length, option_map, All, IfOk, IfSome, is_some};
-ghost use Rattle.datagrams.specs.Frame.{IsPart, frame_read};
-ghost use Rattle.pcap_frames.specs.Reading.{capture_read};
+ghost use Rattle.capture_view.specs.of_datagrams.Frame.{IsPart, frame_read};
+ghost use Rattle.capture_view.specs.of_pcap_frames.Reading.{capture_read};
 ghost use Rattle.capture_view.specs.View.{IsWithin};
 ghost use Rattle.capture_audit.specs.Exchanges.{next_octets, return_as, datagrams_of, datagrams_in, returned, uses, exchanges};
 ghost use Rattle.capture_audit.specs.Seen.{found_seen, IsFound};
@@ -12,10 +12,10 @@ use crate::exchange::{FrameView, datagram_of, returned};
 use crate::known::Ledger;
 use crate::rule::Rule;
 use crate::verdict::Verdict;
+use capture_view::datagrams::{Part, read};
+use capture_view::ec_fields::NoMemory;
 use capture_view::octets_of;
-use datagrams::{Part, read};
-use ec_fields::NoMemory;
-use pcap_frames::{Capture, PacketAt};
+use capture_view::pcap_frames::{Capture, PacketAt};
 use std::alloc::Global;
 
 /// What a packet came to: whether the one behind it is its return, and the rule that it breaks.

@@ -1,10 +1,10 @@
 ghost use Rattle.std.specs.Prelude.{◌≡◌, IfSome, Some, All, option_map};
-ghost use Rattle.datagrams.specs.Frame.{IsPart, frame_read};
+ghost use Rattle.capture_view.specs.of_datagrams.Frame.{IsPart, frame_read};
 ghost use Rattle.capture_audit.specs.Exchanges.{same_lengths, same_index, return_as, back_at, datagram_of};
 ghost use Rattle.capture_audit.specs.Seen.{found_seen, datagram_seen, return_seen, frame_found, IsFound};
 
 use capture_view::body_of;
-use datagrams::{Frame, Head, Part, read};
+use capture_view::datagrams::{Frame, Head, Part, read};
 
 /// What returned of a datagram.
 #[derive(Clone, Copy)]

@@ -13,5 +13,6 @@ mod station;
 mod verdict;
 
 pub use auditing::audit;
+pub use capture_view;
 pub use station::StationAudit;
 pub use verdict::Verdict;

@@ -1,7 +1,7 @@
 ghost use Rattle.std.specs.Prelude.{◌≡◌, ◌==◌, ◌↔◌, IsTrue, All, [], ◌∷◌, replicate, slice_index, option_map, IfOk};
 ghost use Rattle.std.specs.Str.{bytes_eq};
-ghost use Rattle.mailbox_mail.specs.Mail.{mail_read};
-ghost use Rattle.mailbox_mail.specs.Counter.{counter_behind};
+ghost use Rattle.capture_view.specs.of_mailbox_mail.Mail.{mail_read};
+ghost use Rattle.capture_view.specs.of_mailbox_mail.Counter.{counter_behind};
 ghost use Rattle.capture_audit.specs.Rules.{new_link, write_rule, inward_rule, sent_rule, brings_due, return_rule, link_rule, accept_on, read_on, request_on, acknowledge_on, mail_new, mail_back, bit_1, same_bit, request_octet, is_done};
 ghost use Rattle.capture_audit.specs.Seen.{datagram_seen, return_seen};
 ghost use Rattle.capture_audit.specs.Moves.{sent_by, accepted_by, IsWritten, GoesOn};
@@ -9,8 +9,8 @@ ghost use Rattle.capture_audit.specs.Moves.{sent_by, accepted_by, IsWritten, Goe
 use crate::access::MailAccess;
 use crate::exchange::{Datagram, Return};
 use crate::rule::Rule;
-use ec_fields::{NoMemory, Octets};
-use mailbox_mail::{Mail, mail_of, view};
+use capture_view::ec_fields::{NoMemory, Octets};
+use capture_view::mailbox_mail::{Mail, mail_of, view};
 use std::alloc::Global;
 
 /// What the master's inward half sends next (ETG.1000.4, mailbox with repeat request and acknowledge).

@@ -1,6 +1,6 @@
 ghost use Rattle.std.specs.Prelude.{◌≡◌, ◌==◌, ◌<◌, [], ◌∷◌, ◌++◌, length, position, None, IfSome, IfOk, OnOk, OnErr};
 
-use ec_fields::{NoMemory, Rows};
+use capture_view::ec_fields::{NoMemory, Rows};
 use indexmap::IndexSet;
 use std::alloc::Global;
 use std::marker::Model;

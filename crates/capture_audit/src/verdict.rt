@@ -1,5 +1,5 @@
 use crate::station::StationAudit;
-use ec_fields::Rows;
+use capture_view::ec_fields::Rows;
 
 /// What an audit comes to.
 #[derive(Drop)]

@@ -2,7 +2,7 @@
 use Rattle.std.proofs.Common.{◌≡◌, ◌≤◌, ◌<◌, ℕ, zero, suc, ◌+◌, Bool, List, [], ◌∷◌, length, get_or, Ok, sym, ap, subst, arith, length-append}
 use Rattle.std.specs.Prelude.{All}
 use Rattle.byteorder.specs.Endian.{little_bytes, big_bytes}
-use Rattle.ec_fields.proofs.Cells.{AreOctets}
+use Rattle.coe_codec.proofs.of_ec_fields.Cells.{AreOctets}
 use Rattle.pcap_frames.specs.declared.capture.Capture.{Capture}
 use Rattle.pcap_frames.specs.declared.capture.PacketAt.{PacketAt}
 use Rattle.pcap_frames.specs.declared.order.Order.{Order}

@@ -1,7 +1,7 @@
 -- The line of a mail's body, by its protocol.
 use Rattle.std.specs.Prelude.{ℕ, Bool, ◌==◌, ◌&&◌, if◌then◌else◌, List, [], ◌++◌, length, slice_index, codes, Result, Ok, Err}
 use Rattle.std.specs.Fmt.{decimal}
-use Rattle.ec_fields.specs.Fields.{number_at, bits_of}
+use Rattle.coe_codec.specs.of_ec_fields.Fields.{number_at, bits_of}
 use Rattle.mailbox_mail.specs.declared.mail.Kind.{Kind}
 use Rattle.mailbox_mail.specs.declared.mail.Kind.TheVariants as kinds
 use Rattle.coe_codec.specs.declared.message.Coe.{Coe}

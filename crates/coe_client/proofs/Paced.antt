@@ -1,7 +1,7 @@
 -- A download keeps its pace: where its last answer comes and no mail may go, all its mails were sent.
 use Rattle.std.proofs.Common.{◌≡◌, inl, inr, ℕ, zero, suc, ◌+◌, ◌-◌, ◌<◌, ◌≤◌, Bool, true, false, not, ◌&&◌, nat_lt, nat_le, ◌==◌, List, [], ◌∷◌, length, take, drop, if◌then◌else◌, Some, is_some, refl, sym, ap, ◌∙◌, subst, arith, length-drop, ltb-true, leb-true, le-leb, lt-ltb, ne_eqb}
 use Rattle.std.proofs.lemmas.Bool.{cases_lt, leb-false}
-use Rattle.coe_codec.specs.declared.viewing.CoeView.{CoeView}
+use Rattle.protocol_models.specs.of_coe_codec.declared.viewing.CoeView.{CoeView}
 use Rattle.protocol_models.specs.CoeMails.{mail, Expedited, First, Segment}
 use Rattle.protocol_models.specs.Tables.{Target}
 use Rattle.protocol_models.specs.CoeServer.{is_expedited, parts_of}

@@ -2,9 +2,9 @@
 use Rattle.std.proofs.Common.{◌≡◌, inl, inr, ℕ, zero, suc, ◌+◌, ◌-◌, ◌<◌, ◌≤◌, Bool, true, false, not, ◌&&◌, nat_lt, nat_le, ◌==◌, List, [], ◌∷◌, ◌++◌, length, take, drop, replicate, if◌then◌else◌, Option, None, Some, refl, sym, ap, ◌∙◌, subst, arith, length-append, length-drop, length-take, drop-drop, take_all, ltb-true, leb-true, le-leb, ne_eqb}
 use Rattle.std.proofs.lemmas.List.{length-replicate}
 use Rattle.std.proofs.lemmas.Bool.{cases_lt, lt-leb, leb-false}
-use Rattle.exchange_model.specs.Dialogue.{Turn, next, again, stop, first_turn, turn_at, rest_at, said}
+use Rattle.protocol_models.specs.of_exchange_model.Dialogue.{Turn, next, again, stop, first_turn, turn_at, rest_at, said}
 use Rattle.object_dictionary.specs.declared.service.SdoService.{SdoService}
-use Rattle.coe_codec.specs.Writing.{HasSpelling, coe_text}
+use Rattle.protocol_models.specs.of_coe_codec.Writing.{HasSpelling, coe_text}
 use Rattle.protocol_models.specs.CoeMails.{Coe, CoeMail, mail, unread, failed, fragment, other, Expedited, First, Upload, Segment, UploadSegment, ListRequest, ObjectRequest, EntryRequest}
 use Rattle.protocol_models.specs.Tables.{Target, list, object, entry}
 use Rattle.protocol_models.specs.CoeServer.{is_expedited}

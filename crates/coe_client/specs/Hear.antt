@@ -1,7 +1,7 @@
 -- What a client makes of one mail, state by state.
 use Rattle.std.specs.Prelude.{◌≡◌, ℕ, ◌+◌, ◌-◌, ◌==◌, ◌||◌, not, nat_lt, Bool, true, false, List, [], ◌∷◌, ◌++◌, length, if◌then◌else◌, None, Some}
-use Rattle.mailbox_mail.specs.declared.outcome.ReplyKind.{ReplyKind}
-use Rattle.mailbox_mail.specs.declared.outcome.Took.{Took}
+use Rattle.protocol_models.specs.of_mailbox_mail.declared.outcome.ReplyKind.{ReplyKind}
+use Rattle.protocol_models.specs.of_mailbox_mail.declared.outcome.Took.{Took}
 use Rattle.protocol_models.specs.CoeMails.{Coe, DownloadAnswer, SegmentAnswer, ExpeditedAnswer, FirstAnswer, UploadSegmentAnswer, Information, InformationError, Abort, CoeMail, mail, failed}
 use Rattle.protocol_models.specs.CoeServer.{same, parts_of}
 use Rattle.protocol_models.specs.CoeClient.{is_of, most}

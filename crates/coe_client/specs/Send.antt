@@ -1,9 +1,9 @@
 -- What a client sends next.
 use Rattle.std.specs.Prelude.{◌≡◌, ℕ, ◌+◌, ◌-◌, ◌≤◌, ◌==◌, nat_le, Bool, true, false, not, List, [], ◌∷◌, length, take, drop, if◌then◌else◌, Option, None, Some}
-use Rattle.mailbox_mail.specs.declared.mail.Kind.TheVariants.{CoE}
-use Rattle.coe_codec.specs.View.{coe_seen}
-use Rattle.coe_codec.specs.Writing.{HasSpelling, coe_text}
-use Rattle.coe_codec.specs.declared.viewing.CoeView.{CoeView}
+use Rattle.protocol_models.specs.of_mailbox_mail.declared.mail.Kind.TheVariants.{CoE}
+use Rattle.protocol_models.specs.of_coe_codec.View.{coe_seen}
+use Rattle.protocol_models.specs.of_coe_codec.Writing.{HasSpelling, coe_text}
+use Rattle.protocol_models.specs.of_coe_codec.declared.viewing.CoeView.{CoeView}
 use Rattle.protocol_models.specs.CoeMails.{Coe, CoeMail, mail, Expedited, First, Upload, Segment, UploadSegment, ListRequest, ObjectRequest, EntryRequest}
 use Rattle.protocol_models.specs.CoeServer.{is_expedited}
 use Rattle.protocol_models.specs.CoeOctets.{body_heard, coe_mail_written, mail_with}

@@ -1,7 +1,7 @@
 -- What a client's state stands for: the mails that it has left to send, by what it will hear, and the reply that further mails complete.
 use Rattle.std.specs.Prelude.{ℕ, zero, suc, ◌+◌, ◌-◌, ◌≤◌, ◌&&◌, nat_lt, nat_le, ◌==◌, Bool, true, false, List, [], ◌∷◌, length, take, drop, if◌then◌else◌, Option, None, Some}
 use Rattle.object_dictionary.specs.declared.service.SdoService.{SdoService}
-use Rattle.exchange_model.specs.Dialogue.{Turn, next}
+use Rattle.protocol_models.specs.of_exchange_model.Dialogue.{Turn, next}
 use Rattle.protocol_models.specs.CoeMails.{Coe, CoeMail, mail, UploadSegmentAnswer, Upload, ListRequest, ObjectRequest, EntryRequest}
 use Rattle.protocol_models.specs.Tables.{Target, nowhere, list, object, entry}
 use Rattle.protocol_models.specs.CoeMeaning.{Service, download, upload, information, Reply}

@@ -3,14 +3,15 @@ ghost use Rattle.protocol_models.specs.CoeServer.{parts_of};
 ghost use Rattle.protocol_models.specs.CoeClient.{is_of};
 ghost use Rattle.protocol_models.specs.CoeOctets.{body_heard, coe_mail_heard};
 ghost use Rattle.coe_client.specs.Talk.{target_of, paced_with};
-ghost use Rattle.coe_codec.specs.View.{coe_seen, IsWithin};
+ghost use Rattle.protocol_models.specs.of_coe_codec.View.{coe_seen, IsWithin};
 ghost use Rattle.coe_client.specs.Hear.{onward, refused, valued, answered, parted, hear_acceptance, hear_segment, hear_whole, hear_first, hear_part, hear_information, hear_abort, hear_error, hear_failed, hear_message, hear_mail, TookIs};
 
 use crate::client::{CoeClient, MOST};
 use crate::state::{Awaits, Task, Unsent};
-use coe_codec::CoeView;
-use ec_fields::u16_at;
-use mailbox_mail::{Kind, Mail, ReplyKind, Took};
+use object_dictionary::ec_fields::u16_at;
+use protocol_models::coe_codec;
+use protocol_models::coe_codec::CoeView;
+use protocol_models::mailbox_mail::{Kind, Mail, ReplyKind, Took};
 
 impl CoeClient {
     // The number of mails that may go, behind an answer that lets one more go.

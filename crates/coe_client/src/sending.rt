@@ -1,6 +1,6 @@
 ghost use Rattle.std.specs.Prelude.{◌≡◌, ◌≤◌, ◌<◌, ◌+◌, ◌-◌, ◌↔◌, List, [], true, false, length, Some, IfSome};
 ghost use Rattle.std.specs.Bool.{OnTrue, OnFalse};
-ghost use Rattle.coe_codec.specs.View.{coe_seen, IsCapped};
+ghost use Rattle.protocol_models.specs.of_coe_codec.View.{coe_seen, IsCapped};
 ghost use Rattle.protocol_models.specs.CoeMails.{CoeMail};
 ghost use Rattle.coe_client.specs.Talk.{is_left, later, awaited};
 ghost use Rattle.coe_client.specs.Send.{send_download, send_first, send_segment, send, send_next, sent, sent_by, NextIs, SendsNext};
@@ -8,7 +8,8 @@ ghost use Rattle.coe_client.specs.Send.{send_download, send_first, send_segment,
 use crate::client::CoeClient;
 use crate::state::{Task, Unsent};
 use arrayvec::ArrayVec;
-use coe_codec::CoeView;
+use protocol_models::coe_codec;
+use protocol_models::coe_codec::CoeView;
 
 impl CoeClient {
     // The first mail of a download: all of the value, or its first part.

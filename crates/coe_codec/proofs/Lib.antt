@@ -1,2 +1,3 @@
+pub use Rattle.ec_fields.proofs as of_ec_fields
 pub mod Only
 pub mod Spelled

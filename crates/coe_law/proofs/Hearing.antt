@@ -1,18 +1,18 @@
 -- A client hears the mails that wait in a server, one behind the other.
 use Rattle.std.proofs.Common.{◌≡◌, ◌⊎◌, inl, inr, ℕ, zero, suc, ◌-◌, ◌≤◌, nat_le, take, drop, if◌then◌else◌, Bool, true, false, List, [], ◌∷◌, ◌++◌, length, None, Some, refl, sym, ap, subst, ◌∙◌, arith, append_assoc, length-append}
-use Rattle.exchange_model.specs.Exchange.{plain, emitted}
-use Rattle.exchange_model.specs.Lifted.{EachOf}
-use Rattle.exchange_model.proofs.Lists.{filter-append}
-use Rattle.exchange_model.proofs.Words.{plain-append}
-use Rattle.mailbox_mail.specs.declared.outcome.Took.{Took}
-use Rattle.protocol_models.specs.CoeMails.{CoeMail, mail, Coe, Emergency, Information, is_emission}
+use Rattle.coe_client.specs.of_exchange_model.Exchange.{plain, emitted}
+use Rattle.coe_client.specs.of_exchange_model.Lifted.{EachOf}
+use Rattle.coe_client.proofs.of_exchange_model.Lists.{filter-append}
+use Rattle.coe_client.proofs.of_exchange_model.Words.{plain-append}
+use Rattle.coe_client.specs.of_mailbox_mail.declared.outcome.Took.{Took}
+use Rattle.coe_client.specs.of_protocol_models.CoeMails.{CoeMail, mail, Coe, Emergency, Information, is_emission}
 use Rattle.arrayvec.specs.declared.array_vec.ArrayVec.{ArrayVec}
-use Rattle.protocol_models.specs.CoeMeaning.{Reply}
-use Rattle.protocol_models.specs.CoeServer.{information_parts, parts_of}
+use Rattle.coe_client.specs.of_protocol_models.CoeMeaning.{Reply}
+use Rattle.coe_client.specs.of_protocol_models.CoeServer.{information_parts, parts_of}
 use Rattle.coe_server.specs.declared.state.Pending.{Pending}
 use Rattle.coe_server.specs.declared.state.Emitted.{Emitted}
-use Rattle.mailbox_mail.specs.declared.mail.Mail.{Mail}
-use Rattle.protocol_models.specs.CoeOctets.{coe_mail_heard}
+use Rattle.coe_client.specs.of_mailbox_mail.declared.mail.Mail.{Mail}
+use Rattle.coe_client.specs.of_protocol_models.CoeOctets.{coe_mail_heard}
 use Rattle.coe_server.specs.Serving.{Serving, pending_mails, emergencies, waiting_mails, GivesNext}
 use Rattle.coe_client.specs.Talk.{Talking, later, awaited, is_replied}
 use Rattle.coe_client.specs.Hear.{TookIs}

@@ -1,8 +1,8 @@
 -- What a server's calls do is what the model's server does.
 use Rattle.std.proofs.Common.{◌≡◌, ℕ, Bool, List, [], ◌∷◌, ◌++◌, refl, sym, ap, ◌∙◌, append-nil}
-use Rattle.object_dictionary.specs.Dictionary.{Table}
-use Rattle.protocol_models.specs.CoeMails.{CoeMail, mail, unread, failed, fragment, other, Emergency, Expedited, First, Upload, DownloadAnswer, ExpeditedAnswer, FirstAnswer, Segment, SegmentAnswer, UploadSegment, UploadSegmentAnswer, Abort, ListRequest, ObjectRequest, EntryRequest, Information, InformationError}
-use Rattle.protocol_models.specs.CoeServer.{Transfer, idle, downloading, uploading, Outcome, coe_outcome, Server, serve, behind, issued}
+use Rattle.coe_client.specs.of_object_dictionary.Dictionary.{Table}
+use Rattle.coe_client.specs.of_protocol_models.CoeMails.{CoeMail, mail, unread, failed, fragment, other, Emergency, Expedited, First, Upload, DownloadAnswer, ExpeditedAnswer, FirstAnswer, Segment, SegmentAnswer, UploadSegment, UploadSegmentAnswer, Abort, ListRequest, ObjectRequest, EntryRequest, Information, InformationError}
+use Rattle.coe_client.specs.of_protocol_models.CoeServer.{Transfer, idle, downloading, uploading, Outcome, coe_outcome, Server, serve, behind, issued}
 use Rattle.coe_server.specs.declared.state.Emitted.{Emitted}
 use Rattle.coe_server.specs.ObjectTables.{object_tables}
 use Rattle.coe_server.specs.Serving.{Serving, transfer_of, answers_of, waiting_mails, emergencies, emission_view, outcome_of}

@@ -1,23 +1,23 @@
 -- From one mail of the client to the next: client, server and objects go on as the model does.
 use Rattle.std.proofs.Common.{◌≡◌, ◌⊎◌, inl, inr, ℕ, ◌+◌, ◌<◌, ◌≤◌, Bool, true, false, List, [], ◌∷◌, ◌++◌, length, Option, None, Some, Result, Ok, Err, refl, sym, ap, ◌∙◌, arith, append_assoc, append-nil, length-append}
-use Rattle.exchange_model.specs.Areas.{Areas, AreMailboxes}
-use Rattle.exchange_model.specs.Exchange.{after, given, plain, emitted}
-use Rattle.exchange_model.proofs.Words.{after-append, given-append, plain-append, plain_given-append}
-use Rattle.object_dictionary.specs.Dictionary.{Table}
-use Rattle.object_dictionary.specs.Sound.{is_table}
-use Rattle.protocol_models.specs.CoeMails.{CoeMail, is_emission}
-use Rattle.object_dictionary.specs.declared.service.SdoService.{SdoService}
-use Rattle.protocol_models.specs.Tables.{Target, Tables, AreLawful}
-use Rattle.protocol_models.specs.CoeServer.{Emission, emergency, packet, emission_of, issued, Server, serve, coe_outcome}
-use Rattle.protocol_models.specs.CoeMeaning.{Service, download, upload, information, meaning_of, download_means, value_means}
-use Rattle.protocol_models.specs.CoeClient.{ends}
-use Rattle.protocol_models.specs.CoeModel.{planned, full, value_length}
-use Rattle.protocol_models.proofs.CoeLaw.{kept, bound, client_follows}
-use Rattle.protocol_models.proofs.CoeClosing.{closed}
-use Rattle.protocol_models.proofs.CoeLasts.{none_behind}
-use Rattle.protocol_models.proofs.Progress.{goes_on}
+use Rattle.coe_client.specs.of_exchange_model.Areas.{Areas, AreMailboxes}
+use Rattle.coe_client.specs.of_exchange_model.Exchange.{after, given, plain, emitted}
+use Rattle.coe_client.proofs.of_exchange_model.Words.{after-append, given-append, plain-append, plain_given-append}
+use Rattle.coe_client.specs.of_object_dictionary.Dictionary.{Table}
+use Rattle.coe_client.specs.of_object_dictionary.Sound.{is_table}
+use Rattle.coe_client.specs.of_protocol_models.CoeMails.{CoeMail, is_emission}
+use Rattle.coe_client.specs.of_object_dictionary.declared.service.SdoService.{SdoService}
+use Rattle.coe_client.specs.of_protocol_models.Tables.{Target, Tables, AreLawful}
+use Rattle.coe_client.specs.of_protocol_models.CoeServer.{Emission, emergency, packet, emission_of, issued, Server, serve, coe_outcome}
+use Rattle.coe_client.specs.of_protocol_models.CoeMeaning.{Service, download, upload, information, meaning_of, download_means, value_means}
+use Rattle.coe_client.specs.of_protocol_models.CoeClient.{ends}
+use Rattle.coe_client.specs.of_protocol_models.CoeModel.{planned, full, value_length}
+use Rattle.coe_client.proofs.of_protocol_models.CoeLaw.{kept, bound, client_follows}
+use Rattle.coe_client.proofs.of_protocol_models.CoeClosing.{closed}
+use Rattle.coe_client.proofs.of_protocol_models.CoeLasts.{none_behind}
+use Rattle.coe_client.proofs.of_protocol_models.Progress.{goes_on}
 use Rattle.coe_server.specs.declared.state.Emitted.{Emitted}
-use Rattle.protocol_models.specs.CoeOctets.{body_heard}
+use Rattle.coe_client.specs.of_protocol_models.CoeOctets.{body_heard}
 use Rattle.coe_server.specs.ObjectTables.{object_tables}
 use Rattle.coe_server.specs.Serving.{Serving, transfer_of, waiting_mails, outcome_of}
 use Rattle.coe_server.proofs.ObjectsLaw.{lawful}

@@ -1,9 +1,9 @@
 -- The mailboxes of a slave without frames: what stands in the area of each, and the counter of the last mail.
 use Rattle.std.specs.Prelude.{ℕ, ◌+◌, ◌-◌, List, ◌++◌, length, replicate}
-use Rattle.mailbox_mail.specs.declared.mail.Mail.{Mail}
-use Rattle.mailbox_mail.specs.Counter.{counter_behind}
-use Rattle.mailbox_mail.specs.Mail.{mail_text}
-use Rattle.exchange_model.specs.Areas.{Areas}
+use Rattle.coe_client.specs.of_mailbox_mail.declared.mail.Mail.{Mail}
+use Rattle.coe_client.specs.of_mailbox_mail.Counter.{counter_behind}
+use Rattle.coe_client.specs.of_mailbox_mail.Mail.{mail_text}
+use Rattle.coe_client.specs.of_exchange_model.Areas.{Areas}
 
 -- a mailbox: the counter of the last mail written there, 0 before the first, and the octets of its area
 pub record Posted : Type 0 where

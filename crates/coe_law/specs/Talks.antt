@@ -1,15 +1,15 @@
 -- A client and a server on one object dictionary, at a moment between two of the client's mails.
 use Rattle.std.specs.Prelude.{◌≡◌, ◌⊎◌, ℕ, Bool, List, [], ◌∷◌, ◌++◌, length, Option, None, Some}
-use Rattle.exchange_model.specs.Areas.{Areas}
-use Rattle.exchange_model.specs.Prefix.{IsPrefixOf}
-use Rattle.exchange_model.specs.Exchange.{after, given, plain, emitted}
-use Rattle.object_dictionary.specs.Dictionary.{Table}
-use Rattle.protocol_models.specs.CoeMails.{CoeMail, mail, fragment, Emergency, is_emission}
-use Rattle.protocol_models.specs.Tables.{Tables}
-use Rattle.protocol_models.specs.CoeServer.{Server, serve}
-use Rattle.protocol_models.specs.CoeMeaning.{Service, Reply, Meaning, meaning_of}
-use Rattle.protocol_models.specs.CoeClient.{ends}
-use Rattle.protocol_models.specs.CoeModel.{planned, full}
+use Rattle.coe_client.specs.of_exchange_model.Areas.{Areas}
+use Rattle.coe_client.specs.of_exchange_model.Prefix.{IsPrefixOf}
+use Rattle.coe_client.specs.of_exchange_model.Exchange.{after, given, plain, emitted}
+use Rattle.coe_client.specs.of_object_dictionary.Dictionary.{Table}
+use Rattle.coe_client.specs.of_protocol_models.CoeMails.{CoeMail, mail, fragment, Emergency, is_emission}
+use Rattle.coe_client.specs.of_protocol_models.Tables.{Tables}
+use Rattle.coe_client.specs.of_protocol_models.CoeServer.{Server, serve}
+use Rattle.coe_client.specs.of_protocol_models.CoeMeaning.{Service, Reply, Meaning, meaning_of}
+use Rattle.coe_client.specs.of_protocol_models.CoeClient.{ends}
+use Rattle.coe_client.specs.of_protocol_models.CoeModel.{planned, full}
 use Rattle.coe_server.specs.ObjectTables.{tables_with}
 use Rattle.coe_server.specs.declared.state.Emitted.{Emitted}
 use Rattle.coe_server.specs.Serving.{Serving, transfer_of, waiting_mails}

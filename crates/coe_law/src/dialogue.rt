@@ -1,10 +1,10 @@
 ghost use Rattle.std.specs.Prelude.{◌≡◌, ◌≢◌, ◌≤◌, ◌+◌, List, [], ◌∷◌, ◌++◌, true, false, length, None, Some, IfSome};
-ghost use Rattle.exchange_model.specs.Areas.{AreMailboxes};
-ghost use Rattle.exchange_model.specs.Exchange.{plain, emitted};
-ghost use Rattle.object_dictionary.specs.Dictionary.{Table};
-ghost use Rattle.protocol_models.specs.CoeMails.{CoeMail, mail, fragment, Emergency, is_emission};
-ghost use Rattle.protocol_models.specs.CoeMeaning.{meaning_of};
-ghost use Rattle.protocol_models.specs.CoeOctets.{body_heard, coe_mail_heard};
+ghost use Rattle.coe_client.specs.of_exchange_model.Areas.{AreMailboxes};
+ghost use Rattle.coe_client.specs.of_exchange_model.Exchange.{plain, emitted};
+ghost use Rattle.coe_client.specs.of_object_dictionary.Dictionary.{Table};
+ghost use Rattle.coe_client.specs.of_protocol_models.CoeMails.{CoeMail, mail, fragment, Emergency, is_emission};
+ghost use Rattle.coe_client.specs.of_protocol_models.CoeMeaning.{meaning_of};
+ghost use Rattle.coe_client.specs.of_protocol_models.CoeOctets.{body_heard, coe_mail_heard};
 ghost use Rattle.coe_server.specs.Serving.{transfer_of, waiting_mails};
 ghost use Rattle.coe_client.specs.Talk.{service_view, octets_in, is_replied};
 ghost use Rattle.coe_law.specs.Mailboxes.{lengths_of};
@@ -13,11 +13,11 @@ ghost use Rattle.coe_law.specs.Talks.{means, emission_mails, areas_of, all_mails
 use crate::carried::{Carried, Emission};
 use crate::mailbox::Mailboxes;
 use arrayvec::ArrayVec;
-use coe_client::CoeClient;
-use coe_codec::Coe;
+use coe_client::coe_codec::Coe;
+use coe_client::mailbox_mail::{Kind, Mail};
+use coe_client::object_dictionary::{Objects, SdoService};
+use coe_client::{CoeClient, coe_codec};
 use coe_server::CoeServer;
-use mailbox_mail::{Kind, Mail};
-use object_dictionary::{Objects, SdoService};
 
 // The octets of an emergency.
 fn emergency_of(message: Coe) -> Option<ArrayVec<u8, 8>>

@@ -1,11 +1,11 @@
 ghost use Rattle.std.specs.Prelude.{◌≡◌, ◌+◌, ◌≤◌, length, IfOk};
-ghost use Rattle.mailbox_mail.specs.Mail.{IsMail};
-ghost use Rattle.mailbox_mail.specs.declared.mail.Kind.TheVariants.{CoE};
-ghost use Rattle.protocol_models.specs.CoeOctets.{coe_mail_heard, mail_with};
+ghost use Rattle.coe_client.specs.of_mailbox_mail.Mail.{IsMail};
+ghost use Rattle.coe_client.specs.of_mailbox_mail.declared.mail.Kind.TheVariants.{CoE};
+ghost use Rattle.coe_client.specs.of_protocol_models.CoeOctets.{coe_mail_heard, mail_with};
 ghost use Rattle.coe_law.specs.Mailboxes.{empty, counted, posted, lengths_of};
 
-use ec_fields::{NoMemory, buffer_of};
-use mailbox_mail::{Kind, Mail, next_counter, read, write};
+use coe_client::ec_fields::{NoMemory, buffer_of};
+use coe_client::mailbox_mail::{Kind, Mail, next_counter, read, write};
 use std::alloc::Global;
 use std::marker::Model;
 

@@ -1,9 +1,9 @@
 -- What a server's call did with a mail is the step of the exchange of mails.
 use Rattle.std.proofs.Common.{◌≡◌, ℕ, Bool, List, ap, ◌∙◌, map}
-use Rattle.mailbox_mail.specs.declared.mail.Kind.TheVariants.{CoE}
+use Rattle.protocol_models.specs.of_mailbox_mail.declared.mail.Kind.TheVariants.{CoE}
 use Rattle.protocol_models.specs.Tables.{Tables}
 use Rattle.protocol_models.specs.CoeServer.{Transfer, Outcome, Server, coe_outcome, behind}
-use Rattle.exchange_model.specs.Areas.{Areas}
+use Rattle.protocol_models.specs.of_exchange_model.Areas.{Areas}
 use Rattle.protocol_models.specs.CoeOctets.{body_heard, coe_mail_written, mail_with, coe_mail_exchange}
 use Rattle.coe_server.specs.Serving.{Serving, transfer_of, outcome_of, served_of}
 

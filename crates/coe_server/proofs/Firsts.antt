@@ -1,10 +1,10 @@
 -- A first answer, and a part of an information answer, is what stands before its octets, and those octets.
 use Rattle.std.proofs.Common.{◌≡◌, ◌≤◌, ◌<◌, ℕ, ◌-◌, Bool, true, List, [], ◌++◌, length, sym, ap, ◌∙◌, subst}
 use Rattle.std.proofs.lemmas.List.{append-nil}
-use Rattle.coe_codec.specs.Coe.{IsCoe}
-use Rattle.coe_codec.specs.Reading.{is_information}
-use Rattle.coe_codec.specs.Writing.{coe_text, head_of}
-use Rattle.coe_codec.proofs.Spelled.{write-spelled}
+use Rattle.protocol_models.specs.of_coe_codec.Coe.{IsCoe}
+use Rattle.protocol_models.specs.of_coe_codec.Reading.{is_information}
+use Rattle.protocol_models.specs.of_coe_codec.Writing.{coe_text, head_of}
+use Rattle.protocol_models.proofs.of_coe_codec.Spelled.{write-spelled}
 use Rattle.coe_server.specs.Serving.{first_answer, fragment, IsWritten}
 
 first_text : (index sub size : ℕ) (bytes : List ℕ) → coe_text (first_answer index sub size []) ++ bytes ≡ coe_text (first_answer index sub size bytes)

@@ -1,7 +1,7 @@
 -- A server's messages fit the mailbox.
 use Rattle.std.proofs.Common.{◌≡◌, ℕ, ◌+◌, ◌-◌, ◌≤◌, List, ◌++◌, length, replicate, ap, ◌∙◌, arith, length-append}
 use Rattle.std.proofs.lemmas.List.{length-replicate}
-use Rattle.coe_codec.specs.Writing.{coe_text}
+use Rattle.protocol_models.specs.of_coe_codec.Writing.{coe_text}
 use Rattle.protocol_models.specs.CoeMails.{Coe, Emergency, DownloadAnswer, ExpeditedAnswer, FirstAnswer, SegmentAnswer, UploadSegmentAnswer, Abort, Information, InformationError}
 use Rattle.coe_server.specs.Serving.{IsShort}
 

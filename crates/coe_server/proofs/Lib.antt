@@ -1,4 +1,3 @@
-pub use Rattle.protocol_models.proofs as of_protocol_models
 pub use Rattle.object_dictionary.proofs as of_object_dictionary
 pub mod Unread
 pub mod Gives

@@ -1,6 +1,6 @@
 -- An object dictionary keeps the laws of a server's tables.
 use Rattle.std.proofs.Common.{◌≡◌, ℕ, ◌<◌, ◌≤◌, Bool, true, false, ◌&&◌, ◌||◌, ◌==◌, not, List, length, Option, None, Some, Result, Ok, Err, refl, sym, ap, subst, ◌∙◌, arith, eqb-true, if◌then◌else◌}
-use Rattle.exchange_model.specs.Lifted.{EachOf}
+use Rattle.protocol_models.specs.of_exchange_model.Lifted.{EachOf}
 use Rattle.object_dictionary.specs.declared.entry.EntrySpec.{EntrySpec}
 use Rattle.object_dictionary.specs.declared.object.Object.{Object}
 use Rattle.object_dictionary.specs.Entries.{Stores, or_else, unless, check_entry, bound_refusal, download_entry, with_value}

@@ -2,10 +2,10 @@
 use Rattle.std.proofs.Common.{◌≡◌, ◌≤◌, ◌<◌, ◌&&◌, nat_lt, nat_le, true, ℕ, ◌+◌, ◌-◌, ◌*◌, Bool, List, [], ◌∷◌, ◌++◌, length, take, replicate, sym, ap, ◌∙◌, subst, arith, append_assoc}
 use Rattle.std.proofs.lemmas.Bool.Decides.{nat_tests}
 use Rattle.std.proofs.lemmas.List.{take-replicate}
-use Rattle.coe_codec.specs.Coe.{IsCoe}
-use Rattle.coe_codec.specs.Fields.{bit}
-use Rattle.coe_codec.specs.Writing.{coe_text, head_of}
-use Rattle.coe_codec.proofs.Spelled.{write-spelled}
+use Rattle.protocol_models.specs.of_coe_codec.Coe.{IsCoe}
+use Rattle.protocol_models.specs.of_coe_codec.Fields.{bit}
+use Rattle.protocol_models.specs.of_coe_codec.Writing.{coe_text, head_of}
+use Rattle.protocol_models.proofs.of_coe_codec.Spelled.{write-spelled}
 use Rattle.coe_server.specs.Serving.{segment_answer, IsWritten}
 
 segment_text : (toggle last : Bool) (bytes : List ℕ) (unused command : ℕ) → unused ≡ 7 - length bytes → command ≡ bit last + 2 * unused + 16 * bit toggle →

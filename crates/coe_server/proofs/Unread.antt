@@ -1,11 +1,11 @@
 -- A request with an unknown command is long enough to name an entry.
 use Rattle.std.proofs.Common.{◌≡◌, ℕ, ◌≤◌, Bool, true, false, ◌==◌, nat_lt, List, length, take, drop, Result, Ok, Err, if◌then◌else◌, refl, arith, ltb-false}
-use Rattle.coe_codec.specs.Fields.{service_in}
-use Rattle.coe_codec.specs.Reading.{coe_read, request_read, answer_read, information_read}
-use Rattle.coe_codec.specs.declared.message.Coe.{Coe}
-use Rattle.coe_codec.specs.declared.message.Coe.TheVariants.{Emergency}
-use Rattle.coe_codec.specs.declared.message.CoeFault.{CoeFault}
-use Rattle.coe_codec.specs.declared.message.CoeFault.TheVariants.{Short, Service, Command}
+use Rattle.protocol_models.specs.of_coe_codec.Fields.{service_in}
+use Rattle.protocol_models.specs.of_coe_codec.Reading.{coe_read, request_read, answer_read, information_read}
+use Rattle.protocol_models.specs.of_coe_codec.declared.message.Coe.{Coe}
+use Rattle.protocol_models.specs.of_coe_codec.declared.message.Coe.TheVariants.{Emergency}
+use Rattle.protocol_models.specs.of_coe_codec.declared.message.CoeFault.{CoeFault}
+use Rattle.protocol_models.specs.of_coe_codec.declared.message.CoeFault.TheVariants.{Short, Service, Command}
 
 -- what is Err Command is not Err Short, so its test was not met
 not_short : (b : Bool) (x : Result Coe CoeFault) → (if b then Err Short else x) ≡ Err Command → b ≡ false

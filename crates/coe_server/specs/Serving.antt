@@ -1,14 +1,14 @@
 -- What a server's state stands for: its unfinished transfer, the mails that wait in it, and what it emits.
 use Rattle.std.specs.Prelude.{◌≡◌, ℕ, suc, ◌+◌, ◌-◌, ◌≤◌, ◌==◌, ◌&&◌, nat_le, nat_lt, if◌then◌else◌, Bool, true, false, List, [], ◌∷◌, ◌++◌, map, length, take, drop, Option, None, Some, Result, Ok, Err}
-use Rattle.coe_codec.specs.Coe.{IsCoe}
-use Rattle.coe_codec.specs.Reading.{is_information}
-use Rattle.coe_codec.specs.Writing.{coe_text}
+use Rattle.protocol_models.specs.of_coe_codec.Coe.{IsCoe}
+use Rattle.protocol_models.specs.of_coe_codec.Reading.{is_information}
+use Rattle.protocol_models.specs.of_coe_codec.Writing.{coe_text}
 use Rattle.protocol_models.specs.CoeMails.{Information, Coe, CoeMail, mail, failed, First, Emergency, DownloadAnswer, SegmentAnswer, Abort, InformationError, ExpeditedAnswer, FirstAnswer, UploadSegmentAnswer}
 use Rattle.protocol_models.specs.Tables.{Ask}
 use Rattle.protocol_models.specs.Tables as Tables
 use Rattle.protocol_models.specs.CoeServer.{Transfer, idle, downloading, uploading, Emission, emergency, packet, Outcome, Server, issued, one_more, parts_of, information_parts}
 pub use Rattle.object_dictionary.specs.Entries.{Stores}
-use Rattle.mailbox_mail.specs.declared.mail.Mail.{Mail}
+use Rattle.protocol_models.specs.of_mailbox_mail.declared.mail.Mail.{Mail}
 use Rattle.protocol_models.specs.CoeOctets.{coe_mail_heard, coe_mail_written}
 use Rattle.coe_server.specs.declared.dictionary.Target.{Target}
 use Rattle.coe_server.specs.declared.dictionary.Question.{Question}

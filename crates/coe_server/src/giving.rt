@@ -1,9 +1,9 @@
 ghost use Rattle.std.specs.Prelude.{◌≡◌, ◌≢◌, ◌≤◌, ◌<◌, ◌+◌, ◌-◌, ◌*◌, ◌↔◌, List, [], ◌∷◌, ◌++◌, true, false, length, drop, take, Some, None, IfOk, IfSome};
 ghost use Rattle.std.specs.Bool.{OnTrue, OnFalse};
-ghost use Rattle.coe_codec.specs.Fields.{bit};
-ghost use Rattle.coe_codec.specs.Reading.{is_information};
-ghost use Rattle.coe_codec.specs.Writing.{HasSpelling, coe_text};
-ghost use Rattle.coe_codec.specs.View.{coe_seen, IsCapped};
+ghost use Rattle.protocol_models.specs.of_coe_codec.Fields.{bit};
+ghost use Rattle.protocol_models.specs.of_coe_codec.Reading.{is_information};
+ghost use Rattle.protocol_models.specs.of_coe_codec.Writing.{HasSpelling, coe_text};
+ghost use Rattle.protocol_models.specs.of_coe_codec.View.{coe_seen, IsCapped};
 ghost use Rattle.protocol_models.specs.CoeMails.{mail, Emergency};
 ghost use Rattle.coe_server.specs.Serving.{first_answer, segment_answer, fragment, transfer_of, answers_of, waiting_mails, packet_of, has_message, failure_in, message_of, first_part, pending_behind, IsShort, IsWritten, GivesNext};
 
@@ -11,10 +11,11 @@ use crate::dictionary::Target;
 use crate::server::CoeServer;
 use crate::state::{Emitted, Pending};
 use arrayvec::ArrayVec;
-use coe_codec::CoeView;
 use coe_values::Slot;
-use ec_fields::{append, refill};
-use mailbox_mail::{Kind, Mail};
+use object_dictionary::ec_fields::{append, refill};
+use protocol_models::coe_codec;
+use protocol_models::coe_codec::CoeView;
+use protocol_models::mailbox_mail::{Kind, Mail};
 
 // Writes a message that is short enough for the mailbox.
 fn written(room: u16, message: CoeView<'_>, body: &mut ArrayVec<u8, 1480>)

@@ -1,8 +1,8 @@
 ghost use Rattle.std.specs.Prelude.{◌≡◌, ℕ, Bool, List, true};
 ghost use Rattle.object_dictionary.specs.Dictionary.{Table};
-ghost use Rattle.exchange_model.specs.Areas.{Areas};
-ghost use Rattle.exchange_model.specs.Lifted.{EachOf};
-ghost use Rattle.mailbox_mail.specs.declared.mail.Kind.TheVariants.{CoE};
+ghost use Rattle.protocol_models.specs.of_exchange_model.Areas.{Areas};
+ghost use Rattle.protocol_models.specs.of_exchange_model.Lifted.{EachOf};
+ghost use Rattle.protocol_models.specs.of_mailbox_mail.declared.mail.Kind.TheVariants.{CoE};
 ghost use Rattle.protocol_models.specs.Tables.{Tables, AreLawful};
 ghost use Rattle.protocol_models.specs.CoeServer.{Server, coe_outcome};
 ghost use Rattle.protocol_models.specs.CoeOctets.{AreSpelled, is_fragment, body_heard, mail_with, coe_mail_exchange};
@@ -10,7 +10,7 @@ ghost use Rattle.coe_server.specs.Serving.{Serving, transfer_of, outcome_of, ser
 ghost use Rattle.coe_server.specs.ObjectTables.{tables_with, object_tables};
 
 use crate::dictionary::{Dictionary, Question, Target};
-use ec_fields::Transfer;
+use object_dictionary::ec_fields::Transfer;
 use object_dictionary::{Objects, SdoService};
 
 impl Dictionary for Objects {

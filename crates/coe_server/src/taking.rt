@@ -1,8 +1,8 @@
 ghost use Rattle.std.specs.Prelude.{◌≡◌, ◌≤◌, true, false, length, slice_index, Err};
-ghost use Rattle.ec_fields.specs.Fields.{number_at};
-ghost use Rattle.coe_codec.specs.Fields.{service_in};
-ghost use Rattle.coe_codec.specs.Reading.{coe_read};
-ghost use Rattle.coe_codec.specs.View.{coe_seen, IsWithin};
+ghost use Rattle.object_dictionary.specs.of_ec_fields.Fields.{number_at};
+ghost use Rattle.protocol_models.specs.of_coe_codec.Fields.{service_in};
+ghost use Rattle.protocol_models.specs.of_coe_codec.Reading.{coe_read};
+ghost use Rattle.protocol_models.specs.of_coe_codec.View.{coe_seen, IsWithin};
 ghost use Rattle.protocol_models.specs.CoeServer.{coe_takes, takes_unread, coe_outcome};
 ghost use Rattle.protocol_models.specs.CoeOctets.{body_heard};
 ghost use Rattle.coe_server.specs.Serving.{transfer_of, told_of, outcome_of};
@@ -10,9 +10,10 @@ ghost use Rattle.coe_server.specs.Serving.{transfer_of, told_of, outcome_of};
 use crate::dictionary::{Dictionary, Question, Target};
 use crate::server::CoeServer;
 use crate::state::{Pending, State};
-use coe_codec::{CoeFault, CoeView};
-use ec_fields::u16_at;
 use object_dictionary::COMMAND_NOT_VALID;
+use object_dictionary::ec_fields::u16_at;
+use protocol_models::coe_codec;
+use protocol_models::coe_codec::{CoeFault, CoeView};
 
 impl CoeServer {
     // A mail whose answer is a mailbox error.

@@ -11,6 +11,7 @@ pub mod register;
 mod writing;
 
 pub use command::Command;
+pub use ec_fields;
 pub use frame::{Frame, FrameBuf, FrameFault, Part};
 pub use head::Head;
 pub use passing::{Passage, pass};

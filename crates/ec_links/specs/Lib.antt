@@ -1,1 +1,2 @@
+pub use Rattle.ec_outside.specs as of_ec_outside
 pub mod Link

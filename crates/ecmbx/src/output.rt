@@ -1,9 +1,9 @@
 ghost use Rattle.std.specs.Prelude.{◌≡◌, ◌≤◌, Err};
-ghost use Rattle.ec_outside.specs.Faults.{Rose};
-ghost use Rattle.ec_outside.specs.declared.sink.SinkErr.TheVariants as errors;
+ghost use Rattle.ecmbx_call.specs.of_ec_outside.Faults.{Rose};
+ghost use Rattle.ecmbx_call.specs.of_ec_outside.declared.sink.SinkErr.TheVariants as errors;
 
-use ec_fields::Octets;
-use ec_outside::{Sink, SinkErr};
+use ecmbx_call::ec_fields::Octets;
+use ecmbx_call::ec_outside::{Sink, SinkErr};
 use std::alloc::Global;
 
 /// So many octets are held before they are written.

@@ -1,13 +1,13 @@
 -- The lines of an audit, and how many packets a file has.
 use Rattle.std.proofs.Common.{◌≡◌, ℕ, ◌+◌, ◌<◌, ◌≤◌, List, [], ◌∷◌, ◌++◌, length, map, take, get_or, Ok, refl, sym, ap, ◌∙◌, arith, length-append}
 use Rattle.std.proofs.lemmas.List.{take_more}
-use Rattle.ec_fields.proofs.Cells.{AreOctets}
-use Rattle.pcap_frames.specs.declared.capture.Capture.{Capture}
-use Rattle.pcap_frames.specs.declared.order.Order.{Order}
-use Rattle.pcap_frames.specs.declared.order.Order.TheVariants.{LowFirst, HighFirst}
-use Rattle.pcap_frames.specs.Capture.{Packet, head_text, packet_text, packets_text, places_of}
-use Rattle.pcap_frames.specs.Reading.{capture_read}
-use Rattle.pcap_frames.proofs.Grammar.{found_in}
+use Rattle.scenario_made.proofs.of_ec_fields.Cells.{AreOctets}
+use Rattle.run_report.specs.of_pcap_frames.declared.capture.Capture.{Capture}
+use Rattle.run_report.specs.of_pcap_frames.declared.order.Order.{Order}
+use Rattle.run_report.specs.of_pcap_frames.declared.order.Order.TheVariants.{LowFirst, HighFirst}
+use Rattle.run_report.specs.of_pcap_frames.Capture.{Packet, head_text, packet_text, packets_text, places_of}
+use Rattle.run_report.specs.of_pcap_frames.Reading.{capture_read}
+use Rattle.run_report.proofs.of_pcap_frames.Grammar.{found_in}
 use Rattle.capture_audit.specs.declared.station.StationAudit.{StationAudit}
 use Rattle.ecmbx_call.specs.Audits.{line_of}
 

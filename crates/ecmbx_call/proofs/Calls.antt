@@ -1,14 +1,14 @@
 -- All that the top call promises follows from its course.
 use Rattle.std.proofs.Common.{◌≡◌, ◌≢◌, ◌⊎◌, ℕ, List, Option}
-use Rattle.ec_outside.specs.Files.{Table}
-use Rattle.run_book.specs.declared.book.Book.{Book}
-use Rattle.run_book.specs.Book.{IsNew}
+use Rattle.gateway_stream.specs.of_ec_outside.Files.{Table}
+use Rattle.run_report.specs.of_run_book.declared.book.Book.{Book}
+use Rattle.run_report.specs.of_run_book.Book.{IsNew}
 use Rattle.promised_run.specs.of_gateway_run.Serving.{Told}
-use Rattle.ecmbx_words.specs.declared.form.Form.TheVariants as forms
-use Rattle.ecmbx_words.specs.declared.status.Status.{Status}
-use Rattle.ecmbx_words.specs.declared.status.Status.TheVariants as statuses
-use Rattle.ecmbx_words.specs.Form.{form_in, saved_in}
-use Rattle.ecmbx_words.specs.Files.{Followed}
+use Rattle.tool_call.specs.of_ecmbx_words.declared.form.Form.TheVariants as forms
+use Rattle.tool_call.specs.of_ecmbx_words.declared.status.Status.{Status}
+use Rattle.tool_call.specs.of_ecmbx_words.declared.status.Status.TheVariants as statuses
+use Rattle.tool_call.specs.of_ecmbx_words.Form.{form_in, saved_in}
+use Rattle.tool_call.specs.of_ecmbx_words.Files.{Followed}
 use Rattle.ecmbx_call.specs.Course.{Course, Began}
 use Rattle.ecmbx_call.specs.Calls.{CallsAs}
 use Rattle.ecmbx_call.specs.Files.{LeavesFiles}

@@ -1,18 +1,18 @@
 -- What the course of a call says of each status.
 use Rattle.std.proofs.Common.{◌≡◌, ◌≢◌, ℕ, ◌<◌, ◌≤◌, ◌⊎◌, List, length, Option, Some, None, true, refl, sym, subst, ap, ◌∙◌, inl, inr, arith}
-use Rattle.ec_outside.specs.Files.{Table, file_of}
-use Rattle.ec_outside.specs.Sink.{Wrote}
-use Rattle.segment_plan.specs.declared.plan.Scenario.{Scenario}
-use Rattle.run_book.specs.declared.book.Book.{Book}
-use Rattle.run_book.specs.declared.book.Ending.{Ending}
-use Rattle.run_book.specs.declared.book.Ending.TheVariants as endings
-use Rattle.ecmbx_words.specs.declared.form.Form.TheVariants as forms
-use Rattle.ecmbx_words.specs.declared.status.Status.{Status}
-use Rattle.ecmbx_words.specs.declared.status.Status.TheVariants as statuses
-use Rattle.ecmbx_words.specs.Form.{form_in, name_in}
-use Rattle.ecmbx_words.specs.Ends.{Ended}
+use Rattle.gateway_stream.specs.of_ec_outside.Files.{Table, file_of}
+use Rattle.gateway_stream.specs.of_ec_outside.Sink.{Wrote}
+use Rattle.tool_call.specs.of_segment_plan.declared.plan.Scenario.{Scenario}
+use Rattle.run_report.specs.of_run_book.declared.book.Book.{Book}
+use Rattle.run_report.specs.of_run_book.declared.book.Ending.{Ending}
+use Rattle.run_report.specs.of_run_book.declared.book.Ending.TheVariants as endings
+use Rattle.tool_call.specs.of_ecmbx_words.declared.form.Form.TheVariants as forms
+use Rattle.tool_call.specs.of_ecmbx_words.declared.status.Status.{Status}
+use Rattle.tool_call.specs.of_ecmbx_words.declared.status.Status.TheVariants as statuses
+use Rattle.tool_call.specs.of_ecmbx_words.Form.{form_in, name_in}
+use Rattle.tool_call.specs.of_ecmbx_words.Ends.{Ended}
 use Rattle.ecmbx_call.specs.Audits.{verdict_status}
-use Rattle.ecmbx_words.specs.Files.{Holds, IsLong, Followed}
+use Rattle.tool_call.specs.of_ecmbx_words.Files.{Holds, IsLong, Followed}
 use Rattle.ecmbx_call.specs.Files.{limit}
 use Rattle.ecmbx_call.specs.Course.{Course, status_of}
 use Rattle.promised_run.specs.of_gateway_run.Serving.{Told as PortTold}

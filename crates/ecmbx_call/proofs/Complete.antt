@@ -1,23 +1,23 @@
 -- A run or a serving of a scenario that is found is complete, where neither a budget nor a fault cuts it off.
 use Rattle.std.proofs.Common.{◌≡◌, ◌≤◌, ◌⊎◌, inl, inr, ℕ, List, Option, refl, sym, ◌∙◌, subst}
-use Rattle.ec_outside.specs.Faults.{Rose}
-use Rattle.ec_outside.specs.Files.{Table}
+use Rattle.gateway_stream.specs.of_ec_outside.Faults.{Rose}
+use Rattle.gateway_stream.specs.of_ec_outside.Files.{Table}
 use Rattle.promised_run.specs.of_gateway_run.Served.{IsServed}
 use Rattle.promised_run.specs.of_gateway_run.Serving.{Told}
-use Rattle.segment_plan.specs.Bound.{bound_of}
-use Rattle.segment_plan.specs.declared.plan.Scenario.{Scenario}
-use Rattle.run_book.specs.declared.book.Book.{Book}
-use Rattle.run_book.specs.declared.book.Ending.{Ending}
-use Rattle.run_book.specs.declared.book.Ending.TheVariants as endings
+use Rattle.tool_call.specs.of_segment_plan.Bound.{bound_of}
+use Rattle.tool_call.specs.of_segment_plan.declared.plan.Scenario.{Scenario}
+use Rattle.run_report.specs.of_run_book.declared.book.Book.{Book}
+use Rattle.run_report.specs.of_run_book.declared.book.Ending.{Ending}
+use Rattle.run_report.specs.of_run_book.declared.book.Ending.TheVariants as endings
 use Rattle.promised_run.specs.Promised.{LeavesNothing}
 use Rattle.promised_run.specs.Ran.{EndsAs}
 use Rattle.promised_run.specs.Few.{AreFewLost}
 use Rattle.promised_run.specs.Session.{budget_of}
 use Rattle.promised_run.specs.ServedBounded.{HearsFair}
-use Rattle.ecmbx_words.specs.declared.status.Status.{Status}
-use Rattle.ecmbx_words.specs.declared.status.Status.TheVariants as statuses
+use Rattle.tool_call.specs.of_ecmbx_words.declared.status.Status.{Status}
+use Rattle.tool_call.specs.of_ecmbx_words.declared.status.Status.TheVariants as statuses
 use Rattle.run_report.specs.Report.{report_lines}
-use Rattle.ecmbx_words.specs.Ends.{text_of, Ended}
+use Rattle.tool_call.specs.of_ecmbx_words.Ends.{text_of, Ended}
 use Rattle.ecmbx_call.specs.Causes.{RunsTo, SavesTo, ServesTo}
 use Rattle.ecmbx_call.specs.Complete.{CompletesServing, CompletesTo, IsComplete, IsServedComplete}
 use Rattle.ecmbx_call.specs.Course.{HasRun, status_of}

@@ -2,33 +2,33 @@
 use Rattle.std.proofs.Common.{◌≡◌, ◌≢◌, ℕ, List, [], ◌∷◌, length, map, get_or, codes, String, string_bytes, Bool, if◌then◌else◌, true, false, Option, Result, Ok, Err, OnOk, is_err, ◌⊎◌, refl, sym, subst, ap, inl, inr}
 use Rattle.std.specs.declared.alloc.Global.{Global}
 use Rattle.std.specs.Str.{bytes_eq}
-use Rattle.ec_outside.specs.Files.{Table}
-use Rattle.segment_plan.specs.declared.plan.Scenario.{Scenario}
-use Rattle.scenario_keys.specs.declared.place.Place.{Place}
-use Rattle.scenario_keys.specs.declared.refusal.Refusal.{Refusal}
-use Rattle.scenario_keys.specs.declared.refusal.ReadErr.TheVariants as errors
-use Rattle.scenario_keys.specs.Rules.{Answers}
-use Rattle.scenario.specs.Document.{plan_of}
-use Rattle.run_book.specs.declared.book.Book.{Book}
-use Rattle.run_book.specs.declared.book.Ending.{Ending}
-use Rattle.run_book.specs.declared.book.Ending.TheVariants as endings
-use Rattle.segment_plan.specs.Sound.{IsPlan}
-use Rattle.run_book.specs.Book.{IsNew}
+use Rattle.gateway_stream.specs.of_ec_outside.Files.{Table}
+use Rattle.tool_call.specs.of_segment_plan.declared.plan.Scenario.{Scenario}
+use Rattle.tool_call.specs.of_scenario_keys.declared.place.Place.{Place}
+use Rattle.tool_call.specs.of_scenario_keys.declared.refusal.Refusal.{Refusal}
+use Rattle.tool_call.specs.of_scenario_keys.declared.refusal.ReadErr.TheVariants as errors
+use Rattle.tool_call.specs.of_scenario_keys.Rules.{Answers}
+use Rattle.promised_run.specs.of_scenario.Document.{plan_of}
+use Rattle.run_report.specs.of_run_book.declared.book.Book.{Book}
+use Rattle.run_report.specs.of_run_book.declared.book.Ending.{Ending}
+use Rattle.run_report.specs.of_run_book.declared.book.Ending.TheVariants as endings
+use Rattle.tool_call.specs.of_segment_plan.Sound.{IsPlan}
+use Rattle.run_report.specs.of_run_book.Book.{IsNew}
 use Rattle.promised_run.specs.Bounded.{IsBounded}
 use Rattle.promised_run.specs.Promised.{IsPromised}
 use Rattle.promised_run.specs.Ran.{HasFrames, EndsAs}
-use Rattle.ecmbx_words.specs.declared.status.Status.{Status}
-use Rattle.ecmbx_words.specs.declared.status.Status.TheVariants as statuses
-use Rattle.ecmbx_words.specs.declared.form.Form.TheVariants as forms
-use Rattle.ecmbx_words.specs.Form.{form_in, name_in, saved_in}
-use Rattle.ecmbx_words.specs.Ends.{PutAll}
-use Rattle.ecmbx_words.specs.Texts.{refusal_line, refused_line, capture_line}
-use Rattle.pcap_frames.specs.declared.capture.Capture.{Capture}
-use Rattle.pcap_frames.specs.declared.capture.PcapFault.{PcapFault}
-use Rattle.pcap_frames.specs.declared.capture.PcapFault.TheVariants as faults
-use Rattle.pcap_frames.specs.Reading.{capture_read, UnlessNoMemory}
-use Rattle.ecmbx_words.proofs.Loads.{said, turned, nothing_put}
-use Rattle.ecmbx_words.specs.Files.{FileCourse, Followed, IsLoaded}
+use Rattle.tool_call.specs.of_ecmbx_words.declared.status.Status.{Status}
+use Rattle.tool_call.specs.of_ecmbx_words.declared.status.Status.TheVariants as statuses
+use Rattle.tool_call.specs.of_ecmbx_words.declared.form.Form.TheVariants as forms
+use Rattle.tool_call.specs.of_ecmbx_words.Form.{form_in, name_in, saved_in}
+use Rattle.tool_call.specs.of_ecmbx_words.Ends.{PutAll}
+use Rattle.tool_call.specs.of_ecmbx_words.Texts.{refusal_line, refused_line, capture_line}
+use Rattle.run_report.specs.of_pcap_frames.declared.capture.Capture.{Capture}
+use Rattle.run_report.specs.of_pcap_frames.declared.capture.PcapFault.{PcapFault}
+use Rattle.run_report.specs.of_pcap_frames.declared.capture.PcapFault.TheVariants as faults
+use Rattle.run_report.specs.of_pcap_frames.Reading.{capture_read, UnlessNoMemory}
+use Rattle.tool_call.proofs.of_ecmbx_words.Loads.{said, turned, nothing_put}
+use Rattle.tool_call.specs.of_ecmbx_words.Files.{FileCourse, Followed, IsLoaded}
 use Rattle.ecmbx_call.specs.Files.{limit}
 use Rattle.promised_run.specs.of_gateway_run.Serving.{Told as PortTold}
 use Rattle.ecmbx_call.specs.Audits.{AuditCourse}

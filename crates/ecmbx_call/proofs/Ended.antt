@@ -1,19 +1,19 @@
 -- How a run or a serving ended, and what that leaves.
 use Rattle.std.proofs.Common.{◌≡◌, ◌≢◌, ℕ, ◌⊎◌, true, false, List, Option, refl, sym, subst, ◌∙◌, inl, inr}
-use Rattle.ec_outside.specs.Files.{Table}
-use Rattle.segment_plan.specs.declared.plan.Scenario.{Scenario}
-use Rattle.run_book.specs.declared.book.Book.{Book}
-use Rattle.run_book.specs.declared.book.Ending.{Ending}
-use Rattle.run_book.specs.declared.book.Ending.TheVariants as endings
+use Rattle.gateway_stream.specs.of_ec_outside.Files.{Table}
+use Rattle.tool_call.specs.of_segment_plan.declared.plan.Scenario.{Scenario}
+use Rattle.run_report.specs.of_run_book.declared.book.Book.{Book}
+use Rattle.run_report.specs.of_run_book.declared.book.Ending.{Ending}
+use Rattle.run_report.specs.of_run_book.declared.book.Ending.TheVariants as endings
 use Rattle.promised_run.specs.Ran.{EndsAs, IsOver, IsCut}
 use Rattle.promised_run.specs.Session.{some_given_up}
 use Rattle.promised_run.specs.of_gateway_run.Done.{LeavesNone}
 use Rattle.promised_run.specs.of_gateway_run.Serving.{Told as PortTold}
 use Rattle.promised_run.specs.of_gateway_run.Served.{HasAccount, IsServed}
 use Rattle.promised_run.proofs.Left.{run_rests}
-use Rattle.ecmbx_words.specs.declared.status.Status.{Status}
-use Rattle.ecmbx_words.specs.declared.status.Status.TheVariants as statuses
-use Rattle.ecmbx_words.specs.Ends.{Ended}
+use Rattle.tool_call.specs.of_ecmbx_words.declared.status.Status.{Status}
+use Rattle.tool_call.specs.of_ecmbx_words.declared.status.Status.TheVariants as statuses
+use Rattle.tool_call.specs.of_ecmbx_words.Ends.{Ended}
 use Rattle.ecmbx_call.specs.Course.{HasRun, status_of}
 use Rattle.ecmbx_call.specs.Causes.{CameOf, EndedCut, EndedWith, IsUnlessFault, LeavesNoWork, LeavesWork}
 use Rattle.ecmbx_call.specs.Serving.{HasServed}

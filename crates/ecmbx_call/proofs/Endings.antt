@@ -1,16 +1,16 @@
 -- How a book's run or serving ended, by the status of the call.
 use Rattle.std.proofs.Common.{◌≡◌, ℕ, List, [], Option, refl, sym, subst, ap, ◌∙◌, inl, inr}
-use Rattle.ec_outside.specs.Files.{Table}
+use Rattle.gateway_stream.specs.of_ec_outside.Files.{Table}
 use Rattle.scenario_made.specs.Made.{text_of as made_text}
-use Rattle.run_book.specs.declared.book.Book.{Book}
-use Rattle.run_book.specs.declared.book.Ending.{Ending}
-use Rattle.run_book.specs.declared.book.Ending.TheVariants as endings
-use Rattle.ecmbx_words.specs.declared.form.Form.TheVariants as forms
-use Rattle.ecmbx_words.specs.declared.status.Status.{Status}
-use Rattle.ecmbx_words.specs.declared.status.Status.TheVariants as statuses
-use Rattle.ecmbx_words.specs.Form.{form_in, name_in}
+use Rattle.run_report.specs.of_run_book.declared.book.Book.{Book}
+use Rattle.run_report.specs.of_run_book.declared.book.Ending.{Ending}
+use Rattle.run_report.specs.of_run_book.declared.book.Ending.TheVariants as endings
+use Rattle.tool_call.specs.of_ecmbx_words.declared.form.Form.TheVariants as forms
+use Rattle.tool_call.specs.of_ecmbx_words.declared.status.Status.{Status}
+use Rattle.tool_call.specs.of_ecmbx_words.declared.status.Status.TheVariants as statuses
+use Rattle.tool_call.specs.of_ecmbx_words.Form.{form_in, name_in}
 use Rattle.ecmbx_call.specs.Course.{status_of}
-use Rattle.ec_outside.specs.Faults.{Rose}
+use Rattle.gateway_stream.specs.of_ec_outside.Faults.{Rose}
 use Rattle.promised_run.specs.Ran.{EndsAs}
 use Rattle.promised_run.specs.of_gateway_run.Serving.{Told as PortTold}
 use Rattle.promised_run.specs.of_gateway_run.Served.{IsServed}

@@ -1,25 +1,25 @@
 -- What a file that is found comes to.
 use Rattle.std.proofs.Common.{◌≡◌, ℕ, ◌⊎◌, List, length, Option, Some, None, Ok, Err, sym, subst, ap, ◌∙◌, inl, inr, arith}
-use Rattle.ec_outside.specs.Files.{Table, file_of}
-use Rattle.pcap_frames.specs.declared.capture.Capture.{Capture}
-use Rattle.pcap_frames.specs.declared.capture.PcapFault.{PcapFault}
-use Rattle.pcap_frames.specs.Reading.{capture_read}
-use Rattle.capture_view.specs.View.{view_text}
-use Rattle.segment_plan.specs.declared.plan.Scenario.{Scenario}
-use Rattle.scenario_keys.specs.declared.refusal.Refusal.{Refusal}
-use Rattle.scenario.specs.Document.{plan_of}
-use Rattle.run_book.specs.declared.book.Book.{Book}
+use Rattle.gateway_stream.specs.of_ec_outside.Files.{Table, file_of}
+use Rattle.run_report.specs.of_pcap_frames.declared.capture.Capture.{Capture}
+use Rattle.run_report.specs.of_pcap_frames.declared.capture.PcapFault.{PcapFault}
+use Rattle.run_report.specs.of_pcap_frames.Reading.{capture_read}
+use Rattle.capture_audit.specs.of_capture_view.View.{view_text}
+use Rattle.tool_call.specs.of_segment_plan.declared.plan.Scenario.{Scenario}
+use Rattle.tool_call.specs.of_scenario_keys.declared.refusal.Refusal.{Refusal}
+use Rattle.promised_run.specs.of_scenario.Document.{plan_of}
+use Rattle.run_report.specs.of_run_book.declared.book.Book.{Book}
 use Rattle.run_report.specs.Report.{report_lines}
 use Rattle.run_report.specs.Saved.{capture_of}
-use Rattle.ecmbx_words.specs.declared.form.Form.TheVariants as forms
-use Rattle.ecmbx_words.specs.declared.status.Status.{Status}
-use Rattle.ecmbx_words.specs.declared.status.Status.TheVariants as statuses
-use Rattle.ecmbx_words.specs.Form.{form_in, name_in, saved_in}
-use Rattle.ecmbx_words.specs.Ends.{text_of}
+use Rattle.tool_call.specs.of_ecmbx_words.declared.form.Form.TheVariants as forms
+use Rattle.tool_call.specs.of_ecmbx_words.declared.status.Status.{Status}
+use Rattle.tool_call.specs.of_ecmbx_words.declared.status.Status.TheVariants as statuses
+use Rattle.tool_call.specs.of_ecmbx_words.Form.{form_in, name_in, saved_in}
+use Rattle.tool_call.specs.of_ecmbx_words.Ends.{text_of}
 use Rattle.capture_audit.specs.declared.verdict.Verdict.TheVariants.{Yes, No}
 use Rattle.capture_audit.specs.Audit.{verdict_of}
 use Rattle.ecmbx_call.specs.Audits.{verdict_text, verdict_status}
-use Rattle.ecmbx_words.specs.Files.{Holds, IsLong}
+use Rattle.tool_call.specs.of_ecmbx_words.Files.{Holds, IsLong}
 use Rattle.ecmbx_call.specs.Files.{limit, IsSaved}
 use Rattle.ecmbx_call.specs.Course.{HasRun, status_of}
 use Rattle.promised_run.specs.of_gateway_run.Serving.{Told as PortTold}

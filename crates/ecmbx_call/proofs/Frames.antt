@@ -1,10 +1,10 @@
 -- How many frames a run has.
 use Rattle.std.proofs.Common.{◌≡◌, ℕ, ◌≤◌, length, nat_lt, Bool, true, false, Option, Some, None, IfSome, refl, arith, if◌then◌else◌}
 use Rattle.std.proofs.lemmas.Bool.{ltb-true}
-use Rattle.segment_plan.specs.declared.plan.Scenario.{Scenario}
-use Rattle.segment_plan.specs.Sound.{IsPlan}
-use Rattle.segment_plan.specs.Bound.{bound_of}
-use Rattle.run_book.specs.declared.book.Book.{Book}
+use Rattle.tool_call.specs.of_segment_plan.declared.plan.Scenario.{Scenario}
+use Rattle.tool_call.specs.of_segment_plan.Sound.{IsPlan}
+use Rattle.tool_call.specs.of_segment_plan.Bound.{bound_of}
+use Rattle.run_report.specs.of_run_book.declared.book.Book.{Book}
 use Rattle.promised_run.specs.Session.{budget_or}
 use Rattle.promised_run.specs.Ran.{HasFrames}
 

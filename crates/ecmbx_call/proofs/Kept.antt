@@ -1,10 +1,10 @@
 -- What a call leaves of the files.
 use Rattle.std.proofs.Common.{◌≡◌, ◌≢◌, ap, List, ℕ, Option, Some, None, Err, inl, inr}
-use Rattle.ec_outside.specs.Files.{Table, Saves}
-use Rattle.ec_outside.specs.declared.files.FilesErr.TheVariants.{Failed, NoMemory}
-use Rattle.run_book.specs.declared.book.Book.{Book}
-use Rattle.run_book.specs.declared.book.Ending.TheVariants as endings
-use Rattle.ecmbx_words.specs.declared.status.Status.{Status}
+use Rattle.gateway_stream.specs.of_ec_outside.Files.{Table, Saves}
+use Rattle.gateway_stream.specs.of_ec_outside.declared.files.FilesErr.TheVariants.{Failed, NoMemory}
+use Rattle.run_report.specs.of_run_book.declared.book.Book.{Book}
+use Rattle.run_report.specs.of_run_book.declared.book.Ending.TheVariants as endings
+use Rattle.tool_call.specs.of_ecmbx_words.declared.status.Status.{Status}
 use Rattle.ecmbx_call.specs.Course.{IsUnsaved}
 use Rattle.ecmbx_call.specs.Files.{AreKept, LeavesFiles, OthersKept}
 

@@ -2,17 +2,17 @@
 use Rattle.std.proofs.Common.{◌≡◌, ◌⊎◌, ℕ, ◌||◌, Bool, true, false, List, [], ◌++◌, map, Option, Some, None, refl, sym, ◌∙◌, inl, inr}
 use Rattle.std.specs.Str.{bytes_eq}
 use Rattle.std.proofs.lemmas.Slice.Eq.{bytes_eq-Decides}
-use Rattle.ec_outside.specs.Faults.{Rose}
-use Rattle.ec_outside.specs.Files.{Table}
-use Rattle.ec_outside.specs.Port.{HeardGram}
-use Rattle.ec_outside.specs.declared.port.SentGram.{SentGram}
-use Rattle.segment_plan.specs.declared.plan.Scenario.{Scenario}
-use Rattle.run_book.specs.declared.book.Book.{Book}
-use Rattle.run_book.specs.declared.book.Ending.{Ending}
-use Rattle.run_book.specs.declared.book.Ending.TheVariants as endings
-use Rattle.run_book.specs.declared.book.GramIn.{GramIn}
-use Rattle.run_book.specs.declared.book.GramOut.{GramOut}
-use Rattle.run_book.specs.Book.{IsNew}
+use Rattle.gateway_stream.specs.of_ec_outside.Faults.{Rose}
+use Rattle.gateway_stream.specs.of_ec_outside.Files.{Table}
+use Rattle.gateway_stream.specs.of_ec_outside.Port.{HeardGram}
+use Rattle.gateway_stream.specs.of_ec_outside.declared.port.SentGram.{SentGram}
+use Rattle.tool_call.specs.of_segment_plan.declared.plan.Scenario.{Scenario}
+use Rattle.run_report.specs.of_run_book.declared.book.Book.{Book}
+use Rattle.run_report.specs.of_run_book.declared.book.Ending.{Ending}
+use Rattle.run_report.specs.of_run_book.declared.book.Ending.TheVariants as endings
+use Rattle.run_report.specs.of_run_book.declared.book.GramIn.{GramIn}
+use Rattle.run_report.specs.of_run_book.declared.book.GramOut.{GramOut}
+use Rattle.run_report.specs.of_run_book.Book.{IsNew}
 use Rattle.promised_run.specs.of_gateway_run.Heard.{heard_as as as_heard, sent_as as as_sent, AreHeard, AreSent, AreSentBut}
 use Rattle.promised_run.specs.of_gateway_run.Served.{HasAccount, HasGrams, HasWaited, IsThrough, IsBroken, IsPrompt, IsServed}
 use Rattle.promised_run.specs.of_gateway_run.Serving.{Told}
@@ -20,8 +20,8 @@ use Rattle.promised_run.proofs.of_gateway_run.Waits.{over_later, waited_still}
 use Rattle.gateway_stream.specs.Cutting.{behind_of}
 use Rattle.gateway_stream.specs.Hearing.{heard_in, heard_of, is_broken}
 use Rattle.gateway_stream.specs.Sending.{is_rest, sent_in, sent_of}
-use Rattle.ecmbx_words.specs.declared.status.Status.{Status}
-use Rattle.ecmbx_words.specs.Files.{FileCourse}
+use Rattle.tool_call.specs.of_ecmbx_words.declared.status.Status.{Status}
+use Rattle.tool_call.specs.of_ecmbx_words.Files.{FileCourse}
 use Rattle.ecmbx_call.specs.Files.{limit}
 use Rattle.ecmbx_call.specs.Serving.{HasServed, ServeCourse, ServedIn}
 use Rattle.ecmbx_call.specs.Linked.{may_be_broken}

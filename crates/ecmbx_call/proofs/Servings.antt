@@ -2,13 +2,13 @@
 use Rattle.std.proofs.Common.{◌≡◌, ◌≢◌, ℕ, ◌<◌, ◌⊎◌, List, [], ◌∷◌, length, codes, Bool, if◌then◌else◌, true, false, Option, Some, None, nat_le, ◌&&◌, refl, sym, subst, inl, inr, arith}
 use Rattle.std.specs.Str.{bytes_eq}
 use Rattle.std.proofs.lemmas.Bool.{leb-true}
-use Rattle.ec_outside.specs.Files.{Table}
-use Rattle.segment_plan.specs.declared.plan.Scenario.{Scenario}
-use Rattle.segment_plan.specs.Sound.{IsPlan}
-use Rattle.run_book.specs.declared.book.Book.{Book}
-use Rattle.run_book.specs.declared.book.Ending.{Ending}
-use Rattle.run_book.specs.declared.book.Ending.TheVariants as endings
-use Rattle.run_book.specs.Book.{IsNew}
+use Rattle.gateway_stream.specs.of_ec_outside.Files.{Table}
+use Rattle.tool_call.specs.of_segment_plan.declared.plan.Scenario.{Scenario}
+use Rattle.tool_call.specs.of_segment_plan.Sound.{IsPlan}
+use Rattle.run_report.specs.of_run_book.declared.book.Book.{Book}
+use Rattle.run_report.specs.of_run_book.declared.book.Ending.{Ending}
+use Rattle.run_report.specs.of_run_book.declared.book.Ending.TheVariants as endings
+use Rattle.run_report.specs.of_run_book.Book.{IsNew}
 use Rattle.promised_run.specs.Due.{IsServedDue}
 use Rattle.promised_run.specs.Given.{IsServedGiven}
 use Rattle.promised_run.specs.Left.{IsServedLeft}
@@ -24,12 +24,12 @@ use Rattle.promised_run.specs.Visits.{IsServedVisited}
 use Rattle.promised_run.specs.Written.{IsServedWritten}
 use Rattle.promised_run.specs.of_gateway_run.Serving.{Told}
 use Rattle.promised_run.specs.of_gateway_run.Served.{IsServed}
-use Rattle.ecmbx_words.specs.declared.form.Form.TheVariants as forms
-use Rattle.ecmbx_words.specs.declared.status.Status.{Status}
-use Rattle.ecmbx_words.specs.declared.status.Status.TheVariants as statuses
-use Rattle.ecmbx_words.specs.Form.{form_in, made_in, served_in, number_in}
-use Rattle.ecmbx_words.specs.Texts.{refused_line}
-use Rattle.ecmbx_words.specs.Files.{Followed, IsLoaded}
+use Rattle.tool_call.specs.of_ecmbx_words.declared.form.Form.TheVariants as forms
+use Rattle.tool_call.specs.of_ecmbx_words.declared.status.Status.{Status}
+use Rattle.tool_call.specs.of_ecmbx_words.declared.status.Status.TheVariants as statuses
+use Rattle.tool_call.specs.of_ecmbx_words.Form.{form_in, made_in, served_in, number_in}
+use Rattle.tool_call.specs.of_ecmbx_words.Texts.{refused_line}
+use Rattle.tool_call.specs.of_ecmbx_words.Files.{Followed, IsLoaded}
 use Rattle.ecmbx_call.specs.Files.{limit}
 use Rattle.ecmbx_call.specs.Course.{IsReportable, IsUnread}
 use Rattle.ecmbx_call.specs.Serving.{HasServed, ServeCourse, ServedOn, ServedIn}

@@ -2,18 +2,18 @@
 use Rattle.std.proofs.Common.{◌≡◌, ◌⊎◌, ℕ, ◌<◌, List, [], ◌∷◌, length, get_or, map, codes, String, string_bytes, Bool, true, false, if◌then◌else◌, Option, subst, ap, inl, inr, arith}
 use Rattle.std.specs.declared.alloc.Global.{Global}
 use Rattle.std.specs.Str.{bytes_eq}
-use Rattle.ec_outside.specs.Files.{Table}
-use Rattle.run_book.specs.declared.book.Book.{Book}
-use Rattle.run_book.specs.Book.{IsNew}
+use Rattle.gateway_stream.specs.of_ec_outside.Files.{Table}
+use Rattle.run_report.specs.of_run_book.declared.book.Book.{Book}
+use Rattle.run_report.specs.of_run_book.Book.{IsNew}
 use Rattle.promised_run.specs.of_gateway_run.Serving.{Told}
-use Rattle.ecmbx_words.specs.declared.form.Form.TheVariants as forms
-use Rattle.ecmbx_words.specs.declared.status.Status.{Status}
-use Rattle.ecmbx_words.specs.Form.{form_in, name_in, as_serve}
-use Rattle.ecmbx_words.specs.Files.{FileCourse, Followed}
+use Rattle.tool_call.specs.of_ecmbx_words.declared.form.Form.TheVariants as forms
+use Rattle.tool_call.specs.of_ecmbx_words.declared.status.Status.{Status}
+use Rattle.tool_call.specs.of_ecmbx_words.Form.{form_in, name_in, as_serve}
+use Rattle.tool_call.specs.of_ecmbx_words.Files.{FileCourse, Followed}
 use Rattle.ecmbx_call.specs.Files.{limit}
 use Rattle.ecmbx_call.specs.Course.{Began, BeganIn}
 use Rattle.ecmbx_call.specs.Serving.{ServeCourse, ServedIn}
-use Rattle.ecmbx_words.proofs.Loads.{turned}
+use Rattle.tool_call.proofs.of_ecmbx_words.Loads.{turned}
 use Rattle.ecmbx_call.proofs.Retold.{Retold, file_retold}
 
 -- a file that was served, in other words for what is told

@@ -1,30 +1,30 @@
 -- What a course says of its status, case by case.
 use Rattle.std.proofs.Common.{◌≡◌, ◌≢◌, ℕ, ◌<◌, ◌≤◌, ◌⊎◌, List, [], ◌∷◌, length, Option, Some, None, Ok, Bool, true, false, refl, sym, subst, ap, ◌∙◌, inl, inr}
-use Rattle.ec_outside.specs.Files.{Table, file_of}
-use Rattle.pcap_frames.specs.declared.capture.Capture.{Capture}
-use Rattle.pcap_frames.specs.Reading.{capture_read}
-use Rattle.capture_view.specs.View.{view_text}
-use Rattle.segment_plan.specs.declared.plan.Scenario.{Scenario}
-use Rattle.scenario.specs.Document.{plan_of}
+use Rattle.gateway_stream.specs.of_ec_outside.Files.{Table, file_of}
+use Rattle.run_report.specs.of_pcap_frames.declared.capture.Capture.{Capture}
+use Rattle.run_report.specs.of_pcap_frames.Reading.{capture_read}
+use Rattle.capture_audit.specs.of_capture_view.View.{view_text}
+use Rattle.tool_call.specs.of_segment_plan.declared.plan.Scenario.{Scenario}
+use Rattle.promised_run.specs.of_scenario.Document.{plan_of}
 use Rattle.scenario_made.specs.Made.{text_of as made_text}
-use Rattle.run_book.specs.declared.book.Book.{Book}
-use Rattle.run_book.specs.declared.book.Ending.{Ending}
-use Rattle.run_book.specs.declared.book.Ending.TheVariants as endings
-use Rattle.run_book.specs.Book.{IsNew}
+use Rattle.run_report.specs.of_run_book.declared.book.Book.{Book}
+use Rattle.run_report.specs.of_run_book.declared.book.Ending.{Ending}
+use Rattle.run_report.specs.of_run_book.declared.book.Ending.TheVariants as endings
+use Rattle.run_report.specs.of_run_book.Book.{IsNew}
 use Rattle.run_report.specs.Report.{report_lines}
 use Rattle.run_report.specs.Saved.{capture_of}
-use Rattle.ecmbx_words.specs.declared.form.Form.{Form}
-use Rattle.ecmbx_words.specs.declared.form.Form.TheVariants as forms
-use Rattle.ecmbx_words.specs.declared.status.Status.{Status}
-use Rattle.ecmbx_words.specs.declared.status.Status.TheVariants as statuses
-use Rattle.ecmbx_words.specs.Form.{form_in, name_in, saved_in}
-use Rattle.ecmbx_words.specs.Ends.{text_of, Ended, IsAmong}
+use Rattle.tool_call.specs.of_ecmbx_words.declared.form.Form.{Form}
+use Rattle.tool_call.specs.of_ecmbx_words.declared.form.Form.TheVariants as forms
+use Rattle.tool_call.specs.of_ecmbx_words.declared.status.Status.{Status}
+use Rattle.tool_call.specs.of_ecmbx_words.declared.status.Status.TheVariants as statuses
+use Rattle.tool_call.specs.of_ecmbx_words.Form.{form_in, name_in, saved_in}
+use Rattle.tool_call.specs.of_ecmbx_words.Ends.{text_of, Ended, IsAmong}
 use Rattle.capture_audit.specs.declared.station.StationAudit.{StationAudit}
 use Rattle.capture_audit.specs.declared.verdict.Verdict.{Verdict}
 use Rattle.capture_audit.specs.declared.verdict.Verdict.TheVariants.{Yes, No}
 use Rattle.capture_audit.specs.Audit.{verdict_of}
 use Rattle.ecmbx_call.specs.Audits.{verdict_text, verdict_status, AuditCourse}
-use Rattle.ecmbx_words.specs.Files.{Holds, IsLong, FileCourse}
+use Rattle.tool_call.specs.of_ecmbx_words.Files.{Holds, IsLong, FileCourse}
 use Rattle.ecmbx_call.specs.Files.{limit, IsSaved}
 use Rattle.ecmbx_call.specs.Course.{HasRun, status_of, RunCourse, SavedCourse, ViewCourse, Course}
 use Rattle.promised_run.specs.of_gateway_run.Serving.{Told as PortTold}

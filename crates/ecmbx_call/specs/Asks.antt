@@ -1,10 +1,10 @@
 -- The contract of the call of `ask` as one fact.
 use Rattle.std.specs.Prelude.{◌≡◌, ℕ, List, Option}
-use Rattle.ec_outside.specs.Faults.{Rose}
-use Rattle.ec_outside.specs.Files.{Table}
-use Rattle.gateway_tool.specs.Told.{Told}
-use Rattle.ecmbx_words.specs.declared.status.Status.{Status}
-use Rattle.ecmbx_words.specs.declared.status.Status.TheVariants as statuses
+use Rattle.gateway_stream.specs.of_ec_outside.Faults.{Rose}
+use Rattle.gateway_stream.specs.of_ec_outside.Files.{Table}
+use Rattle.tool_call.specs.of_gateway_tool.Told.{Told}
+use Rattle.tool_call.specs.of_ecmbx_words.declared.status.Status.{Status}
+use Rattle.tool_call.specs.of_ecmbx_words.declared.status.Status.TheVariants as statuses
 use Rattle.tool_call.specs.Course.{AsksTo}
 use Rattle.tool_call.specs.Causes.{UsageCause, AbsentCause, LongCause, NoAnswerCause, FaultCause}
 

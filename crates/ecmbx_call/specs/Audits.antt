@@ -4,13 +4,13 @@ use Rattle.capture_audit.specs.declared.station.StationAudit.{StationAudit}
 use Rattle.capture_audit.specs.declared.verdict.Verdict.{Verdict}
 use Rattle.capture_audit.specs.declared.verdict.Verdict.TheVariants.{Yes, No}
 use Rattle.capture_audit.specs.Audit.{verdict_of}
-use Rattle.pcap_frames.specs.declared.capture.Capture.{Capture}
-use Rattle.pcap_frames.specs.declared.capture.PcapFault.{PcapFault}
-use Rattle.pcap_frames.specs.Reading.{capture_read}
-use Rattle.ecmbx_words.specs.declared.status.Status.{Status}
-use Rattle.ecmbx_words.specs.declared.status.Status.TheVariants as statuses
-use Rattle.ecmbx_words.specs.Ends.{text_of, PutAll}
-use Rattle.ecmbx_words.specs.Texts.{station_line, yes_line, no_line, capture_line}
+use Rattle.run_report.specs.of_pcap_frames.declared.capture.Capture.{Capture}
+use Rattle.run_report.specs.of_pcap_frames.declared.capture.PcapFault.{PcapFault}
+use Rattle.run_report.specs.of_pcap_frames.Reading.{capture_read}
+use Rattle.tool_call.specs.of_ecmbx_words.declared.status.Status.{Status}
+use Rattle.tool_call.specs.of_ecmbx_words.declared.status.Status.TheVariants as statuses
+use Rattle.tool_call.specs.of_ecmbx_words.Ends.{text_of, PutAll}
+use Rattle.tool_call.specs.of_ecmbx_words.Texts.{station_line, yes_line, no_line, capture_line}
 
 -- a station, and how many mails were sent there and accepted
 abbrev pub line_of : StationAudit → List ℕ

@@ -1,16 +1,16 @@
 -- The contract of the top call as one fact.
 use Rattle.std.specs.Prelude.{◌≡◌, ◌≢◌, ◌⊎◌, ℕ, List, Option}
-use Rattle.ec_outside.specs.Faults.{Rose}
-use Rattle.ec_outside.specs.Files.{Table}
-use Rattle.segment_plan.specs.declared.plan.Scenario.{Scenario}
-use Rattle.run_book.specs.declared.book.Book.{Book}
-use Rattle.run_book.specs.Book.{IsNew}
+use Rattle.gateway_stream.specs.of_ec_outside.Faults.{Rose}
+use Rattle.gateway_stream.specs.of_ec_outside.Files.{Table}
+use Rattle.tool_call.specs.of_segment_plan.declared.plan.Scenario.{Scenario}
+use Rattle.run_report.specs.of_run_book.declared.book.Book.{Book}
+use Rattle.run_report.specs.of_run_book.Book.{IsNew}
 use Rattle.promised_run.specs.of_gateway_run.Serving.{Told}
-use Rattle.ecmbx_words.specs.declared.form.Form.TheVariants as forms
-use Rattle.ecmbx_words.specs.declared.status.Status.{Status}
-use Rattle.ecmbx_words.specs.declared.status.Status.TheVariants as statuses
-use Rattle.ecmbx_words.specs.Form.{form_in, saved_in}
-use Rattle.ecmbx_words.specs.Files.{Followed}
+use Rattle.tool_call.specs.of_ecmbx_words.declared.form.Form.TheVariants as forms
+use Rattle.tool_call.specs.of_ecmbx_words.declared.status.Status.{Status}
+use Rattle.tool_call.specs.of_ecmbx_words.declared.status.Status.TheVariants as statuses
+use Rattle.tool_call.specs.of_ecmbx_words.Form.{form_in, saved_in}
+use Rattle.tool_call.specs.of_ecmbx_words.Files.{Followed}
 use Rattle.ecmbx_call.specs.Files.{LeavesFiles}
 use Rattle.ecmbx_call.specs.Complete.{CompletesServing, CompletesTo}
 use Rattle.ecmbx_call.specs.Course.{Course, Began}

@@ -1,20 +1,20 @@
 -- When each status comes.
 use Rattle.std.specs.Prelude.{◌≡◌, ℕ, ◌<◌, ◌≤◌, ◌⊎◌, Bool, true, false, List, [], ◌∷◌, length, Option, Some, None, Ok, Err}
-use Rattle.ec_outside.specs.Faults.{Rose}
-use Rattle.ec_outside.specs.Files.{Table, file_of}
-use Rattle.ec_outside.specs.Sink.{Wrote}
-use Rattle.capture_view.specs.View.{view_text}
+use Rattle.gateway_stream.specs.of_ec_outside.Faults.{Rose}
+use Rattle.gateway_stream.specs.of_ec_outside.Files.{Table, file_of}
+use Rattle.gateway_stream.specs.of_ec_outside.Sink.{Wrote}
+use Rattle.capture_audit.specs.of_capture_view.View.{view_text}
 use Rattle.scenario_made.specs.Made.{text_of as made_text}
-use Rattle.pcap_frames.specs.declared.capture.Capture.{Capture}
-use Rattle.pcap_frames.specs.declared.capture.PcapFault.{PcapFault}
-use Rattle.pcap_frames.specs.Reading.{capture_read}
-use Rattle.segment_plan.specs.declared.plan.Scenario.{Scenario}
-use Rattle.scenario_keys.specs.declared.refusal.Refusal.{Refusal}
-use Rattle.scenario.specs.Document.{plan_of}
-use Rattle.run_book.specs.Book.{IsNew}
-use Rattle.run_book.specs.declared.book.Book.{Book}
-use Rattle.run_book.specs.declared.book.Ending.{Ending}
-use Rattle.run_book.specs.declared.book.Ending.TheVariants as endings
+use Rattle.run_report.specs.of_pcap_frames.declared.capture.Capture.{Capture}
+use Rattle.run_report.specs.of_pcap_frames.declared.capture.PcapFault.{PcapFault}
+use Rattle.run_report.specs.of_pcap_frames.Reading.{capture_read}
+use Rattle.tool_call.specs.of_segment_plan.declared.plan.Scenario.{Scenario}
+use Rattle.tool_call.specs.of_scenario_keys.declared.refusal.Refusal.{Refusal}
+use Rattle.promised_run.specs.of_scenario.Document.{plan_of}
+use Rattle.run_report.specs.of_run_book.Book.{IsNew}
+use Rattle.run_report.specs.of_run_book.declared.book.Book.{Book}
+use Rattle.run_report.specs.of_run_book.declared.book.Ending.{Ending}
+use Rattle.run_report.specs.of_run_book.declared.book.Ending.TheVariants as endings
 use Rattle.promised_run.specs.Left.{LeavesSome, RestAll, ServedLeavesSome}
 use Rattle.promised_run.specs.Ran.{IsOver, IsCut}
 use Rattle.promised_run.specs.Session.{some_given_up}
@@ -22,17 +22,17 @@ use Rattle.promised_run.specs.of_gateway_run.Done.{ServedRestAll}
 use Rattle.promised_run.specs.of_gateway_run.Served.{HasAccount}
 use Rattle.run_report.specs.Report.{report_lines}
 use Rattle.run_report.specs.Saved.{capture_of}
-use Rattle.ecmbx_words.specs.declared.form.Form.{Form}
-use Rattle.ecmbx_words.specs.declared.form.Form.TheVariants as forms
-use Rattle.ecmbx_words.specs.declared.status.Status.{Status}
-use Rattle.ecmbx_words.specs.declared.status.Status.TheVariants as statuses
-use Rattle.ecmbx_words.specs.Form.{form_in, name_in, saved_in}
-use Rattle.ecmbx_words.specs.Ends.{text_of, Ended, IsAmong}
+use Rattle.tool_call.specs.of_ecmbx_words.declared.form.Form.{Form}
+use Rattle.tool_call.specs.of_ecmbx_words.declared.form.Form.TheVariants as forms
+use Rattle.tool_call.specs.of_ecmbx_words.declared.status.Status.{Status}
+use Rattle.tool_call.specs.of_ecmbx_words.declared.status.Status.TheVariants as statuses
+use Rattle.tool_call.specs.of_ecmbx_words.Form.{form_in, name_in, saved_in}
+use Rattle.tool_call.specs.of_ecmbx_words.Ends.{text_of, Ended, IsAmong}
 use Rattle.capture_audit.specs.declared.station.StationAudit.{StationAudit}
 use Rattle.capture_audit.specs.declared.verdict.Verdict.TheVariants.{Yes, No}
 use Rattle.capture_audit.specs.Audit.{verdict_of}
 use Rattle.ecmbx_call.specs.Audits.{verdict_status, verdict_text}
-use Rattle.ecmbx_words.specs.Files.{Holds, IsLong}
+use Rattle.tool_call.specs.of_ecmbx_words.Files.{Holds, IsLong}
 use Rattle.ecmbx_call.specs.Files.{limit, IsSaved}
 use Rattle.promised_run.specs.of_gateway_run.Serving.{Told}
 use Rattle.ecmbx_call.specs.Course.{HasRun, status_of}

@@ -1,21 +1,21 @@
 -- What a run or a serving comes to whose budget is as many frames as the bound, where no file and no sink has a fault.
 use Rattle.std.specs.Prelude.{◌≡◌, ◌≤◌, ◌⊎◌, ℕ, List, Option, Ok}
-use Rattle.ec_outside.specs.Faults.{Rose}
-use Rattle.ec_outside.specs.Files.{Table}
+use Rattle.gateway_stream.specs.of_ec_outside.Faults.{Rose}
+use Rattle.gateway_stream.specs.of_ec_outside.Files.{Table}
 use Rattle.promised_run.specs.of_gateway_run.Serving.{Told}
-use Rattle.segment_plan.specs.Bound.{bound_of}
-use Rattle.segment_plan.specs.declared.plan.Scenario.{Scenario}
-use Rattle.scenario.specs.Document.{plan_of}
-use Rattle.run_book.specs.declared.book.Book.{Book}
-use Rattle.run_book.specs.declared.book.Ending.TheVariants as endings
+use Rattle.tool_call.specs.of_segment_plan.Bound.{bound_of}
+use Rattle.tool_call.specs.of_segment_plan.declared.plan.Scenario.{Scenario}
+use Rattle.promised_run.specs.of_scenario.Document.{plan_of}
+use Rattle.run_report.specs.of_run_book.declared.book.Book.{Book}
+use Rattle.run_report.specs.of_run_book.declared.book.Ending.TheVariants as endings
 use Rattle.promised_run.specs.Few.{AreFewLost}
 use Rattle.promised_run.specs.Promised.{IsPromised, LeavesNothing}
 use Rattle.promised_run.specs.Session.{budget_of}
 use Rattle.promised_run.specs.ServedBounded.{HearsFair}
-use Rattle.ecmbx_words.specs.declared.form.Form.TheVariants as forms
-use Rattle.ecmbx_words.specs.declared.status.Status.{Status}
-use Rattle.ecmbx_words.specs.declared.status.Status.TheVariants as statuses
-use Rattle.ecmbx_words.specs.Form.{form_in}
+use Rattle.tool_call.specs.of_ecmbx_words.declared.form.Form.TheVariants as forms
+use Rattle.tool_call.specs.of_ecmbx_words.declared.status.Status.{Status}
+use Rattle.tool_call.specs.of_ecmbx_words.declared.status.Status.TheVariants as statuses
+use Rattle.tool_call.specs.of_ecmbx_words.Form.{form_in}
 use Rattle.ecmbx_call.specs.Causes.{IsFound, IsRunning}
 use Rattle.ecmbx_call.specs.Serving.{HasServed}
 

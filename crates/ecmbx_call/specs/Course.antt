@@ -1,36 +1,36 @@
 -- What a call of the program does, from its words to its status: one case for each row of the table of answers.
 use Rattle.std.specs.Prelude.{◌≡◌, ℕ, ◌≤◌, ◌⊎◌, false, List, [], map, length, All, String, string_bytes, Option, Some, Ok, Err}
 use Rattle.std.specs.declared.alloc.Global.{Global}
-use Rattle.ec_outside.specs.Faults.{Rose}
-use Rattle.ec_outside.specs.Files.{Table}
-use Rattle.pcap_frames.specs.declared.capture.Capture.{Capture}
-use Rattle.pcap_frames.specs.declared.capture.PcapFault.{PcapFault}
-use Rattle.pcap_frames.specs.Reading.{capture_read}
-use Rattle.capture_view.specs.View.{view_text}
-use Rattle.segment_plan.specs.declared.plan.Scenario.{Scenario}
-use Rattle.scenario_keys.specs.declared.refusal.Refusal.{Refusal}
-use Rattle.scenario.specs.Document.{plan_of}
+use Rattle.gateway_stream.specs.of_ec_outside.Faults.{Rose}
+use Rattle.gateway_stream.specs.of_ec_outside.Files.{Table}
+use Rattle.run_report.specs.of_pcap_frames.declared.capture.Capture.{Capture}
+use Rattle.run_report.specs.of_pcap_frames.declared.capture.PcapFault.{PcapFault}
+use Rattle.run_report.specs.of_pcap_frames.Reading.{capture_read}
+use Rattle.capture_audit.specs.of_capture_view.View.{view_text}
+use Rattle.tool_call.specs.of_segment_plan.declared.plan.Scenario.{Scenario}
+use Rattle.tool_call.specs.of_scenario_keys.declared.refusal.Refusal.{Refusal}
+use Rattle.promised_run.specs.of_scenario.Document.{plan_of}
 use Rattle.scenario_made.specs.Made.{text_of as made_text}
-use Rattle.run_book.specs.declared.book.Book.{Book}
-use Rattle.run_book.specs.Ports.{ports_of, IsAtPort}
-use Rattle.run_book.specs.Book.{IsNew}
+use Rattle.run_report.specs.of_run_book.declared.book.Book.{Book}
+use Rattle.run_report.specs.of_run_book.Ports.{ports_of, IsAtPort}
+use Rattle.run_report.specs.of_run_book.Book.{IsNew}
 use Rattle.promised_run.specs.Bounded.{IsBounded}
 use Rattle.promised_run.specs.Promised.{IsPromised}
 use Rattle.promised_run.specs.Ran.{HasFrames, EndsAs}
 use Rattle.run_report.specs.Report.{report_lines}
 use Rattle.run_report.specs.Saved.{capture_of}
-use Rattle.ecmbx_words.specs.declared.form.Form.TheVariants as forms
-use Rattle.ecmbx_words.specs.declared.status.Status.{Status}
-use Rattle.ecmbx_words.specs.declared.status.Status.TheVariants as statuses
-use Rattle.ecmbx_words.specs.Form.{form_in, name_in, saved_in}
-use Rattle.ecmbx_words.specs.Ends.{text_of, Ended}
-use Rattle.ecmbx_words.specs.Texts.{usage_line, refused_line, capture_line}
-pub use Rattle.ecmbx_words.specs.Files.{Followed}
+use Rattle.tool_call.specs.of_ecmbx_words.declared.form.Form.TheVariants as forms
+use Rattle.tool_call.specs.of_ecmbx_words.declared.status.Status.{Status}
+use Rattle.tool_call.specs.of_ecmbx_words.declared.status.Status.TheVariants as statuses
+use Rattle.tool_call.specs.of_ecmbx_words.Form.{form_in, name_in, saved_in}
+use Rattle.tool_call.specs.of_ecmbx_words.Ends.{text_of, Ended}
+use Rattle.tool_call.specs.of_ecmbx_words.Texts.{usage_line, refused_line, capture_line}
+pub use Rattle.tool_call.specs.of_ecmbx_words.Files.{Followed}
 pub use Rattle.ecmbx_call.specs.Ends.{status_of}
 use Rattle.promised_run.specs.of_gateway_run.Serving.{Told}
 use Rattle.ecmbx_call.specs.Audits.{AuditCourse}
 use Rattle.ecmbx_call.specs.Serving.{ServeCourse, Served}
-use Rattle.ecmbx_words.specs.Files.{Holds, FileCourse}
+use Rattle.tool_call.specs.of_ecmbx_words.Files.{Holds, FileCourse}
 use Rattle.ecmbx_call.specs.Files.{limit, AreKept, IsSaved, OthersKept}
 
 -- the octets of the words

@@ -1,8 +1,8 @@
 -- How a call ends by the ending of its run.
-use Rattle.run_book.specs.declared.book.Ending.{Ending}
-use Rattle.run_book.specs.declared.book.Ending.TheVariants as endings
-use Rattle.ecmbx_words.specs.declared.status.Status.{Status}
-use Rattle.ecmbx_words.specs.declared.status.Status.TheVariants as statuses
+use Rattle.run_report.specs.of_run_book.declared.book.Ending.{Ending}
+use Rattle.run_report.specs.of_run_book.declared.book.Ending.TheVariants as endings
+use Rattle.tool_call.specs.of_ecmbx_words.declared.status.Status.{Status}
+use Rattle.tool_call.specs.of_ecmbx_words.declared.status.Status.TheVariants as statuses
 
 -- how a call ends whose run or serving ended so
 abbrev pub status_of : Ending → Status

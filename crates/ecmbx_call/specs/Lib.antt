@@ -1,3 +1,5 @@
+pub use Rattle.gateway_stream.specs.of_ec_outside as of_ec_outside
+pub use Rattle.run_report.specs.of_run_book as of_run_book
 pub mod Audits
 pub mod Ends
 pub mod Files

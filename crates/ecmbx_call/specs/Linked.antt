@@ -1,6 +1,6 @@
 -- What is told of a link on which requests are heard.
 use Rattle.std.specs.Prelude.{◌≡◌, ℕ, ◌||◌, Bool, true, List, [], Option, Some, None}
-use Rattle.ec_outside.specs.Port.{HeardGram}
+use Rattle.gateway_stream.specs.of_ec_outside.Port.{HeardGram}
 use Rattle.promised_run.specs.of_gateway_run.Serving.{Told}
 use Rattle.gateway_stream.specs.Cutting.{behind_of}
 use Rattle.gateway_stream.specs.Hearing.{heard_in, heard_of, is_broken}

@@ -1,18 +1,18 @@
 -- What a call does and promises, by what its files, its sink, and its port or link tell.
 use Rattle.std.specs.Prelude.{◌≡◌, ◌≢◌, ℕ, List, true, false}
-use Rattle.ec_outside.specs.Faults.{Rose}
-use Rattle.ec_outside.specs.declared.files.Files.{Ghosts as FilesTell}
-use Rattle.ec_outside.specs.declared.sink.Sink.{Ghosts as SinkTells}
-use Rattle.ec_outside.specs.declared.port.Port.{Ghosts as PortTells}
-use Rattle.ec_links.specs.declared.link.Link.{Ghosts as LinkTells}
-use Rattle.segment_plan.specs.declared.plan.Scenario.{Scenario}
-use Rattle.run_book.specs.declared.book.Book.{Book}
-use Rattle.run_book.specs.declared.book.Ending.TheVariants as endings
+use Rattle.gateway_stream.specs.of_ec_outside.Faults.{Rose}
+use Rattle.gateway_stream.specs.of_ec_outside.declared.files.Files.{Ghosts as FilesTell}
+use Rattle.gateway_stream.specs.of_ec_outside.declared.sink.Sink.{Ghosts as SinkTells}
+use Rattle.gateway_stream.specs.of_ec_outside.declared.port.Port.{Ghosts as PortTells}
+use Rattle.gateway_stream.specs.of_ec_links.declared.link.Link.{Ghosts as LinkTells}
+use Rattle.tool_call.specs.of_segment_plan.declared.plan.Scenario.{Scenario}
+use Rattle.run_report.specs.of_run_book.declared.book.Book.{Book}
+use Rattle.run_report.specs.of_run_book.declared.book.Ending.TheVariants as endings
 use Rattle.promised_run.specs.of_gateway_run.Serving.{Told, told}
-use Rattle.gateway_tool.specs.Told.{told as asked}
+use Rattle.tool_call.specs.of_gateway_tool.Told.{told as asked}
 use Rattle.tool_call.specs.Asked.{is_ask}
-use Rattle.ecmbx_words.specs.declared.status.Status.{Status}
-use Rattle.ecmbx_words.specs.Form.{as_serve, saved_in}
+use Rattle.tool_call.specs.of_ecmbx_words.declared.status.Status.{Status}
+use Rattle.tool_call.specs.of_ecmbx_words.Form.{as_serve, saved_in}
 use Rattle.ecmbx_call.specs.Asks.{Asks}
 use Rattle.ecmbx_call.specs.Calls.{Calls}
 use Rattle.ecmbx_call.specs.Causes.{IsCalm, RunsTo, SavesTo, ServesTo, ShowsTo, AuditsTo}

@@ -1,12 +1,12 @@
 -- What a call that serves a plan leaves, and what it puts.
 use Rattle.std.specs.Prelude.{◌≡◌, ℕ, List, Option, Some, Ok, Err}
-use Rattle.ec_outside.specs.Faults.{Rose}
-use Rattle.ec_outside.specs.Files.{Table}
-use Rattle.segment_plan.specs.declared.plan.Scenario.{Scenario}
-use Rattle.scenario_keys.specs.declared.refusal.Refusal.{Refusal}
-use Rattle.scenario.specs.Document.{plan_of}
-use Rattle.run_book.specs.declared.book.Book.{Book}
-use Rattle.run_book.specs.Book.{IsNew}
+use Rattle.gateway_stream.specs.of_ec_outside.Faults.{Rose}
+use Rattle.gateway_stream.specs.of_ec_outside.Files.{Table}
+use Rattle.tool_call.specs.of_segment_plan.declared.plan.Scenario.{Scenario}
+use Rattle.tool_call.specs.of_scenario_keys.declared.refusal.Refusal.{Refusal}
+use Rattle.promised_run.specs.of_scenario.Document.{plan_of}
+use Rattle.run_report.specs.of_run_book.declared.book.Book.{Book}
+use Rattle.run_report.specs.of_run_book.Book.{IsNew}
 use Rattle.promised_run.specs.Due.{IsServedDue}
 use Rattle.promised_run.specs.Given.{IsServedGiven}
 use Rattle.promised_run.specs.Left.{IsServedLeft}
@@ -23,13 +23,13 @@ use Rattle.promised_run.specs.Written.{IsServedWritten}
 use Rattle.run_report.specs.Report.{report_lines}
 use Rattle.promised_run.specs.of_gateway_run.Serving.{Told}
 use Rattle.promised_run.specs.of_gateway_run.Served.{IsServed}
-use Rattle.ecmbx_words.specs.declared.form.Form.TheVariants as forms
-use Rattle.ecmbx_words.specs.declared.status.Status.{Status}
-use Rattle.ecmbx_words.specs.declared.status.Status.TheVariants as statuses
-use Rattle.ecmbx_words.specs.Form.{form_in, name_in}
-use Rattle.ecmbx_words.specs.Ends.{text_of}
-use Rattle.ecmbx_words.specs.Texts.{refused_line}
-use Rattle.ecmbx_words.specs.Files.{Holds, FileCourse, Followed}
+use Rattle.tool_call.specs.of_ecmbx_words.declared.form.Form.TheVariants as forms
+use Rattle.tool_call.specs.of_ecmbx_words.declared.status.Status.{Status}
+use Rattle.tool_call.specs.of_ecmbx_words.declared.status.Status.TheVariants as statuses
+use Rattle.tool_call.specs.of_ecmbx_words.Form.{form_in, name_in}
+use Rattle.tool_call.specs.of_ecmbx_words.Ends.{text_of}
+use Rattle.tool_call.specs.of_ecmbx_words.Texts.{refused_line}
+use Rattle.tool_call.specs.of_ecmbx_words.Files.{Holds, FileCourse, Followed}
 use Rattle.ecmbx_call.specs.Files.{limit}
 use Rattle.ecmbx_call.specs.Ends.{status_of}
 

@@ -1,16 +1,16 @@
 ghost use Rattle.std.specs.Prelude.{◌≡◌, ◌≤◌, Ok, length, map, IfOk};
-ghost use Rattle.ec_outside.specs.Faults.{Rose};
-ghost use Rattle.pcap_frames.specs.Reading.{capture_read};
+ghost use Rattle.gateway_stream.specs.of_ec_outside.Faults.{Rose};
+ghost use Rattle.run_report.specs.of_pcap_frames.Reading.{capture_read};
 ghost use Rattle.capture_audit.specs.Audit.{verdict_of};
-ghost use Rattle.ecmbx_words.specs.declared.status.Status.TheVariants as statuses;
+ghost use Rattle.tool_call.specs.of_ecmbx_words.declared.status.Status.TheVariants as statuses;
 ghost use Rattle.ecmbx_call.specs.Audits.{line_of, yes_lines, PutsVerdict};
 
 use capture_audit::{StationAudit, Verdict, audit};
-use ec_fields::{NoMemory, Octets, Rows};
-use ec_outside::Sink;
-use ecmbx_words::{Status, audit_no, audit_yes, say, say_lines, station_text};
-use pcap_frames::Capture;
+use gateway_stream::ec_outside::Sink;
+use run_report::pcap_frames::Capture;
+use scenario_made::ec_fields::{NoMemory, Octets, Rows};
 use std::alloc::Global;
+use tool_call::ecmbx_words::{Status, audit_no, audit_yes, say, say_lines, station_text};
 
 // A line for each station.
 fn station_lines(alloc: Global, stations: &[StationAudit]) -> Result<Rows<Octets>, NoMemory>

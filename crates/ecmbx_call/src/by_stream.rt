@@ -1,20 +1,20 @@
 ghost use Rattle.std.specs.Prelude.{◌≡◌, ◌⊎◌, ◌<◌};
-ghost use Rattle.ec_outside.specs.Faults.{Rose};
-ghost use Rattle.run_book.specs.Book.{IsNew};
-ghost use Rattle.ecmbx_words.specs.declared.status.Status.TheVariants as statuses;
-ghost use Rattle.ecmbx_words.specs.Form.{as_serve};
+ghost use Rattle.gateway_stream.specs.of_ec_outside.Faults.{Rose};
+ghost use Rattle.run_report.specs.of_run_book.Book.{IsNew};
+ghost use Rattle.tool_call.specs.of_ecmbx_words.declared.status.Status.TheVariants as statuses;
+ghost use Rattle.tool_call.specs.of_ecmbx_words.Form.{as_serve};
 ghost use Rattle.ecmbx_call.specs.Course.{words_of, Began};
 ghost use Rattle.ecmbx_call.specs.Serving.{ServedIn};
 ghost use Rattle.ecmbx_call.specs.Causes.{ServesNone};
 ghost use Rattle.ecmbx_call.specs.Objects.{first_of, last_of, PutsNoMore, ServesOnLink, CarriesOnLink, CallsOnLink};
 
 use crate::top::serve_file;
-use ec_links::Link;
-use ec_outside::{Files, Sink};
-use ecmbx_words::{Status, say, stream_of, usage};
 use gateway_stream::WholePort;
-use run_book::Book;
+use gateway_stream::ec_links::Link;
+use gateway_stream::ec_outside::{Files, Sink};
+use run_report::run_book::Book;
 use std::alloc::Global;
+use tool_call::ecmbx_words::{Status, say, stream_of, usage};
 
 // Serves the scenario under a name over a link.
 fn stream_file<F: Files, O: Sink, L: Link>(

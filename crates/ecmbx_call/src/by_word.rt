@@ -1,6 +1,6 @@
 ghost use Rattle.std.specs.Prelude.{◌≡◌, true, None};
-ghost use Rattle.run_book.specs.Book.{IsNew};
-ghost use Rattle.ecmbx_words.specs.Form.{as_serve};
+ghost use Rattle.run_report.specs.of_run_book.Book.{IsNew};
+ghost use Rattle.tool_call.specs.of_ecmbx_words.Form.{as_serve};
 ghost use Rattle.ecmbx_call.specs.Course.{words_of};
 ghost use Rattle.ecmbx_call.specs.Causes.{ServesNone};
 ghost use Rattle.ecmbx_call.specs.Objects.{PutsNoMore, StreamsFirst, AsksFirst, CallsElse};
@@ -9,11 +9,11 @@ ghost use Rattle.ecmbx_call.specs.First.{is_stream};
 
 use crate::by_stream::stream_call;
 use crate::top::ecmbx;
-use ec_links::Link;
-use ec_outside::{Files, Port, Sink};
-use ecmbx_words::Status;
-use run_book::Book;
+use gateway_stream::ec_links::Link;
+use gateway_stream::ec_outside::{Files, Port, Sink};
+use run_report::run_book::Book;
 use std::alloc::Global;
+use tool_call::ecmbx_words::Status;
 use tool_call::{ask_call, is_ask};
 
 // Whether the first word is `stream`.

@@ -1,13 +1,13 @@
 ghost use Rattle.std.specs.Prelude.{◌≡◌, ◌≤◌, []};
-ghost use Rattle.ec_outside.specs.Faults.{Rose};
+ghost use Rattle.gateway_stream.specs.of_ec_outside.Faults.{Rose};
 ghost use Rattle.scenario_made.specs.Made.{text_of};
-ghost use Rattle.ecmbx_words.specs.Ends.{PutAll};
-ghost use Rattle.ecmbx_words.specs.declared.status.Status.TheVariants as statuses;
+ghost use Rattle.tool_call.specs.of_ecmbx_words.Ends.{PutAll};
+ghost use Rattle.tool_call.specs.of_ecmbx_words.declared.status.Status.TheVariants as statuses;
 
-use ec_fields::Octets;
-use ec_outside::Sink;
-use ecmbx_words::{Status, say_text};
+use gateway_stream::ec_outside::Sink;
+use scenario_made::ec_fields::Octets;
 use std::alloc::Global;
+use tool_call::ecmbx_words::{Status, say_text};
 
 /// Puts the scenario of a seed and a size, 1 to 4,096 services.
 pub fn make<O: Sink>(alloc: Global, seed: u32, size: u32, out: &mut O) -> Status

@@ -1,27 +1,27 @@
 ghost use Rattle.std.specs.Prelude.{◌≡◌, ◌⊎◌, ◌≤◌, Ok, IfOk, IfErr};
-ghost use Rattle.ec_outside.specs.Faults.{Rose};
-ghost use Rattle.segment_plan.specs.Sound.{IsPlan};
-ghost use Rattle.scenario.specs.Document.{plan_of};
-ghost use Rattle.scenario.specs.Told.{IsTold};
-ghost use Rattle.run_book.specs.Book.{IsNew};
+ghost use Rattle.gateway_stream.specs.of_ec_outside.Faults.{Rose};
+ghost use Rattle.tool_call.specs.of_segment_plan.Sound.{IsPlan};
+ghost use Rattle.promised_run.specs.of_scenario.Document.{plan_of};
+ghost use Rattle.promised_run.specs.of_scenario.Told.{IsTold};
+ghost use Rattle.run_report.specs.of_run_book.Book.{IsNew};
 ghost use Rattle.run_report.specs.Report.{report_lines};
 ghost use Rattle.run_report.specs.Saved.{capture_of};
-ghost use Rattle.ecmbx_words.specs.Ends.{text_of, PutAll};
-ghost use Rattle.ecmbx_words.specs.Texts.{refusal_line};
-ghost use Rattle.ecmbx_words.specs.declared.status.Status.TheVariants as statuses;
+ghost use Rattle.tool_call.specs.of_ecmbx_words.Ends.{text_of, PutAll};
+ghost use Rattle.tool_call.specs.of_ecmbx_words.Texts.{refusal_line};
+ghost use Rattle.tool_call.specs.of_ecmbx_words.declared.status.Status.TheVariants as statuses;
 ghost use Rattle.ecmbx_call.specs.Files.{IsSaved};
 ghost use Rattle.ecmbx_call.specs.Objects.{LeavesUnder};
 ghost use Rattle.ecmbx_call.specs.Course.{HasRun, IsReportable, status_of, Followed, RunCourse, SavesRun, IsUnread, IsUnsaved, BeganOn};
 
-use ec_fields::{NoMemory, Octets, Rows};
-use ec_outside::{Files, FilesErr, Sink};
-use ecmbx_words::{Status, refusal, say, say_lines};
+use gateway_stream::ec_outside::{Files, FilesErr, Sink};
 use promised_run::run;
-use run_book::{Book, Ending};
+use promised_run::scenario::{Place, ReadErr, read};
+use run_report::run_book::{Book, Ending};
 use run_report::{report, saved};
-use scenario::{Place, ReadErr, read};
-use segment_plan::Scenario;
+use scenario_made::ec_fields::{NoMemory, Octets, Rows};
 use std::alloc::Global;
+use tool_call::ecmbx_words::{Status, refusal, say, say_lines};
+use tool_call::segment_plan::Scenario;
 
 // How a call ends whose run ended so.
 fn status_of(ending: Ending) -> Status

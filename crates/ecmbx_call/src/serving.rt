@@ -1,17 +1,17 @@
 ghost use Rattle.std.specs.Prelude.{◌≡◌, ◌⊎◌, ◌<◌};
-ghost use Rattle.ec_outside.specs.Faults.{Rose};
-ghost use Rattle.run_book.specs.Book.{IsNew};
-ghost use Rattle.ecmbx_words.specs.declared.status.Status.TheVariants as statuses;
+ghost use Rattle.gateway_stream.specs.of_ec_outside.Faults.{Rose};
+ghost use Rattle.run_report.specs.of_run_book.Book.{IsNew};
+ghost use Rattle.tool_call.specs.of_ecmbx_words.declared.status.Status.TheVariants as statuses;
 ghost use Rattle.ecmbx_call.specs.Serving.{ServedOn};
 ghost use Rattle.ecmbx_call.specs.Objects.{told_by, ServesOctets};
 
 use crate::running::{plan_in, tell};
-use ec_fields::Octets;
-use ec_outside::{Port, Sink};
-use ecmbx_words::Status;
+use gateway_stream::ec_outside::{Port, Sink};
 use promised_run::promised_serving::serve;
-use run_book::{Book, Ending};
+use run_report::run_book::{Book, Ending};
+use scenario_made::ec_fields::Octets;
 use std::alloc::Global;
+use tool_call::ecmbx_words::Status;
 
 /// Serves the plan that octets write over a port, until so many datagrams were heard or the port ended, and puts the report; or why they
 /// write none, and the port stays as it was. The octets are let go before, as for a run.

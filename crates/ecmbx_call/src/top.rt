@@ -1,9 +1,9 @@
 ghost use Rattle.std.specs.Prelude.{◌≡◌, ◌≢◌, ◌⊎◌, ◌<◌};
-ghost use Rattle.ec_outside.specs.Faults.{Rose};
-ghost use Rattle.run_book.specs.Book.{IsNew};
-ghost use Rattle.ecmbx_words.specs.declared.form.Form.TheVariants as forms;
-ghost use Rattle.ecmbx_words.specs.declared.status.Status.TheVariants as statuses;
-ghost use Rattle.ecmbx_words.specs.Form.{form_in};
+ghost use Rattle.gateway_stream.specs.of_ec_outside.Faults.{Rose};
+ghost use Rattle.run_report.specs.of_run_book.Book.{IsNew};
+ghost use Rattle.tool_call.specs.of_ecmbx_words.declared.form.Form.TheVariants as forms;
+ghost use Rattle.tool_call.specs.of_ecmbx_words.declared.status.Status.TheVariants as statuses;
+ghost use Rattle.tool_call.specs.of_ecmbx_words.Form.{form_in};
 ghost use Rattle.ecmbx_call.specs.Course.{words_of, RunsFile, SavesFile, ShowsFile, AuditsFile, Began, BeganIn};
 ghost use Rattle.ecmbx_call.specs.Serving.{ServedIn};
 ghost use Rattle.ecmbx_call.specs.Objects.{told_by, LeavesIn, LeavesUnder, ServesAtPort, CarriesAtPort, RunsFound, SavesFound, RunsWhole, ServesFound, ServesWhole, ShowsFound, AuditsFound};
@@ -13,10 +13,10 @@ use crate::making::make;
 use crate::running::{run_octets, run_saved};
 use crate::serving::serve_octets;
 use crate::viewing::{audit, decode};
-use ec_outside::{Files, Port, Sink};
-use ecmbx_words::{Form, Status, form_of, load, say, usage};
-use run_book::Book;
+use gateway_stream::ec_outside::{Files, Port, Sink};
+use run_report::run_book::Book;
 use std::alloc::Global;
+use tool_call::ecmbx_words::{Form, Status, form_of, load, say, usage};
 
 /// The most octets that a file may have.
 const LIMIT: usize = 16_777_216;

@@ -1,20 +1,20 @@
 ghost use Rattle.std.specs.Prelude.{◌≡◌, ◌≤◌, length, Ok, Err};
-ghost use Rattle.ec_outside.specs.Faults.{Rose};
-ghost use Rattle.pcap_frames.specs.Reading.{capture_read};
-ghost use Rattle.pcap_frames.specs.declared.capture.PcapFault.TheVariants as faults;
-ghost use Rattle.capture_view.specs.View.{view_text};
-ghost use Rattle.ecmbx_words.specs.Ends.{PutAll};
-ghost use Rattle.ecmbx_words.specs.Texts.{capture_line};
-ghost use Rattle.ecmbx_words.specs.declared.status.Status.TheVariants as statuses;
+ghost use Rattle.gateway_stream.specs.of_ec_outside.Faults.{Rose};
+ghost use Rattle.run_report.specs.of_pcap_frames.Reading.{capture_read};
+ghost use Rattle.run_report.specs.of_pcap_frames.declared.capture.PcapFault.TheVariants as faults;
+ghost use Rattle.capture_audit.specs.of_capture_view.View.{view_text};
+ghost use Rattle.tool_call.specs.of_ecmbx_words.Ends.{PutAll};
+ghost use Rattle.tool_call.specs.of_ecmbx_words.Texts.{capture_line};
+ghost use Rattle.tool_call.specs.of_ecmbx_words.declared.status.Status.TheVariants as statuses;
 ghost use Rattle.ecmbx_call.specs.Audits.{AuditCourse};
 ghost use Rattle.ecmbx_call.specs.Course.{Followed, ViewCourse};
 
 use crate::auditing::audit_capture;
-use capture_view::view;
-use ec_outside::{Sink, SinkErr};
-use ecmbx_words::{Status, capture_refusal, say};
-use pcap_frames::{Capture, PcapFault, read};
+use capture_audit::capture_view::view;
+use gateway_stream::ec_outside::{Sink, SinkErr};
+use run_report::pcap_frames::{Capture, PcapFault, read};
 use std::alloc::Global;
+use tool_call::ecmbx_words::{Status, capture_refusal, say};
 
 fn refuse<O: Sink>(alloc: Global, fault: PcapFault, out: &mut O) -> Status
     ensures put { PutAll statuses.Refused (capture_line fault) (O.written out.old) (O.written out.new) result }

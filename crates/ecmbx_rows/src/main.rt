@@ -14,7 +14,7 @@ mod stage;
 mod tables;
 
 use anyhow::Result;
-use ec_outside::{DiskFiles, Files};
+use ecmbx_call::ec_outside::{DiskFiles, Files};
 use row_table::{Page, tell};
 use stage::Stage;
 use std::env;

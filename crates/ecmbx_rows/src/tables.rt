@@ -2,8 +2,8 @@
 
 use crate::scripts::gram_in;
 use crate::stage::{Stage, numbers};
-use ec_fields::{Octets, Rows};
-use ec_outside::{Files, FilesErr, Loaded, MemFiles, MemPort, MemSink, Sink, SureSink};
+use ecmbx_call::ec_outside::{Files, FilesErr, Loaded, MemFiles, MemPort, MemSink, Sink, SureSink};
+use row_table::ec_fields::{Octets, Rows};
 use row_table::{Bench, Page, Row};
 use std::alloc::Global;
 

@@ -1,10 +1,10 @@
 -- What a client of address services and a sender of packets send next.
 use Rattle.std.proofs.Common.{◌≡◌, ℕ, ◌+◌, ◌*◌, ◌/◌, ◌-◌, ◌≤◌, ◌<◌, List, [], ◌∷◌, Bool, true, false, Some, None, refl, sym, ap, ◌∙◌, map, length, nat_lt, nat_le, arith}
 use Rattle.std.specs.Prelude.{◌↔◌, not, if◌then◌else◌, zero, suc}
-use Rattle.mailbox_mail.specs.declared.mail.Kind.TheVariants.{EoE}
-use Rattle.eoe.specs.declared.message.Fragment.{Fragment}
-use Rattle.eoe.specs.Message.{eoe_text}
-use Rattle.eoe.specs.Cutting.{Cutting, fragment_at, fragments_from, next_fragment, cutting_after}
+use Rattle.protocol_models.specs.of_mailbox_mail.declared.mail.Kind.TheVariants.{EoE}
+use Rattle.protocol_models.specs.of_eoe.declared.message.Fragment.{Fragment}
+use Rattle.protocol_models.specs.of_eoe.Message.{eoe_text}
+use Rattle.protocol_models.specs.of_eoe.Cutting.{Cutting, fragment_at, fragments_from, next_fragment, cutting_after}
 use Rattle.protocol_models.specs.EoeMails.{SetIp, GetIp, Part, mail, part}
 use Rattle.protocol_models.specs.EoeOctets.{mail_with}
 use Rattle.eoe_client.specs.declared.address.Unsent.{Unsent}

@@ -1,7 +1,7 @@
 -- What a client of address services makes of one mail.
 use Rattle.std.specs.Prelude.{◌≡◌, ℕ, ◌==◌, true, List, [], ◌∷◌, if◌then◌else◌, None}
-use Rattle.mailbox_mail.specs.declared.outcome.ReplyKind.{ReplyKind}
-use Rattle.mailbox_mail.specs.declared.outcome.Took.{Took}
+use Rattle.protocol_models.specs.of_mailbox_mail.declared.outcome.ReplyKind.{ReplyKind}
+use Rattle.protocol_models.specs.of_mailbox_mail.declared.outcome.Took.{Took}
 use Rattle.protocol_models.specs.EoeMails.{Eoe, SetIpAnswer, GetIpAnswer, EoeMail, mail, failed}
 use Rattle.eoe_client.specs.declared.address.Awaits.{Awaits}
 use Rattle.eoe_client.specs.Talk.{Talking, left, awaited, awaits_nothing}

@@ -1,8 +1,8 @@
 -- What the state of a client of address services, and of a sender of packets, stands for.
 use Rattle.std.specs.Prelude.{◌≡◌, ℕ, ◌-◌, Bool, true, false, List, [], ◌∷◌, map, length, Option, None}
-use Rattle.mailbox_mail.specs.declared.mail.Kind.TheVariants.{EoE}
-pub use Rattle.mailbox_mail.specs.Replies.{at_end}
-use Rattle.eoe.specs.Cutting.{Cutting, fragments_from}
+use Rattle.protocol_models.specs.of_mailbox_mail.declared.mail.Kind.TheVariants.{EoE}
+pub use Rattle.protocol_models.specs.of_mailbox_mail.Replies.{at_end}
+use Rattle.protocol_models.specs.of_eoe.Cutting.{Cutting, fragments_from}
 use Rattle.protocol_models.specs.EoeMails.{SetIp, GetIp, EoeMail, mail, part}
 use Rattle.protocol_models.specs.EoeClient.{Reply, set_reply, get_reply}
 use Rattle.protocol_models.specs.EoeOctets.{eoe_mail_written, mail_with}

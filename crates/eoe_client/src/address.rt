@@ -3,14 +3,15 @@ ghost use Rattle.std.specs.Bool.{OnTrue, OnFalse};
 ghost use Rattle.protocol_models.specs.EoeMails.{EoeMail};
 ghost use Rattle.protocol_models.specs.EoeClient.{set_ip, get_ip, mails_of, ends};
 ghost use Rattle.protocol_models.specs.EoeOctets.{eoe_mail_heard, heard};
-ghost use Rattle.eoe.specs.Message.{eoe_read};
+ghost use Rattle.protocol_models.specs.of_eoe.Message.{eoe_read};
 ghost use Rattle.eoe_client.specs.Talk.{left, awaited, awaits_nothing, SendsNext};
 ghost use Rattle.eoe_client.specs.Hear.{closed, hear_set, hear_get, hear_failed, hear_mail, TookIs};
 
 use arrayvec::ArrayVec;
-use ec_fields::{NoMemory, Octets, refill, u16_at};
-use eoe::{Block, EoeView};
-use mailbox_mail::{Kind, Mail, ReplyKind, Took};
+use protocol_models::ec_fields::{NoMemory, Octets, refill, u16_at};
+use protocol_models::eoe;
+use protocol_models::eoe::{Block, EoeView};
+use protocol_models::mailbox_mail::{Kind, Mail, ReplyKind, Took};
 use std::marker::Model;
 
 /// What of a service is not yet sent.

@@ -4,7 +4,8 @@ ghost use Rattle.protocol_models.specs.EoeMails.{packet_mails};
 ghost use Rattle.eoe_client.specs.Talk.{fragments_left, SendsPart};
 
 use arrayvec::ArrayVec;
-use eoe::{EoeView, Fragmenter, Packet};
+use protocol_models::eoe;
+use protocol_models::eoe::{EoeView, Fragmenter, Packet};
 use std::fmt;
 use std::marker::Model;
 

@@ -1,8 +1,8 @@
 -- What an EoE server's state stands for: the packet that it joins, and the mails that wait in it.
 use Rattle.std.specs.Prelude.{◌≡◌, ℕ, ◌+◌, ◌-◌, ◌*◌, ◌/◌, ◌==◌, ◌&&◌, nat_le, nat_lt, Bool, true, if◌then◌else◌, List, [], ◌∷◌, ◌++◌, map, length, Option, Some, None}
-use Rattle.mailbox_mail.specs.declared.mail.Mail.{Mail}
-use Rattle.eoe.specs.declared.joining.Unfinished.{Unfinished}
-use Rattle.eoe.specs.Cutting.{Cutting, fragments_from}
+use Rattle.protocol_models.specs.of_mailbox_mail.declared.mail.Mail.{Mail}
+use Rattle.protocol_models.specs.of_eoe.declared.joining.Unfinished.{Unfinished}
+use Rattle.protocol_models.specs.of_eoe.Cutting.{Cutting, fragments_from}
 use Rattle.protocol_models.specs.EoeMails.{SetIpAnswer, GetIpAnswer, EoeMail, mail, part, unsupported, failed}
 use Rattle.protocol_models.specs.Network.{Network}
 use Rattle.protocol_models.specs.Echo.{echo_of}

@@ -2,20 +2,23 @@
 #![tactic(auto)]
 
 ghost use Rattle.std.specs.Prelude.{◌≡◌, ◌≢◌, ◌≤◌, ◌<◌, ◌+◌, ◌-◌, ◌%◌, ◌↔◌, ◌++◌, ◌∷◌, ℕ, true, false, List, [], None, length, option_map};
-ghost use Rattle.eoe.specs.Joining.{taken};
+ghost use Rattle.protocol_models.specs.of_eoe.Joining.{taken};
 ghost use Rattle.protocol_models.specs.EoeServer.{addressed, delivered, joined, eoe_outcome, set_answer, takes_unread};
 ghost use Rattle.protocol_models.specs.EoeOctets.{heard, eoe_mail_written};
-ghost use Rattle.eoe.specs.Message.{IsSpellable, eoe_read, octets_of};
+ghost use Rattle.protocol_models.specs.of_eoe.Message.{IsSpellable, eoe_read, octets_of};
 ghost use Rattle.protocol_models.specs.EoeMails.{mail, part, packet_mails, unsupported};
-ghost use Rattle.eoe.specs.declared.message.EoeFault.TheVariants.{WrongType};
+ghost use Rattle.protocol_models.specs.of_eoe.declared.message.EoeFault.TheVariants.{WrongType};
 ghost use Rattle.protocol_models.specs.Echo.{is_echo, echo_of};
 ghost use Rattle.eoe_server.specs.Serving.{Serving, answer_mail, cut_mails, waiting_mails, outcome_of, fresh, addresses_network, is_roomy, GivesNext};
 ghost use Rattle.eoe_server.specs.declared.Addresses.{Addresses};
 
 use arrayvec::ArrayVec;
-use ec_fields::{bits, buffer_of, u16_at};
-use eoe::{Block, Eoe, EoeFault, Fragment, Fragmenter, Joined, Packet, Reassembler};
-use mailbox_mail::{Kind, Mail, error_mail};
+use protocol_models::ec_fields::{bits, buffer_of, u16_at};
+use protocol_models::eoe;
+use protocol_models::eoe::{
+    Block, Eoe, EoeFault, Fragment, Fragmenter, Joined, Packet, Reassembler,
+};
+use protocol_models::mailbox_mail::{Kind, Mail, error_mail};
 use std::marker::Model;
 
 /// What a slave answers to an address service, or in place of an answer.

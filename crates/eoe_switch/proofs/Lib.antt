@@ -1,1 +1,2 @@
+pub use Rattle.eoe.proofs as of_eoe
 pub mod Offering

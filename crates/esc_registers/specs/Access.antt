@@ -1,6 +1,6 @@
 use Rattle.std.specs.Prelude.{◌≡◌, ℕ, Bool, true, false, ◌+◌, ◌%◌, ◌==◌, ◌&&◌, ◌||◌, not, if◌then◌else◌, List, [], ◌∷◌, ◌++◌, length, slice_index, Option, Some, None, is_some, unwrap_or}
 use Rattle.byteorder.specs.Endian.{little_bytes}
-use Rattle.ec_fields.specs.Fields.{number_at}
+use Rattle.datagrams.specs.of_ec_fields.Fields.{number_at}
 use Rattle.datagrams.specs.declared.command.Command.{Command}
 use Rattle.datagrams.specs.declared.command.Command.TheVariants.{Aprd, Apwr, Aprw, Fprd, Fpwr, Fprw}
 use Rattle.datagrams.specs.declared.head.Head.{Head}

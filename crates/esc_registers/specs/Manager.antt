@@ -1,6 +1,6 @@
 use Rattle.std.specs.Prelude.{ℕ, Bool, true, false, not, ◌==◌, ◌&&◌, if◌then◌else◌, List, [], ◌∷◌, ◌++◌, length, slice_index}
 use Rattle.byteorder.specs.Endian.{little_bytes}
-use Rattle.ec_fields.specs.Fields.{number_at, bits_of}
+use Rattle.datagrams.specs.of_ec_fields.Fields.{number_at, bits_of}
 use Rattle.esc_registers.specs.declared.manager.Manager.{Manager}
 
 -- bit 0 of activate

@@ -1,6 +1,6 @@
 ghost use Rattle.std.specs.Prelude.{◌≡◌, ◌+◌, ◌≤◌, length, replicate, IfOk};
 
-use ec_fields::NoMemory;
+use datagrams::ec_fields::NoMemory;
 use mailbox_mail::Mail;
 use std::alloc::Global;
 use std::marker::Model;

@@ -1,22 +1,22 @@
 -- A service takes as many mails of a slave with an unfinished join of SoE as of one without.
 use Rattle.std.proofs.Common.{◌≡◌, ℕ, ◌+◌, Bool, true, false, List, [], ◌∷◌, ◌++◌, map, take, length, None, Result, Ok, Err, refl, sym, ap, ◌∙◌, arith, length-append}
 use Rattle.std.proofs.lemmas.List.{length-map}
-use Rattle.exchange_model.specs.Areas.{Areas, AreMailboxes}
-use Rattle.exchange_model.specs.Exchange.{given}
-use Rattle.exchange_model.specs.Lifted.{EachOf, ReadsBack, lifted_serve}
-use Rattle.exchange_model.specs.Refusing.{Refusal, refused_serve, gated}
-use Rattle.protocol_models.specs.SoeClient.{Service, read, write, mails_of}
-use Rattle.protocol_models.specs.Elements.{Target, Elements, AreLawful}
-use Rattle.protocol_models.specs.SoeMails as SoeMails
-use Rattle.protocol_models.specs.SoeOctets as SoeOctets
-use Rattle.protocol_models.specs.SoeServer as Soe
-use Rattle.protocol_models.proofs.SoeCarries.{answer_to}
+use Rattle.slave_parts.specs.of_exchange_model.Areas.{Areas, AreMailboxes}
+use Rattle.slave_parts.specs.of_exchange_model.Exchange.{given}
+use Rattle.slave_parts.specs.of_exchange_model.Lifted.{EachOf, ReadsBack, lifted_serve}
+use Rattle.slave_parts.specs.of_exchange_model.Refusing.{Refusal, refused_serve, gated}
+use Rattle.slave_parts.specs.of_protocol_models.SoeClient.{Service, read, write, mails_of}
+use Rattle.slave_parts.specs.of_protocol_models.Elements.{Target, Elements, AreLawful}
+use Rattle.slave_parts.specs.of_protocol_models.SoeMails as SoeMails
+use Rattle.slave_parts.specs.of_protocol_models.SoeOctets as SoeOctets
+use Rattle.slave_parts.specs.of_protocol_models.SoeServer as Soe
+use Rattle.slave_parts.proofs.of_protocol_models.SoeCarries.{answer_to}
 use Rattle.slave_parts.specs.SoeServed.{ahead_of, soe_served}
 use Rattle.slave_parts.proofs.ServedLaw.{kept}
 use Rattle.slave_parts.specs.Whole.{gated_whole}
 use Rattle.slave_parts.proofs.JoinedLaw.{given_whole}
-use Rattle.state_model.specs.Families.{InState}
-use Rattle.state_model.proofs.FamilyLaw.{given_in}
+use Rattle.slave_parts.specs.of_state_model.Families.{InState}
+use Rattle.slave_parts.proofs.of_state_model.FamilyLaw.{given_in}
 use Rattle.few_replies.specs.Counts.{mails_between}
 use Rattle.slave_parts.specs.of_slave_model.Application.{Parts, ArePartsLawful, station_valid, station_files, station_elements}
 use Rattle.slave_parts.specs.of_slave_model.Product.{served, refusal, serve, protocols, product}

@@ -1,15 +1,15 @@
 -- A mail that is always answered, on its way: it isn't taken, or its first reply isn't accepted.
 use Rattle.std.proofs.Common.{◌≡◌, ◌⊎◌, inl, inr, suc, ◌≤◌, ◌&&◌, Bool, true, false, is_none, Option, Some, None, List, [], ◌∷◌, ◌++◌, length, refl, ap, sym, ◌∙◌, arith, append_assoc, append-nil, length-append, if◌then◌else◌}
-use Rattle.exchange_model.specs.Exchange.{Exchange}
-use Rattle.exchange_model.proofs.Lists.{append_cancel}
-use Rattle.link_model.specs.Mails.{LinkMail, is_repeat}
-use Rattle.link_model.specs.Slave.{OutSide, Node, mail_taken, mail_offered, all_taken, node_look, node_take, node_takes, node_offers, is_free}
-use Rattle.link_model.specs.Agree.{Agrees}
-use Rattle.link_model.proofs.Law.{taken_of_held, accepted_of_offered}
-use Rattle.segment_model.specs.Slaves.{Serving, serving, first_waiting, Processor, state_told}
-use Rattle.segment_model.specs.Ends.{Passing}
-use Rattle.segment_model.specs.Seats.{Seat, link_of, seat_steps}
-use Rattle.serving_model.specs.Tagged.{no_reply}
+use Rattle.slave_parts.specs.of_exchange_model.Exchange.{Exchange}
+use Rattle.slave_parts.proofs.of_exchange_model.Lists.{append_cancel}
+use Rattle.slave_parts.specs.of_link_model.Mails.{LinkMail, is_repeat}
+use Rattle.slave_parts.specs.of_link_model.Slave.{OutSide, Node, mail_taken, mail_offered, all_taken, node_look, node_take, node_takes, node_offers, is_free}
+use Rattle.slave_parts.specs.of_link_model.Agree.{Agrees}
+use Rattle.slave_parts.proofs.of_link_model.Law.{taken_of_held, accepted_of_offered}
+use Rattle.slave_parts.specs.of_segment_model.Slaves.{Serving, serving, first_waiting, Processor, state_told}
+use Rattle.slave_parts.specs.of_segment_model.Ends.{Passing}
+use Rattle.slave_parts.specs.of_segment_model.Seats.{Seat, link_of, seat_steps}
+use Rattle.slave_parts.specs.of_serving_model.Tagged.{no_reply}
 
 -- a list that begins another: the same length, or it has the next item
 pub caught : {M : Type 0} (e : M → Bool) (h : M) → e h ≡ false → (accepted ms rest first more : List M) → (accepted ++ ms) ++ rest ≡ first ++ h ∷ more → length accepted ≤ length first →

@@ -1,11 +1,11 @@
 -- Services by mails and state services as one exchange count what they count apart.
 use Rattle.std.proofs.Common.{◌≡◌, ℕ, ◌+◌, ◌≤◌, true, List, [], ◌∷◌, ◌++◌, length, refl, sym, ap, ◌∙◌, arith}
 use Rattle.std.proofs.lemmas.List.{length-map}
-use Rattle.exchange_model.specs.Exchange.{Exchange, after, given}
-use Rattle.exchange_model.proofs.Lifting.{map_append}
-use Rattle.segment_model.specs.Ends.{Outcome}
-use Rattle.state_model.specs.States.{Table}
-use Rattle.state_model.specs.Stated.{Stated, Act, Service, Counting, acts, with_states}
+use Rattle.slave_parts.specs.of_exchange_model.Exchange.{Exchange, after, given}
+use Rattle.slave_parts.proofs.of_exchange_model.Lifting.{map_append}
+use Rattle.slave_parts.specs.of_segment_model.Ends.{Outcome}
+use Rattle.slave_parts.specs.of_state_model.States.{Table}
+use Rattle.slave_parts.specs.of_state_model.Stated.{Stated, Act, Service, Counting, acts, with_states}
 use Rattle.few_replies.specs.RowCounts.{AreCounted}
 use Rattle.few_replies.specs.Services.{service_count}
 

@@ -1,9 +1,9 @@
 -- Services and mails that are passed on, over calm servers.
 use Rattle.std.proofs.Common.{◌≡◌, ◌⊎◌, inl, inr, ℕ, suc, ◌+◌, ◌≤◌, ◌&&◌, Bool, true, false, List, [], ◌∷◌, map, length, refl, sym, ap, ◌∙◌, arith, append-nil, if◌then◌else◌}
 use Rattle.std.proofs.lemmas.List.{length-map}
-use Rattle.exchange_model.specs.Exchange.{Exchange, IsLawful, Before, Behind, after, given}
-use Rattle.serving_model.specs.Tagged.{IsServed, Meant, Tagged, Asked, told, gift, more_of, own_gift, no_reply, last_gifts, answer_gifts, Rowed, ideal, tagged, IsForeseen}
-use Rattle.serving_model.proofs.TaggedLaw.{tagged_lawful, told-given, full_behind}
+use Rattle.slave_parts.specs.of_exchange_model.Exchange.{Exchange, IsLawful, Before, Behind, after, given}
+use Rattle.slave_parts.specs.of_serving_model.Tagged.{IsServed, Meant, Tagged, Asked, told, gift, more_of, own_gift, no_reply, last_gifts, answer_gifts, Rowed, ideal, tagged, IsForeseen}
+use Rattle.slave_parts.proofs.of_serving_model.TaggedLaw.{tagged_lawful, told-given, full_behind}
 use Rattle.few_replies.specs.Counts.{mails_between}
 use Rattle.few_replies.specs.RowCounts.{AreCounted}
 use Rattle.few_replies.specs.Calm.{IsCalm, KeepsPassed, asked_fair, calm_tagged, asked_count}

@@ -1,8 +1,8 @@
 -- A server in a row, cleared, is the one behind whole rows, cleared.
 use Rattle.std.proofs.Common.{◌≡◌, ◌⊎◌, inl, inr, ℕ, suc, ◌+◌, ◌-◌, ◌==◌, true, false, Option, None, Some, List, [], ◌∷◌, ◌++◌, ap, sym, ◌∙◌, subst, arith, append_assoc, eq-eqb, if◌then◌else◌}
 use Rattle.std.proofs.lemmas.Bool.Decides.{nat_tests}
-use Rattle.exchange_model.specs.Exchange.{Exchange, after}
-use Rattle.serving_model.specs.Tagged.{IsServed, Untouched, Touched, Rowed, Meant, real, ideal, ideal_in, rows_done, serve_tagged}
+use Rattle.slave_parts.specs.of_exchange_model.Exchange.{Exchange, after}
+use Rattle.slave_parts.specs.of_serving_model.Tagged.{IsServed, Untouched, Touched, Rowed, Meant, real, ideal, ideal_in, rows_done, serve_tagged}
 use Rattle.few_replies.specs.Clearing.{InRowOf, InRow, Forgets, cleared_rowed}
 
 same-is : (a b : ℕ) → a ≡ b → (a == b) ≡ true

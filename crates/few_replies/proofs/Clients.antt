@@ -1,8 +1,8 @@
 -- A client of mails as they are, and one that sees what is meant by them, are one where contents tell it.
 use Rattle.std.proofs.Common.{◌≡◌, ◌&&◌, not, Bool, true, false, cond, Option, None, Some, option_map, List, [], ◌∷◌, map, refl, ap, ap₂, ◌∙◌, if◌then◌else◌}
-use Rattle.exchange_model.specs.Exchange.{Speech, plain}
-use Rattle.serving_model.specs.Tagged.{Tagged, Asked, untag, is_own, told, more_of, asked_ends, tagged_speech}
-use Rattle.serving_model.specs.Passing.{ends_told}
+use Rattle.slave_parts.specs.of_exchange_model.Exchange.{Speech, plain}
+use Rattle.slave_parts.specs.of_serving_model.Tagged.{Tagged, Asked, untag, is_own, told, more_of, asked_ends, tagged_speech}
+use Rattle.slave_parts.specs.of_serving_model.Passing.{ends_told}
 use Rattle.few_replies.specs.Client.{asked_speech, ByContents, MarksTold}
 use Rattle.few_replies.specs.Erased.{PlanOne, EndOne}
 

@@ -1,23 +1,23 @@
 -- Where a state service has drained all rows by mails are carried out.
 use Rattle.std.proofs.Common.{◌≡◌, ◌⊎◌, inl, inr, ℕ, ◌+◌, Bool, Some, None, List, [], ◌∷◌, ◌++◌, refl, ap, sym, ◌∙◌, subst, arith, append-nil}
-use Rattle.exchange_model.specs.Exchange.{Exchange, IsLawful, after}
-use Rattle.exchange_model.specs.Rows.{services, told_all}
-use Rattle.exchange_model.proofs.Settles.{settled_handled, settled_app}
-use Rattle.exchange_model.proofs.Words.{after-append}
-use Rattle.segment_model.specs.Record.{Frame}
-use Rattle.segment_model.specs.Ends.{Outcome}
-use Rattle.segment_model.specs.Seats.{Seat}
-use Rattle.state_model.specs.States.{Table, Phase}
-use Rattle.state_model.specs.Promises.{IsTable, state_behind}
-use Rattle.state_model.specs.Stated.{Stated, IsStated, Act, Service, Counting, acts, states_in, with_states}
-use Rattle.state_model.proofs.Acts.{executed}
-use Rattle.state_model.proofs.StatedLaw.{stated_law}
-use Rattle.state_model.specs.Accounts.{Account, Duty, Stage}
-use Rattle.state_model.specs.Promise.{services_in, mails_in}
-use Rattle.state_model.proofs.Ghosts.{GhostRow, counting, Staged, StagedBy, StateNow, Rowed, services_append}
-use Rattle.state_model.proofs.Dones.{by_kind, services_same, services_length}
-use Rattle.state_model.proofs.Stately.{state_over}
-use Rattle.state_model.proofs.Newest.{Holds}
+use Rattle.slave_parts.specs.of_exchange_model.Exchange.{Exchange, IsLawful, after}
+use Rattle.slave_parts.specs.of_exchange_model.Rows.{services, told_all}
+use Rattle.slave_parts.proofs.of_exchange_model.Settles.{settled_handled, settled_app}
+use Rattle.slave_parts.proofs.of_exchange_model.Words.{after-append}
+use Rattle.slave_parts.specs.of_segment_model.Record.{Frame}
+use Rattle.slave_parts.specs.of_segment_model.Ends.{Outcome}
+use Rattle.slave_parts.specs.of_segment_model.Seats.{Seat}
+use Rattle.slave_parts.specs.of_state_model.States.{Table, Phase}
+use Rattle.slave_parts.specs.of_state_model.Promises.{IsTable, state_behind}
+use Rattle.slave_parts.specs.of_state_model.Stated.{Stated, IsStated, Act, Service, Counting, acts, states_in, with_states}
+use Rattle.slave_parts.proofs.of_state_model.Acts.{executed}
+use Rattle.slave_parts.proofs.of_state_model.StatedLaw.{stated_law}
+use Rattle.slave_parts.specs.of_state_model.Accounts.{Account, Duty, Stage}
+use Rattle.slave_parts.specs.of_state_model.Promise.{services_in, mails_in}
+use Rattle.slave_parts.proofs.of_state_model.Ghosts.{GhostRow, counting, Staged, StagedBy, StateNow, Rowed, services_append}
+use Rattle.slave_parts.proofs.of_state_model.Dones.{by_kind, services_same, services_length}
+use Rattle.slave_parts.proofs.of_state_model.Stately.{state_over}
+use Rattle.slave_parts.proofs.of_state_model.Newest.{Holds}
 
 -- a state service at the end is none by mails
 mails_before : {Q : Type 0} (qs : List (Service Q)) (target : ℕ) → mails_in (qs ++ Service.State target ∷ []) ≡ mails_in qs

@@ -4,33 +4,33 @@ use Rattle.std.proofs.lemmas.Bool.{cases_lt, lt-leb}
 use Rattle.std.proofs.lemmas.List.{length-map}
 use Rattle.std.proofs.lemmas.Nat.{le-div}
 use Rattle.std.proofs.Math.Nat.{div-mul-le_self}
-use Rattle.mailbox_mail.specs.declared.mail.MailFault.TheVariants.{UnknownKind}
-use Rattle.mailbox_mail.specs.declared.mail.Kind.{Kind}
-use Rattle.link_mails.specs.Body.{Body}
-use Rattle.eoe.specs.Cutting.{blocks_of}
-use Rattle.eoe.specs.Joining.{taken}
-use Rattle.eoe.specs.declared.joining.Joined.{Joined}
-use Rattle.eoe.specs.declared.joining.Joined.TheVariants.{More, Whole, Dropped}
-use Rattle.exchange_model.specs.Refusing.{gated}
-use Rattle.protocol_models.specs.CoeMails as Coe
-use Rattle.protocol_models.specs.CoeMails.{CoeMail, mail, unread, failed, fragment, other, Abort, DownloadAnswer, SegmentAnswer, ExpeditedAnswer, FirstAnswer, UploadSegmentAnswer, Information, InformationError}
-use Rattle.protocol_models.specs.CoeModel.{value_length}
-use Rattle.protocol_models.specs.CoeOctets as CoeOctets
-use Rattle.protocol_models.specs.Tables.{Target, nowhere, Ask, list, object, entry, Tables}
-use Rattle.protocol_models.specs.CoeServer as CoeServer
-use Rattle.protocol_models.specs.CoeServer.{Transfer, idle, downloading, uploading, Outcome, ended, goes_on, silent, abort, download_answer, same, stored, takes_whole, begins, takes_first, takes_segment, is_expedited, opened, takes_upload_segment, information_parts, informed, takes_ask, unknown_command, takes_unread, coe_takes, coe_outcome, emergency, packet, emission_of, issued}
-use Rattle.protocol_models.specs.Files as Files
-use Rattle.protocol_models.specs.FoeMails as Foe
-use Rattle.protocol_models.specs.FoeOctets as FoeOctets
-use Rattle.protocol_models.specs.FoeServer as FoeServer
-use Rattle.protocol_models.specs.Elements as Elements
-use Rattle.protocol_models.specs.SoeMails as Soe
-use Rattle.protocol_models.specs.SoeOctets as SoeOctets
-use Rattle.protocol_models.specs.SoeServer as SoeServer
-use Rattle.protocol_models.specs.EoeMails as Eoe
-use Rattle.protocol_models.specs.EoeOctets as EoeOctets
-use Rattle.protocol_models.specs.EoeServer as EoeServer
-use Rattle.protocol_models.specs.Network.{Network, Station}
+use Rattle.slave_parts.specs.of_mailbox_mail.declared.mail.MailFault.TheVariants.{UnknownKind}
+use Rattle.slave_parts.specs.of_mailbox_mail.declared.mail.Kind.{Kind}
+use Rattle.slave_parts.specs.of_link_mails.Body.{Body}
+use Rattle.slave_parts.specs.of_eoe.Cutting.{blocks_of}
+use Rattle.slave_parts.specs.of_eoe.Joining.{taken}
+use Rattle.slave_parts.specs.of_eoe.declared.joining.Joined.{Joined}
+use Rattle.slave_parts.specs.of_eoe.declared.joining.Joined.TheVariants.{More, Whole, Dropped}
+use Rattle.slave_parts.specs.of_exchange_model.Refusing.{gated}
+use Rattle.slave_parts.specs.of_protocol_models.CoeMails as Coe
+use Rattle.slave_parts.specs.of_protocol_models.CoeMails.{CoeMail, mail, unread, failed, fragment, other, Abort, DownloadAnswer, SegmentAnswer, ExpeditedAnswer, FirstAnswer, UploadSegmentAnswer, Information, InformationError}
+use Rattle.slave_parts.specs.of_protocol_models.CoeModel.{value_length}
+use Rattle.slave_parts.specs.of_protocol_models.CoeOctets as CoeOctets
+use Rattle.slave_parts.specs.of_protocol_models.Tables.{Target, nowhere, Ask, list, object, entry, Tables}
+use Rattle.slave_parts.specs.of_protocol_models.CoeServer as CoeServer
+use Rattle.slave_parts.specs.of_protocol_models.CoeServer.{Transfer, idle, downloading, uploading, Outcome, ended, goes_on, silent, abort, download_answer, same, stored, takes_whole, begins, takes_first, takes_segment, is_expedited, opened, takes_upload_segment, information_parts, informed, takes_ask, unknown_command, takes_unread, coe_takes, coe_outcome, emergency, packet, emission_of, issued}
+use Rattle.slave_parts.specs.of_protocol_models.Files as Files
+use Rattle.slave_parts.specs.of_protocol_models.FoeMails as Foe
+use Rattle.slave_parts.specs.of_protocol_models.FoeOctets as FoeOctets
+use Rattle.slave_parts.specs.of_protocol_models.FoeServer as FoeServer
+use Rattle.slave_parts.specs.of_protocol_models.Elements as Elements
+use Rattle.slave_parts.specs.of_protocol_models.SoeMails as Soe
+use Rattle.slave_parts.specs.of_protocol_models.SoeOctets as SoeOctets
+use Rattle.slave_parts.specs.of_protocol_models.SoeServer as SoeServer
+use Rattle.slave_parts.specs.of_protocol_models.EoeMails as Eoe
+use Rattle.slave_parts.specs.of_protocol_models.EoeOctets as EoeOctets
+use Rattle.slave_parts.specs.of_protocol_models.EoeServer as EoeServer
+use Rattle.slave_parts.specs.of_protocol_models.Network.{Network, Station}
 use Rattle.slave_parts.specs.of_slave_model.Application.{Parts, ArePartsLawful, core_valid, station_valid, station_tables, station_files, station_elements, network}
 use Rattle.slave_parts.specs.of_slave_model.Product.{served, side, refusal, protocol_of, serve_by, serve_other, serve}
 use Rattle.slave_parts.specs.of_slave_model.Profile.{Protocol, Profile, IsProfile, serves}

@@ -1,13 +1,13 @@
 -- What a returned frame tells of mailbox 0: it was seen empty only where it was, by a read of its status, and not behind a write that was done.
 use Rattle.std.proofs.Common.{◌≡◌, ◌⊎◌, inl, inr, ℕ, zero, suc, ◌==◌, ◌||◌, Bool, true, false, is_some, Option, Some, None, List, [], ◌∷◌, ◌++◌, map, refl, ap, sym, ◌∙◌, subst, if◌then◌else◌, eqb-true, append_assoc}
 use Rattle.std.specs.Prelude.{⊤}
-use Rattle.link_model.specs.Mails.{LinkMail, news}
-use Rattle.link_model.specs.Link.{written}
-use Rattle.link_model.specs.Frames.{Ask, Gram, node_meets, gram_meets}
-use Rattle.link_model.proofs.Own.{station-gram_meets, ask-gram_meets}
-use Rattle.segment_model.specs.Slaves.{Slave, Datagram, Address, Access, Found, is_meant, found_met, address_behind, slave_meets, datagram_meets, frame_after}
-use Rattle.segment_model.specs.Record.{News, is_for, gram_news, found_news, last_heard, back_news}
-use Rattle.life_model.specs.Lives.{ReadsFull}
+use Rattle.slave_parts.specs.of_link_model.Mails.{LinkMail, news}
+use Rattle.slave_parts.specs.of_link_model.Link.{written}
+use Rattle.slave_parts.specs.of_link_model.Frames.{Ask, Gram, node_meets, gram_meets}
+use Rattle.slave_parts.proofs.of_link_model.Own.{station-gram_meets, ask-gram_meets}
+use Rattle.slave_parts.specs.of_segment_model.Slaves.{Slave, Datagram, Address, Access, Found, is_meant, found_met, address_behind, slave_meets, datagram_meets, frame_after}
+use Rattle.slave_parts.specs.of_segment_model.Record.{News, is_for, gram_news, found_news, last_heard, back_news}
+use Rattle.slave_parts.specs.of_life_model.Lives.{ReadsFull}
 use Rattle.few_replies.specs.Led.{IsSingle, AreSingle}
 
 -- mailbox 0 was seen empty

@@ -1,12 +1,12 @@
 -- How far a mail that is passed on comes by news, and what was heard for it.
 use Rattle.std.proofs.Common.{◌≡◌, ◌≢◌, Bool, true, false, Option, Some, None, List, [], ◌∷◌, ◌++◌, refl, sym, ap, ◌∙◌, subst, append-nil, append_assoc, if◌then◌else◌, inl, inr}
 use Rattle.std.specs.Prelude.{⊤, not}
-use Rattle.exchange_model.specs.Exchange.{Exchange, Speech, given, plain}
-use Rattle.exchange_model.proofs.Words.{plain-append}
-use Rattle.life_model.specs.Lives.{passes}
-use Rattle.segment_model.specs.Ends.{Passing, passing_after}
-use Rattle.segment_model.specs.Record.{News, mails_heard}
-use Rattle.serving_model.specs.Passing.{ends_told}
+use Rattle.slave_parts.specs.of_exchange_model.Exchange.{Exchange, Speech, given, plain}
+use Rattle.slave_parts.proofs.of_exchange_model.Words.{plain-append}
+use Rattle.slave_parts.specs.of_life_model.Lives.{passes}
+use Rattle.slave_parts.specs.of_segment_model.Ends.{Passing, passing_after}
+use Rattle.slave_parts.specs.of_segment_model.Record.{News, mails_heard}
+use Rattle.slave_parts.specs.of_serving_model.Passing.{ends_told}
 use Rattle.few_replies.specs.Heard.{HeardBy, LastTold}
 
 -- what was heard behind it, where it isn't over

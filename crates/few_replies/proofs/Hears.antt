@@ -1,25 +1,25 @@
 -- What a frame makes of a mail that is always answered: a reply is heard by it, or the mail goes on as it was awaited.
 use Rattle.std.proofs.Common.{◌≡◌, ◌≢◌, ◌⊎◌, inl, inr, ℕ, ◌+◌, ◌≤◌, ◌&&◌, Bool, true, false, not, is_none, is_some, Option, Some, None, List, [], ◌∷◌, ◌++◌, map, length, refl, ap, sym, ◌∙◌, subst, arith, append-nil, length-append, if◌then◌else◌}
-use Rattle.exchange_model.specs.Exchange.{Exchange}
-use Rattle.link_model.specs.Mails.{LinkMail, news, bodies}
-use Rattle.link_model.specs.Master.{InState}
-use Rattle.link_model.specs.Slave.{Node}
-use Rattle.link_model.specs.Link.{Halves, Link, in_met}
-use Rattle.link_model.specs.Agree.{Agrees, Knows, last_met_of, unread}
-use Rattle.link_model.specs.Frames.{Gram, IsFrameFor, own, halves_after, halves_without, all_accepted}
-use Rattle.link_model.proofs.Law.{accepted_of_offered}
-use Rattle.link_model.proofs.Own.{grams_all, halves_all, lost_all, node_all, node_after-own, halves_after-own, halves_without-own, own-grams_after}
-use Rattle.segment_model.specs.Slaves.{Serving, Slave, Datagram, grams, slave_after, frame_after}
-use Rattle.segment_model.specs.Record.{Kept, News, back_news, mails_heard, all_told, did_read}
-use Rattle.segment_model.specs.Ends.{Passing}
-use Rattle.segment_model.specs.Seats.{Seat, link_of, writes, seat_back}
-use Rattle.segment_model.proofs.News.{heard_back}
-use Rattle.segment_model.proofs.Rests.{all_taken, all_offered, all_news}
-use Rattle.segment_model.proofs.Views.{node-slave_after, grams-frame_after}
-use Rattle.segment_model.proofs.Written.{mails_told, has_written, back_tells, back_frees, Tells, Tells.told, Tells.quiet}
-use Rattle.segment_model.proofs.Posts.{KeptOut, IsKnown}
-use Rattle.life_model.specs.Lives.{ReadsFull}
-use Rattle.serving_model.specs.Tagged.{no_reply}
+use Rattle.slave_parts.specs.of_exchange_model.Exchange.{Exchange}
+use Rattle.slave_parts.specs.of_link_model.Mails.{LinkMail, news, bodies}
+use Rattle.slave_parts.specs.of_link_model.Master.{InState}
+use Rattle.slave_parts.specs.of_link_model.Slave.{Node}
+use Rattle.slave_parts.specs.of_link_model.Link.{Halves, Link, in_met}
+use Rattle.slave_parts.specs.of_link_model.Agree.{Agrees, Knows, last_met_of, unread}
+use Rattle.slave_parts.specs.of_link_model.Frames.{Gram, IsFrameFor, own, halves_after, halves_without, all_accepted}
+use Rattle.slave_parts.proofs.of_link_model.Law.{accepted_of_offered}
+use Rattle.slave_parts.proofs.of_link_model.Own.{grams_all, halves_all, lost_all, node_all, node_after-own, halves_after-own, halves_without-own, own-grams_after}
+use Rattle.slave_parts.specs.of_segment_model.Slaves.{Serving, Slave, Datagram, grams, slave_after, frame_after}
+use Rattle.slave_parts.specs.of_segment_model.Record.{Kept, News, back_news, mails_heard, all_told, did_read}
+use Rattle.slave_parts.specs.of_segment_model.Ends.{Passing}
+use Rattle.slave_parts.specs.of_segment_model.Seats.{Seat, link_of, writes, seat_back}
+use Rattle.slave_parts.proofs.of_segment_model.News.{heard_back}
+use Rattle.slave_parts.proofs.of_segment_model.Rests.{all_taken, all_offered, all_news}
+use Rattle.slave_parts.proofs.of_segment_model.Views.{node-slave_after, grams-frame_after}
+use Rattle.slave_parts.proofs.of_segment_model.Written.{mails_told, has_written, back_tells, back_frees, Tells, Tells.told, Tells.quiet}
+use Rattle.slave_parts.proofs.of_segment_model.Posts.{KeptOut, IsKnown}
+use Rattle.slave_parts.specs.of_life_model.Lives.{ReadsFull}
+use Rattle.slave_parts.specs.of_serving_model.Tagged.{no_reply}
 use Rattle.few_replies.specs.Led.{AreSingle, counted_news}
 use Rattle.few_replies.proofs.Ways.{found_empty, was_read, reads_in, answered_in, Quiet, Asked, way}
 use Rattle.few_replies.proofs.Founds.{sees_empty, sees_late, AllFindNone, empty_was, late_tells, status_read}

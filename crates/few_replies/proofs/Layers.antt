@@ -1,11 +1,11 @@
 -- The mails of a service, layer by layer: over what mails are written as, where a protocol is refused, and where several stand side by side.
 use Rattle.std.proofs.Common.{◌≡◌, ℕ, ◌+◌, Bool, true, false, List, [], ◌∷◌, ◌++◌, map, length, refl, sym, ap, ap₂, ◌∙◌, arith, length-append, if◌then◌else◌}
 use Rattle.std.proofs.lemmas.List.{length-map}
-use Rattle.exchange_model.specs.Exchange.{Exchange, given}
-use Rattle.exchange_model.specs.Lifted.{EachOf, ReadsBack, Spells, lifted, lifted_serve}
-use Rattle.exchange_model.proofs.Lifting.{map_append}
-use Rattle.exchange_model.specs.Refusing.{Refusal, IsAsked, refused_serve, refusing}
-use Rattle.exchange_model.specs.Sides.{Slave, IsSide}
+use Rattle.slave_parts.specs.of_exchange_model.Exchange.{Exchange, given}
+use Rattle.slave_parts.specs.of_exchange_model.Lifted.{EachOf, ReadsBack, Spells, lifted, lifted_serve}
+use Rattle.slave_parts.proofs.of_exchange_model.Lifting.{map_append}
+use Rattle.slave_parts.specs.of_exchange_model.Refusing.{Refusal, IsAsked, refused_serve, refusing}
+use Rattle.slave_parts.specs.of_exchange_model.Sides.{Slave, IsSide}
 use Rattle.few_replies.specs.Counts.{mails_between}
 
 module _ {V A M N Q R : Type 0} (x : Exchange V A M Q R) (read : N → M) (write : M → N) where

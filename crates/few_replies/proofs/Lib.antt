@@ -1,3 +1,10 @@
+pub use Rattle.slave_parts.proofs.of_exchange_model as of_exchange_model
+pub use Rattle.slave_parts.proofs.of_life_model as of_life_model
+pub use Rattle.slave_parts.proofs.of_link_model as of_link_model
+pub use Rattle.slave_parts.proofs.of_protocol_models as of_protocol_models
+pub use Rattle.slave_parts.proofs.of_segment_model as of_segment_model
+pub use Rattle.slave_parts.proofs.of_serving_model as of_serving_model
+pub use Rattle.slave_parts.proofs.of_state_model as of_state_model
 pub mod Alone
 mod Both
 pub mod Calms

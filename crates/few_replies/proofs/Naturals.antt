@@ -1,16 +1,16 @@
 -- What a master does of frames doesn't depend on what is in its mails, but for its client.
 use Rattle.std.proofs.Common.{◌≡◌, ℕ, ◌==◌, ◌&&◌, ◌||◌, Bool, true, false, not, is_none, is_some, Option, None, Some, option_map, List, [], ◌∷◌, ◌++◌, map, drop, length, refl, ap, ap₂, sym, ◌∙◌, subst, if◌then◌else◌}
 use Rattle.std.proofs.lemmas.List.{length-map, drop-map}
-use Rattle.exchange_model.specs.Exchange.{Speech, plain}
-use Rattle.exchange_model.specs.Rows.{Row, begun, row_heard, row_told, answer_after, left}
-use Rattle.link_model.specs.Mails.{LinkMail, is_repeat, news, seen}
-use Rattle.link_model.specs.Master.{out_hold}
-use Rattle.link_model.specs.Link.{Halves}
-use Rattle.link_model.specs.Frames.{Ask, Gram, mail_back, halves_answered, halves_accept, halves_lost, halves_after, all_accepted, halves_without}
-use Rattle.segment_model.specs.Slaves.{Datagram, Found, grams}
-use Rattle.segment_model.specs.Record.{Frame, News, Kept, is_for, mail_told, last_told, all_told, told_behind, gram_news, last_heard, found_news, datagram_news, back_news, heard_behind, frame_news, kept_after, news_each}
-use Rattle.segment_model.specs.Seats.{Side, Choice, is_none_left, is_over, side_begins, first_left, next_mail, side_holds, side_next, is_write, writes, side_back, side_lost}
-use Rattle.serving_model.specs.Erasing.{box_as, ask_as, gram_as, datagram_as, all_as}
+use Rattle.slave_parts.specs.of_exchange_model.Exchange.{Speech, plain}
+use Rattle.slave_parts.specs.of_exchange_model.Rows.{Row, begun, row_heard, row_told, answer_after, left}
+use Rattle.slave_parts.specs.of_link_model.Mails.{LinkMail, is_repeat, news, seen}
+use Rattle.slave_parts.specs.of_link_model.Master.{out_hold}
+use Rattle.slave_parts.specs.of_link_model.Link.{Halves}
+use Rattle.slave_parts.specs.of_link_model.Frames.{Ask, Gram, mail_back, halves_answered, halves_accept, halves_lost, halves_after, all_accepted, halves_without}
+use Rattle.slave_parts.specs.of_segment_model.Slaves.{Datagram, Found, grams}
+use Rattle.slave_parts.specs.of_segment_model.Record.{Frame, News, Kept, is_for, mail_told, last_told, all_told, told_behind, gram_news, last_heard, found_news, datagram_news, back_news, heard_behind, frame_news, kept_after, news_each}
+use Rattle.slave_parts.specs.of_segment_model.Seats.{Side, Choice, is_none_left, is_over, side_begins, first_left, next_mail, side_holds, side_next, is_write, writes, side_back, side_lost}
+use Rattle.slave_parts.specs.of_serving_model.Erasing.{box_as, ask_as, gram_as, datagram_as, all_as}
 use Rattle.few_replies.specs.Erased.{halves_as, row_seen, side_seen, frame_as, news_as, all_news_as, AreOne, PlanOne, EndOne, OfRow}
 
 module _ {N M : Type 0} (f : N → M) where
@@ -47,7 +47,7 @@ module _ {N M : Type 0} (f : N → M) where
       go : (b : Bool) → halves_as f (record h { out = if b then h.out else record h.out { holding = None } }) ≡ record (halves_as f h) { out = if b then (halves_as f h).out else record (halves_as f h).out { holding = None } }
       go true = refl
       go false = refl
-  answered_of h Ask.ReadMail g = ap (λ n. record (halves_as f h) { inn = record h.inn { last = n; state = Rattle.link_model.specs.Master.InState.Clear } }) (seen_of h.inn.last (mail_back g) ∙ ap (seen h.inn.last) (back_of g))
+  answered_of h Ask.ReadMail g = ap (λ n. record (halves_as f h) { inn = record h.inn { last = n; state = Rattle.slave_parts.specs.of_link_model.Master.InState.Clear } }) (seen_of h.inn.last (mail_back g) ∙ ap (seen h.inn.last) (back_of g))
   answered_of h (Ask.WriteRequest bit) g = refl
   answered_of h Ask.ReadAcknowledge g = refl
   answered_of h Ask.Other g = refl

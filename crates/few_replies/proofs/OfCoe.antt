@@ -1,20 +1,20 @@
 -- The mails of CoE.
 use Rattle.std.proofs.Common.{◌≡◌, ℕ, zero, suc, ◌+◌, ◌-◌, ◌*◌, ◌/◌, ◌<◌, ◌≤◌, inl, inr, Bool, true, false, not, List, [], ◌∷◌, ◌++◌, length, take, drop, if◌then◌else◌, Some, Result, Ok, Err, refl, ap, ◌∙◌, arith, append-nil, length-drop, length-take, nat_le, le-leb, le-ltb, lt-ltb}
 use Rattle.std.proofs.lemmas.Bool.{cases_lt, lt-leb}
-use Rattle.exchange_model.specs.Areas.{Areas, AreMailboxes}
-use Rattle.exchange_model.specs.Exchange.{given}
-use Rattle.exchange_model.specs.Dialogue.{next, stop}
-use Rattle.exchange_model.proofs.Turns.{sent_none, sent_few}
-use Rattle.protocol_models.specs.CoeMails.{CoeMail, mail, is_emission, Expedited, First, Upload, ExpeditedAnswer, FirstAnswer, UploadSegment, UploadSegmentAnswer}
-use Rattle.protocol_models.specs.Tables.{Target, Ask, list, object, entry, Tables, AreLawful}
-use Rattle.protocol_models.specs.CoeServer.{idle, uploading, Server, coe_outcome, ended, goes_on, opened, informed, information_parts, answer_opcode, takes_upload_segment, abort, is_expedited, behind, serve}
-use Rattle.protocol_models.specs.CoeMeaning.{Service, download, upload, information, meaning_of}
-use Rattle.protocol_models.specs.CoeClient.{decide, segments, download_mails, requests, information_mail}
-use Rattle.protocol_models.specs.CoeModel.{value_length, turns, full, is_service, coe_exchange}
-use Rattle.protocol_models.proofs.Basics.{same_itself}
-use Rattle.protocol_models.proofs.CoeCarries.{talk, talk_onward, talk_over}
-use Rattle.protocol_models.proofs.CoeSpeaks.{replies_counted, never}
-use Rattle.protocol_models.proofs.CoeLaw.{IsSdo, full_all, ask_full, coe_law}
+use Rattle.slave_parts.specs.of_exchange_model.Areas.{Areas, AreMailboxes}
+use Rattle.slave_parts.specs.of_exchange_model.Exchange.{given}
+use Rattle.slave_parts.specs.of_exchange_model.Dialogue.{next, stop}
+use Rattle.slave_parts.proofs.of_exchange_model.Turns.{sent_none, sent_few}
+use Rattle.slave_parts.specs.of_protocol_models.CoeMails.{CoeMail, mail, is_emission, Expedited, First, Upload, ExpeditedAnswer, FirstAnswer, UploadSegment, UploadSegmentAnswer}
+use Rattle.slave_parts.specs.of_protocol_models.Tables.{Target, Ask, list, object, entry, Tables, AreLawful}
+use Rattle.slave_parts.specs.of_protocol_models.CoeServer.{idle, uploading, Server, coe_outcome, ended, goes_on, opened, informed, information_parts, answer_opcode, takes_upload_segment, abort, is_expedited, behind, serve}
+use Rattle.slave_parts.specs.of_protocol_models.CoeMeaning.{Service, download, upload, information, meaning_of}
+use Rattle.slave_parts.specs.of_protocol_models.CoeClient.{decide, segments, download_mails, requests, information_mail}
+use Rattle.slave_parts.specs.of_protocol_models.CoeModel.{value_length, turns, full, is_service, coe_exchange}
+use Rattle.slave_parts.proofs.of_protocol_models.Basics.{same_itself}
+use Rattle.slave_parts.proofs.of_protocol_models.CoeCarries.{talk, talk_onward, talk_over}
+use Rattle.slave_parts.proofs.of_protocol_models.CoeSpeaks.{replies_counted, never}
+use Rattle.slave_parts.proofs.of_protocol_models.CoeLaw.{IsSdo, full_all, ask_full, coe_law}
 use Rattle.few_replies.specs.Counts.{third, mails_between, mails_within, coe_octets}
 use Rattle.few_replies.proofs.Thirds.{Fits, fits, one_less, both_kinds}
 

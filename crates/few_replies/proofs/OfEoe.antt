@@ -2,15 +2,15 @@
 use Rattle.std.proofs.Common.{◌≡◌, ℕ, zero, suc, ◌+◌, ◌-◌, ◌*◌, ◌/◌, ◌≤◌, inl, inr, true, List, [], ◌++◌, length, Option, None, Some, refl, ap, arith, lt-ltb, le-ltb}
 use Rattle.std.proofs.lemmas.Bool.{cases_lt}
 use Rattle.std.proofs.lemmas.List.{length-map}
-use Rattle.eoe.specs.Cutting.{blocks_of, fragments_from}
-use Rattle.exchange_model.specs.Areas.{Areas, AreMailboxes}
-use Rattle.exchange_model.specs.Exchange.{given, plain}
-use Rattle.protocol_models.specs.EoeMails.{part, packet_mails, is_emission}
-use Rattle.protocol_models.specs.Network.{Network, Station, IsSound, is_ready}
-use Rattle.protocol_models.specs.EoeServer.{Server, serve, set_answer, addressed}
-use Rattle.protocol_models.specs.EoeClient.{Service, packet, set_ip, get_ip, is_service, mails_of, meaning_of}
-use Rattle.protocol_models.specs.EoeModel.{eoe_exchange}
-use Rattle.protocol_models.proofs.EoeLaw.{eoe_law}
+use Rattle.slave_parts.specs.of_eoe.Cutting.{blocks_of, fragments_from}
+use Rattle.slave_parts.specs.of_exchange_model.Areas.{Areas, AreMailboxes}
+use Rattle.slave_parts.specs.of_exchange_model.Exchange.{given, plain}
+use Rattle.slave_parts.specs.of_protocol_models.EoeMails.{part, packet_mails, is_emission}
+use Rattle.slave_parts.specs.of_protocol_models.Network.{Network, Station, IsSound, is_ready}
+use Rattle.slave_parts.specs.of_protocol_models.EoeServer.{Server, serve, set_answer, addressed}
+use Rattle.slave_parts.specs.of_protocol_models.EoeClient.{Service, packet, set_ip, get_ip, is_service, mails_of, meaning_of}
+use Rattle.slave_parts.specs.of_protocol_models.EoeModel.{eoe_exchange}
+use Rattle.slave_parts.proofs.of_protocol_models.EoeLaw.{eoe_law}
 use Rattle.few_replies.specs.Counts.{mails_between, eoe_mails}
 use Rattle.few_replies.proofs.Thirds.{both_kinds}
 

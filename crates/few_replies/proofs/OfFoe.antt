@@ -1,16 +1,16 @@
 -- The mails of FoE.
 use Rattle.std.proofs.Common.{◌≡◌, ℕ, zero, suc, ◌+◌, ◌*◌, ◌/◌, ◌<◌, ◌≤◌, inl, inr, Bool, true, false, List, [], ◌∷◌, ◌++◌, length, take, drop, Option, None, Some, refl, ap, ◌∙◌, arith, length-drop, length-take, eq-eqb, lt-ltb, le-ltb, nat_lt}
 use Rattle.std.proofs.lemmas.Bool.{cases_lt}
-use Rattle.exchange_model.specs.Areas.{Areas, AreMailboxes}
-use Rattle.exchange_model.proofs.Turns.{sent_none}
-use Rattle.protocol_models.specs.FoeMails.{FoeMail, mail, is_emission, Read, Write, Data, Ack, Busy}
-use Rattle.protocol_models.specs.Files.{Files}
-use Rattle.protocol_models.specs.FoeServer.{idle, reading, writing, closing, Server, ended, goes_on, silent, refusal, ack, packet_room, packet_of, is_last, opened, begun, closes, stores, takes_data, takes_ack}
-use Rattle.protocol_models.specs.FoeMeaning.{Service, read, write}
-use Rattle.protocol_models.specs.FoeClient.{decide, acks, packets, turn_behind, write_turn}
-use Rattle.protocol_models.specs.FoeModel.{read_length, full, foe_exchange}
-use Rattle.protocol_models.proofs.FoeCarries.{step, foe_takes, talk, talk_onward, talk_again, talk_over, talk_waits}
-use Rattle.protocol_models.proofs.FoeSpeaks.{replies_few}
+use Rattle.slave_parts.specs.of_exchange_model.Areas.{Areas, AreMailboxes}
+use Rattle.slave_parts.proofs.of_exchange_model.Turns.{sent_none}
+use Rattle.slave_parts.specs.of_protocol_models.FoeMails.{FoeMail, mail, is_emission, Read, Write, Data, Ack, Busy}
+use Rattle.slave_parts.specs.of_protocol_models.Files.{Files}
+use Rattle.slave_parts.specs.of_protocol_models.FoeServer.{idle, reading, writing, closing, Server, ended, goes_on, silent, refusal, ack, packet_room, packet_of, is_last, opened, begun, closes, stores, takes_data, takes_ack}
+use Rattle.slave_parts.specs.of_protocol_models.FoeMeaning.{Service, read, write}
+use Rattle.slave_parts.specs.of_protocol_models.FoeClient.{decide, acks, packets, turn_behind, write_turn}
+use Rattle.slave_parts.specs.of_protocol_models.FoeModel.{read_length, full, foe_exchange}
+use Rattle.slave_parts.proofs.of_protocol_models.FoeCarries.{step, foe_takes, talk, talk_onward, talk_again, talk_over, talk_waits}
+use Rattle.slave_parts.proofs.of_protocol_models.FoeSpeaks.{replies_few}
 use Rattle.few_replies.specs.Counts.{third, mails_between, mails_within, foe_octets, foe_busy}
 use Rattle.few_replies.proofs.Thirds.{Fits, fits, one_less}
 

@@ -1,12 +1,12 @@
 -- The mails of rows.
 use Rattle.std.proofs.Common.{◌≡◌, ℕ, ◌+◌, ◌≤◌, true, List, [], ◌∷◌, ◌++◌, length, refl, sym, ap, subst, ◌∙◌, arith, length-append}
 use Rattle.std.proofs.lemmas.List.Sums.{sum_by-cons, sum_by-append}
-use Rattle.exchange_model.specs.Prefix.{IsPrefixOf}
-use Rattle.exchange_model.specs.Exchange.{Exchange, IsLawful, after, given}
-use Rattle.exchange_model.specs.Laws.{Moment}
-use Rattle.exchange_model.specs.Rows.{Row, IsWhole, Settled, told_all, heard_all}
-use Rattle.exchange_model.proofs.Words.{after-append, given-append, given_part}
-use Rattle.exchange_model.proofs.Settles.{told_all_last, heard_all_last, whole_ready}
+use Rattle.slave_parts.specs.of_exchange_model.Prefix.{IsPrefixOf}
+use Rattle.slave_parts.specs.of_exchange_model.Exchange.{Exchange, IsLawful, after, given}
+use Rattle.slave_parts.specs.of_exchange_model.Laws.{Moment}
+use Rattle.slave_parts.specs.of_exchange_model.Rows.{Row, IsWhole, Settled, told_all, heard_all}
+use Rattle.slave_parts.proofs.of_exchange_model.Words.{after-append, given-append, given_part}
+use Rattle.slave_parts.proofs.of_exchange_model.Settles.{told_all_last, heard_all_last, whole_ready}
 use Rattle.few_replies.specs.Counts.{mails_between}
 use Rattle.few_replies.specs.RowCounts.{AreCounted, rows_mails, rows_count}
 

@@ -3,26 +3,26 @@ use Rattle.std.proofs.Common.{◌≡◌, ℕ, ◌+◌, ◌-◌, ◌*◌, ◌/◌
 use Rattle.std.proofs.lemmas.List.{length-map}
 use Rattle.std.proofs.lemmas.Nat.{le-div}
 use Rattle.std.proofs.Math.Nat.{div-mul-le_self}
-use Rattle.eoe.specs.declared.message.Eoe.TheVariants.{Fragment as Part}
-use Rattle.eoe.specs.declared.message.Fragment.{Fragment}
-use Rattle.eoe.specs.Cutting.{fragments_of}
-use Rattle.eoe.specs.Message.{eoe_text}
-use Rattle.exchange_model.specs.Areas.{Areas, AreMailboxes}
-use Rattle.object_dictionary.specs.Dictionary.{Table}
-use Rattle.object_dictionary.specs.Sound.{is_table}
-use Rattle.file_store.specs.Files as Store
-use Rattle.idn_table.specs.Idns as Idns
-use Rattle.protocol_models.specs.CoeMeaning as CoeMeaning
-use Rattle.protocol_models.specs.CoeMails.{fragment}
-use Rattle.protocol_models.specs.CoeServer.{Emission, emergency, packet, emission_of, issued}
+use Rattle.slave_parts.specs.of_eoe.declared.message.Eoe.TheVariants.{Fragment as Part}
+use Rattle.slave_parts.specs.of_eoe.declared.message.Fragment.{Fragment}
+use Rattle.slave_parts.specs.of_eoe.Cutting.{fragments_of}
+use Rattle.slave_parts.specs.of_eoe.Message.{eoe_text}
+use Rattle.slave_parts.specs.of_exchange_model.Areas.{Areas, AreMailboxes}
+use Rattle.slave_parts.specs.of_object_dictionary.Dictionary.{Table}
+use Rattle.slave_parts.specs.of_object_dictionary.Sound.{is_table}
+use Rattle.slave_parts.specs.of_file_store.Files as Store
+use Rattle.slave_parts.specs.of_idn_table.Idns as Idns
+use Rattle.slave_parts.specs.of_protocol_models.CoeMeaning as CoeMeaning
+use Rattle.slave_parts.specs.of_protocol_models.CoeMails.{fragment}
+use Rattle.slave_parts.specs.of_protocol_models.CoeServer.{Emission, emergency, packet, emission_of, issued}
 use Rattle.slave_parts.specs.of_coe_server.ObjectTables.{stores}
-use Rattle.protocol_models.specs.FoeMeaning as FoeMeaning
-use Rattle.protocol_models.specs.SoeClient as SoeClient
-use Rattle.protocol_models.specs.EoeClient as EoeClient
-use Rattle.protocol_models.specs.Echo.{echo_of}
-use Rattle.protocol_models.specs.EoeMails.{part}
-use Rattle.protocol_models.specs.Network.{Station}
-use Rattle.protocol_models.specs.EoeServer.{addressed, sends}
+use Rattle.slave_parts.specs.of_protocol_models.FoeMeaning as FoeMeaning
+use Rattle.slave_parts.specs.of_protocol_models.SoeClient as SoeClient
+use Rattle.slave_parts.specs.of_protocol_models.EoeClient as EoeClient
+use Rattle.slave_parts.specs.of_protocol_models.Echo.{echo_of}
+use Rattle.slave_parts.specs.of_protocol_models.EoeMails.{part}
+use Rattle.slave_parts.specs.of_protocol_models.Network.{Station}
+use Rattle.slave_parts.specs.of_protocol_models.EoeServer.{addressed, sends}
 use Rattle.slave_parts.specs.of_slave_model.Application.{ArePartsLawful, core_valid, station_valid, stored, station_tables, station_files, station_elements, network, fragment_bodies}
 use Rattle.slave_parts.specs.of_slave_model.Product.{served, refusal, product}
 use Rattle.slave_parts.specs.of_slave_model.Profile.{Protocol, Profile, IsProfile, areas_of, serves}

@@ -1,27 +1,27 @@
 -- The mails of a service at a slave.
 use Rattle.std.proofs.Common.{◌≡◌, ℕ, suc, ◌+◌, ◌-◌, ◌≤◌, Bool, true, false, List, [], map, take, length, refl, ap, ◌∙◌, arith, length-take}
 use Rattle.std.proofs.lemmas.List.{length-map}
-use Rattle.exchange_model.specs.Refusing.{gated}
-use Rattle.protocol_models.specs.CoeClient as CoeClient
-use Rattle.protocol_models.specs.CoeMeaning as CoeMeaning
-use Rattle.protocol_models.specs.CoeModel as CoeModel
-use Rattle.protocol_models.specs.CoeMails as CoeMails
-use Rattle.protocol_models.specs.CoeOctets as CoeOctets
-use Rattle.protocol_models.specs.FoeClient as FoeClient
-use Rattle.protocol_models.specs.FoeModel as FoeModel
-use Rattle.protocol_models.specs.FoeMails as FoeMails
-use Rattle.protocol_models.specs.FoeOctets as FoeOctets
-use Rattle.protocol_models.specs.SoeClient as SoeClient
-use Rattle.protocol_models.specs.SoeModel as SoeModel
-use Rattle.protocol_models.specs.SoeMails as SoeMails
-use Rattle.protocol_models.specs.SoeOctets as SoeOctets
-use Rattle.protocol_models.specs.EoeClient as EoeClient
-use Rattle.protocol_models.specs.EoeModel as EoeModel
-use Rattle.protocol_models.specs.EoeMails as EoeMails
-use Rattle.protocol_models.specs.EoeOctets as EoeOctets
-use Rattle.protocol_models.specs.Network.{Station}
-use Rattle.state_model.specs.Families.{InState}
-use Rattle.state_model.proofs.FamilyLaw.{given_in}
+use Rattle.slave_parts.specs.of_exchange_model.Refusing.{gated}
+use Rattle.slave_parts.specs.of_protocol_models.CoeClient as CoeClient
+use Rattle.slave_parts.specs.of_protocol_models.CoeMeaning as CoeMeaning
+use Rattle.slave_parts.specs.of_protocol_models.CoeModel as CoeModel
+use Rattle.slave_parts.specs.of_protocol_models.CoeMails as CoeMails
+use Rattle.slave_parts.specs.of_protocol_models.CoeOctets as CoeOctets
+use Rattle.slave_parts.specs.of_protocol_models.FoeClient as FoeClient
+use Rattle.slave_parts.specs.of_protocol_models.FoeModel as FoeModel
+use Rattle.slave_parts.specs.of_protocol_models.FoeMails as FoeMails
+use Rattle.slave_parts.specs.of_protocol_models.FoeOctets as FoeOctets
+use Rattle.slave_parts.specs.of_protocol_models.SoeClient as SoeClient
+use Rattle.slave_parts.specs.of_protocol_models.SoeModel as SoeModel
+use Rattle.slave_parts.specs.of_protocol_models.SoeMails as SoeMails
+use Rattle.slave_parts.specs.of_protocol_models.SoeOctets as SoeOctets
+use Rattle.slave_parts.specs.of_protocol_models.EoeClient as EoeClient
+use Rattle.slave_parts.specs.of_protocol_models.EoeModel as EoeModel
+use Rattle.slave_parts.specs.of_protocol_models.EoeMails as EoeMails
+use Rattle.slave_parts.specs.of_protocol_models.EoeOctets as EoeOctets
+use Rattle.slave_parts.specs.of_protocol_models.Network.{Station}
+use Rattle.slave_parts.specs.of_state_model.Families.{InState}
+use Rattle.slave_parts.proofs.of_state_model.FamilyLaw.{given_in}
 use Rattle.slave_parts.specs.of_slave_model.Application.{Core, Parts, ArePartsLawful, station_tables, station_files, station_elements, network}
 use Rattle.slave_parts.specs.of_slave_model.Product.{served, refusal, side, slave, protocols, product}
 use Rattle.slave_parts.specs.of_slave_model.Profile.{Protocol, Profile, IsProfile, areas_of, serves}

@@ -1,15 +1,15 @@
 -- The mails of SoE.
 use Rattle.std.proofs.Common.{◌≡◌, ℕ, zero, suc, ◌-◌, ◌/◌, ◌<◌, ◌≤◌, inl, inr, true, List, length, drop, Result, Ok, Err, refl, ap, arith, length-drop, le-leb}
 use Rattle.std.proofs.lemmas.Bool.{cases_lt, lt-leb}
-use Rattle.exchange_model.specs.Areas.{Areas, AreMailboxes}
-use Rattle.protocol_models.specs.CoeModel.{value_length}
-use Rattle.protocol_models.specs.Elements.{Target, Elements, AreLawful}
-use Rattle.protocol_models.specs.SoeMails.{fragments}
-use Rattle.protocol_models.specs.SoeServer.{Server}
-use Rattle.protocol_models.specs.SoeClient.{Service, read, write, is_service}
-use Rattle.protocol_models.specs.SoeModel.{is_ready, soe_exchange}
-use Rattle.protocol_models.proofs.SoeCarries.{answer_to}
-use Rattle.protocol_models.proofs.SoeLaw.{answer_to_read, kept}
+use Rattle.slave_parts.specs.of_exchange_model.Areas.{Areas, AreMailboxes}
+use Rattle.slave_parts.specs.of_protocol_models.CoeModel.{value_length}
+use Rattle.slave_parts.specs.of_protocol_models.Elements.{Target, Elements, AreLawful}
+use Rattle.slave_parts.specs.of_protocol_models.SoeMails.{fragments}
+use Rattle.slave_parts.specs.of_protocol_models.SoeServer.{Server}
+use Rattle.slave_parts.specs.of_protocol_models.SoeClient.{Service, read, write, is_service}
+use Rattle.slave_parts.specs.of_protocol_models.SoeModel.{is_ready, soe_exchange}
+use Rattle.slave_parts.proofs.of_protocol_models.SoeCarries.{answer_to}
+use Rattle.slave_parts.proofs.of_protocol_models.SoeLaw.{answer_to_read, kept}
 use Rattle.few_replies.specs.Counts.{third, mails_between, mails_within, soe_octets}
 use Rattle.few_replies.proofs.Thirds.{fits, one_less}
 

@@ -2,30 +2,30 @@
 use Rattle.std.proofs.Common.{◌≡◌, inl, inr, ℕ, ◌+◌, ◌≤◌, Bool, false, List, [], ◌∷◌, ◌++◌, length, refl, sym, ap, ◌∙◌, subst, arith, length-append}
 use Rattle.std.proofs.lemmas.List.{length-map}
 use Rattle.std.proofs.lemmas.List.Sums.{sum_by-cons}
-use Rattle.exchange_model.specs.Exchange.{Exchange, IsLawful}
-use Rattle.exchange_model.specs.Rows.{told_all, heard_all}
-use Rattle.exchange_model.proofs.Settles.{told_all_last, heard_all_last}
-use Rattle.segment_model.specs.Slaves.{Processor, Ring}
-use Rattle.segment_model.specs.Record.{Frame}
-use Rattle.segment_model.specs.Seats.{Side, Seat, Planned, rows_of, newest, sides_of, ring_of}
-use Rattle.segment_model.specs.Laws.{EachSeat}
-use Rattle.state_model.specs.States.{Table}
-use Rattle.state_model.specs.Promises.{IsTable}
-use Rattle.state_model.specs.Stated.{Stated, IsStated, Act, acts, mails, with_states}
-use Rattle.state_model.proofs.StatedLaw.{stated_law}
-use Rattle.state_model.specs.Accounts.{Account}
-use Rattle.state_model.specs.Tasks.{TaskTurn, TaskSession, IsTaskPlan, IsTasked, mails_turn, happens, run, new_tasks}
-use Rattle.state_model.specs.Promise.{EachTask, services_in}
-use Rattle.state_model.proofs.Ghosts.{GhostRow, counting, starts_of, Untouched, Rowed}
-use Rattle.state_model.proofs.Newest.{Holds}
-use Rattle.state_model.proofs.Stately.{state_over}
-use Rattle.state_model.proofs.Walks.{EachOne}
+use Rattle.slave_parts.specs.of_exchange_model.Exchange.{Exchange, IsLawful}
+use Rattle.slave_parts.specs.of_exchange_model.Rows.{told_all, heard_all}
+use Rattle.slave_parts.proofs.of_exchange_model.Settles.{told_all_last, heard_all_last}
+use Rattle.slave_parts.specs.of_segment_model.Slaves.{Processor, Ring}
+use Rattle.slave_parts.specs.of_segment_model.Record.{Frame}
+use Rattle.slave_parts.specs.of_segment_model.Seats.{Side, Seat, Planned, rows_of, newest, sides_of, ring_of}
+use Rattle.slave_parts.specs.of_segment_model.Laws.{EachSeat}
+use Rattle.slave_parts.specs.of_state_model.States.{Table}
+use Rattle.slave_parts.specs.of_state_model.Promises.{IsTable}
+use Rattle.slave_parts.specs.of_state_model.Stated.{Stated, IsStated, Act, acts, mails, with_states}
+use Rattle.slave_parts.proofs.of_state_model.StatedLaw.{stated_law}
+use Rattle.slave_parts.specs.of_state_model.Accounts.{Account}
+use Rattle.slave_parts.specs.of_state_model.Tasks.{TaskTurn, TaskSession, IsTaskPlan, IsTasked, mails_turn, happens, run, new_tasks}
+use Rattle.slave_parts.specs.of_state_model.Promise.{EachTask, services_in}
+use Rattle.slave_parts.proofs.of_state_model.Ghosts.{GhostRow, counting, starts_of, Untouched, Rowed}
+use Rattle.slave_parts.proofs.of_state_model.Newest.{Holds}
+use Rattle.slave_parts.proofs.of_state_model.Stately.{state_over}
+use Rattle.slave_parts.proofs.of_state_model.Walks.{EachOne}
 use Rattle.few_replies.specs.RowCounts.{AreCounted, rows_mails, rows_count}
 use Rattle.few_replies.proofs.OfRows.{rows_within}
 use Rattle.few_replies.specs.Services.{service_count, services_count}
 use Rattle.few_replies.proofs.Seating.{Within, turn_within, new_within}
 use Rattle.few_replies.proofs.Both.{both_counted}
-use Rattle.state_model.proofs.Sessions.{Whole, holds, session_keeps}
+use Rattle.slave_parts.proofs.of_state_model.Sessions.{Whole, holds, session_keeps}
 
 mails_few : {M : Type 0} (as' : List (Act M)) → length (mails as') ≤ length as'
 mails_few [] = omega arith

@@ -1,14 +1,14 @@
 -- The steps of the mails that are passed on.
 use Rattle.std.proofs.Common.{◌≡◌, ℕ, suc, ◌+◌, ◌-◌, ◌*◌, ◌≤◌, ◌<◌, ◌==◌, ◌&&◌, not, nat_lt, Bool, true, false, Option, Some, None, List, [], ◌∷◌, ◌++◌, length, refl, ap, ◌∙◌, arith, lt-ltb, le-ltb, length-append, if◌then◌else◌}
-use Rattle.exchange_model.specs.Exchange.{Speech}
-use Rattle.segment_model.specs.Ends.{Passing, passing_after}
-use Rattle.segment_model.specs.Slaves.{Datagram, Found}
-use Rattle.segment_model.specs.Record.{News, is_for}
-use Rattle.segment_model.specs.Seats.{Side}
-use Rattle.state_model.specs.Stated.{Service}
-use Rattle.state_model.specs.Accounts.{Stage, Duty, Started, Account, Pick, Progress, access_done, account_by, account_met, account_back, account_next, account_begins, starts, state_begins, is_free, is_acknowledged}
-use Rattle.life_model.specs.Own.{own}
-use Rattle.life_model.specs.Lives.{Era, Life, Stand, Spot, Opening, life_next, life_back, life_lost, era_back, opening_back, clears, opens, steps_on, shows_clear, last_step, is_shown, reopens, reopens_at, reopening, opens_state, returns_to_init, passes, passing_begins, granted}
+use Rattle.slave_parts.specs.of_exchange_model.Exchange.{Speech}
+use Rattle.slave_parts.specs.of_segment_model.Ends.{Passing, passing_after}
+use Rattle.slave_parts.specs.of_segment_model.Slaves.{Datagram, Found}
+use Rattle.slave_parts.specs.of_segment_model.Record.{News, is_for}
+use Rattle.slave_parts.specs.of_segment_model.Seats.{Side}
+use Rattle.slave_parts.specs.of_state_model.Stated.{Service}
+use Rattle.slave_parts.specs.of_state_model.Accounts.{Stage, Duty, Started, Account, Pick, Progress, access_done, account_by, account_met, account_back, account_next, account_begins, starts, state_begins, is_free, is_acknowledged}
+use Rattle.slave_parts.specs.of_life_model.Own.{own}
+use Rattle.slave_parts.specs.of_life_model.Lives.{Era, Life, Stand, Spot, Opening, life_next, life_back, life_lost, era_back, opening_back, clears, opens, steps_on, shows_clear, last_step, is_shown, reopens, reopens_at, reopening, opens_state, returns_to_init, passes, passing_begins, granted}
 use Rattle.few_replies.specs.Steps.{steps_left, passed_one, passed_in, era_steps, eras_steps, life_steps, eras_passed, life_passed, IsUnderWay}
 
 -- a mail that was heard

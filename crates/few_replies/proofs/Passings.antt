@@ -1,11 +1,11 @@
 -- How far a mail that is passed on comes by the news of a frame that lets no reply of it be heard.
 use Rattle.std.proofs.Common.{◌≡◌, ◌&&◌, Bool, true, false, Option, Some, None, List, [], ◌∷◌, ◌++◌, map, refl, ap, ◌∙◌, if◌then◌else◌}
-use Rattle.segment_model.specs.Record.{News, mails_heard, without_empty}
-use Rattle.segment_model.specs.Ends.{Passing, passing_after}
-use Rattle.segment_model.proofs.Written.{mails_told, has_written}
-use Rattle.serving_model.specs.Tagged.{no_reply}
-use Rattle.exchange_model.specs.Exchange.{Speech}
-use Rattle.life_model.specs.Lives.{passes}
+use Rattle.slave_parts.specs.of_segment_model.Record.{News, mails_heard, without_empty}
+use Rattle.slave_parts.specs.of_segment_model.Ends.{Passing, passing_after}
+use Rattle.slave_parts.proofs.of_segment_model.Written.{mails_told, has_written}
+use Rattle.slave_parts.specs.of_serving_model.Tagged.{no_reply}
+use Rattle.slave_parts.specs.of_exchange_model.Exchange.{Speech}
+use Rattle.slave_parts.specs.of_life_model.Lives.{passes}
 use Rattle.few_replies.specs.Led.{counted_news}
 use Rattle.few_replies.proofs.Founds.{sees_empty, sees_late}
 

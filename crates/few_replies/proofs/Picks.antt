@@ -2,19 +2,19 @@
 use Rattle.std.proofs.Common.{◌≡◌, ◌⊎◌, inl, inr, ℕ, ◌+◌, ◌&&◌, Bool, true, false, not, is_none, is_some, Option, Some, None, option_map, List, [], ◌∷◌, ◌++◌, drop, length, refl, ap, sym, ◌∙◌, subst, arith, append-nil, length-append, if◌then◌else◌}
 use Rattle.std.specs.Prelude.{⊤, nat_lt}
 use Rattle.std.proofs.lemmas.Bool.Decides.{nat_tests}
-use Rattle.exchange_model.specs.Exchange.{Exchange, IsLawful, plain}
-use Rattle.exchange_model.specs.Rows.{Row, begun, row_told, left}
-use Rattle.link_model.specs.Mails.{LinkMail}
-use Rattle.link_model.specs.Agree.{Agrees}
-use Rattle.link_model.proofs.Law.{taken_of_held}
-use Rattle.segment_model.specs.Slaves.{Processor}
-use Rattle.segment_model.specs.Ends.{Passing}
-use Rattle.segment_model.specs.Seats.{Side, Seat, link_of, newest, is_none_left, side_begins, side_holds, next_mail, first_left}
-use Rattle.segment_model.proofs.Posts.{KeptOut, IsFresh}
-use Rattle.state_model.specs.Stated.{Service}
-use Rattle.state_model.specs.Accounts.{Account, Duty, Pick, mails_begin, account_begins, is_free, starts}
-use Rattle.life_model.specs.Lives.{granted, passing_begins}
-use Rattle.serving_model.specs.Tagged.{no_reply}
+use Rattle.slave_parts.specs.of_exchange_model.Exchange.{Exchange, IsLawful, plain}
+use Rattle.slave_parts.specs.of_exchange_model.Rows.{Row, begun, row_told, left}
+use Rattle.slave_parts.specs.of_link_model.Mails.{LinkMail}
+use Rattle.slave_parts.specs.of_link_model.Agree.{Agrees}
+use Rattle.slave_parts.proofs.of_link_model.Law.{taken_of_held}
+use Rattle.slave_parts.specs.of_segment_model.Slaves.{Processor}
+use Rattle.slave_parts.specs.of_segment_model.Ends.{Passing}
+use Rattle.slave_parts.specs.of_segment_model.Seats.{Side, Seat, link_of, newest, is_none_left, side_begins, side_holds, next_mail, first_left}
+use Rattle.slave_parts.proofs.of_segment_model.Posts.{KeptOut, IsFresh}
+use Rattle.slave_parts.specs.of_state_model.Stated.{Service}
+use Rattle.slave_parts.specs.of_state_model.Accounts.{Account, Duty, Pick, mails_begin, account_begins, is_free, starts}
+use Rattle.slave_parts.specs.of_life_model.Lives.{granted, passing_begins}
+use Rattle.slave_parts.specs.of_serving_model.Tagged.{no_reply}
 use Rattle.few_replies.proofs.Awaits.{StageOf}
 use Rattle.few_replies.proofs.Steps.{StageBy, RowStage, NowStage}
 

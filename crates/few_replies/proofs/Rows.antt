@@ -2,17 +2,17 @@
 use Rattle.std.proofs.Common.{◌≡◌, ℕ, ◌==◌, ◌&&◌, Bool, true, false, Option, Some, None, option_map, List, [], ◌∷◌, ◌++◌, length, refl, sym, ap, ◌∙◌, subst, arith, append-nil, if◌then◌else◌}
 use Rattle.std.specs.Prelude.{nat_lt}
 use Rattle.std.proofs.lemmas.Bool.Decides.{nat_tests}
-use Rattle.exchange_model.specs.Exchange.{Speech}
-use Rattle.exchange_model.specs.Rows.{Row, begun, row_told, row_heard}
-use Rattle.life_model.specs.Lives.{Life, Spot, Stand, Opening, granted, passes, passing_begins, life_next, life_back, life_lost, era_back, opening_back, clears, opens, steps_on, shows_clear, last_step, is_shown, reopens, reopens_at, reopening, opens_state, returns_to_init}
-use Rattle.life_model.specs.Own.{own}
-use Rattle.link_model.specs.Frames.{all_accepted}
-use Rattle.segment_model.specs.Ends.{Passing}
-use Rattle.segment_model.specs.Record.{News, mails_heard}
-use Rattle.segment_model.specs.Seats.{Side, side_begins, side_holds, next_mail}
-use Rattle.segment_model.specs.Slaves.{Datagram, Found, grams}
-use Rattle.state_model.specs.Stated.{Service}
-use Rattle.state_model.specs.Accounts.{Account, Duty, Stage, Pick, account_begins, is_free, mails_begin, starts}
+use Rattle.slave_parts.specs.of_exchange_model.Exchange.{Speech}
+use Rattle.slave_parts.specs.of_exchange_model.Rows.{Row, begun, row_told, row_heard}
+use Rattle.slave_parts.specs.of_life_model.Lives.{Life, Spot, Stand, Opening, granted, passes, passing_begins, life_next, life_back, life_lost, era_back, opening_back, clears, opens, steps_on, shows_clear, last_step, is_shown, reopens, reopens_at, reopening, opens_state, returns_to_init}
+use Rattle.slave_parts.specs.of_life_model.Own.{own}
+use Rattle.slave_parts.specs.of_link_model.Frames.{all_accepted}
+use Rattle.slave_parts.specs.of_segment_model.Ends.{Passing}
+use Rattle.slave_parts.specs.of_segment_model.Record.{News, mails_heard}
+use Rattle.slave_parts.specs.of_segment_model.Seats.{Side, side_begins, side_holds, next_mail}
+use Rattle.slave_parts.specs.of_segment_model.Slaves.{Datagram, Found, grams}
+use Rattle.slave_parts.specs.of_state_model.Stated.{Service}
+use Rattle.slave_parts.specs.of_state_model.Accounts.{Account, Duty, Stage, Pick, account_begins, is_free, mails_begin, starts}
 use Rattle.few_replies.specs.Heard.{HeardBy, IsPassedBy, RowPasses, EraPasses}
 use Rattle.few_replies.proofs.Heard.{After, after, goes_on}
 

@@ -1,15 +1,15 @@
 -- The rows of a seat have no more mails than were held for it and accepted from it.
 use Rattle.std.proofs.Common.{◌≡◌, ℕ, zero, suc, ◌+◌, ◌≤◌, Bool, true, false, Option, Some, None, List, [], ◌∷◌, ◌++◌, length, refl, ap, ◌∙◌, arith, length-append, append-nil}
 use Rattle.std.specs.Prelude.{option_map, ◌&&◌, if◌then◌else◌}
-use Rattle.exchange_model.specs.Exchange.{Exchange, Speech}
-use Rattle.exchange_model.specs.Rows.{Row, begun, row_heard, row_told, left, told_all, heard_all}
-use Rattle.exchange_model.proofs.Settles.{told_all_last, heard_all_last}
-use Rattle.link_model.specs.Mails.{LinkMail}
-use Rattle.link_model.specs.Frames.{all_accepted}
-use Rattle.link_model.specs.Segment.{RingFate}
-use Rattle.segment_model.specs.Slaves.{Processor, Datagram, grams, frame_after, ring_back}
-use Rattle.segment_model.specs.Seats.{Side, Seat, Choice, Turn, Session, Planned, rows_of, newest, is_over, side_begins, next_mail, first_left, side_holds, seat_next, seats_next, seat_back, seats_back, seats_lost, seats_after, seat_steps_at, seats_step, ring_of, new_seats, happens}
-use Rattle.segment_model.specs.Laws.{EachSeat}
+use Rattle.slave_parts.specs.of_exchange_model.Exchange.{Exchange, Speech}
+use Rattle.slave_parts.specs.of_exchange_model.Rows.{Row, begun, row_heard, row_told, left, told_all, heard_all}
+use Rattle.slave_parts.proofs.of_exchange_model.Settles.{told_all_last, heard_all_last}
+use Rattle.slave_parts.specs.of_link_model.Mails.{LinkMail}
+use Rattle.slave_parts.specs.of_link_model.Frames.{all_accepted}
+use Rattle.slave_parts.specs.of_link_model.Segment.{RingFate}
+use Rattle.slave_parts.specs.of_segment_model.Slaves.{Processor, Datagram, grams, frame_after, ring_back}
+use Rattle.slave_parts.specs.of_segment_model.Seats.{Side, Seat, Choice, Turn, Session, Planned, rows_of, newest, is_over, side_begins, next_mail, first_left, side_holds, seat_next, seats_next, seat_back, seats_back, seats_lost, seats_after, seat_steps_at, seats_step, ring_of, new_seats, happens}
+use Rattle.slave_parts.specs.of_segment_model.Laws.{EachSeat}
 use Rattle.few_replies.specs.RowCounts.{rows_mails}
 
 -- the mails of the newest row, and of all

@@ -1,24 +1,24 @@
 -- Neither a mail nor a service changes the shape of its slave, whatever transfers are unfinished.
 use Rattle.std.proofs.Common.{◌≡◌, ℕ, Bool, true, false, List, Option, None, Some, Result, Ok, Err, refl, sym, ap, ◌∙◌, if◌then◌else◌, []}
-use Rattle.mailbox_mail.specs.declared.mail.MailFault.TheVariants.{Short, LengthPastArea, UnknownKind}
-use Rattle.mailbox_mail.specs.declared.mail.Kind.{Kind}
-use Rattle.link_mails.specs.Body.{Body}
-use Rattle.object_dictionary.specs.Dictionary.{Table}
-use Rattle.file_store.specs.Files as Store
-use Rattle.idn_table.specs.Idns as Idns
-use Rattle.exchange_model.specs.Refusing.{gated}
-use Rattle.protocol_models.specs.CoeMails as CoeMails
-use Rattle.protocol_models.specs.CoeOctets as CoeOctets
+use Rattle.slave_parts.specs.of_mailbox_mail.declared.mail.MailFault.TheVariants.{Short, LengthPastArea, UnknownKind}
+use Rattle.slave_parts.specs.of_mailbox_mail.declared.mail.Kind.{Kind}
+use Rattle.slave_parts.specs.of_link_mails.Body.{Body}
+use Rattle.slave_parts.specs.of_object_dictionary.Dictionary.{Table}
+use Rattle.slave_parts.specs.of_file_store.Files as Store
+use Rattle.slave_parts.specs.of_idn_table.Idns as Idns
+use Rattle.slave_parts.specs.of_exchange_model.Refusing.{gated}
+use Rattle.slave_parts.specs.of_protocol_models.CoeMails as CoeMails
+use Rattle.slave_parts.specs.of_protocol_models.CoeOctets as CoeOctets
 use Rattle.slave_parts.specs.of_coe_server.ObjectTables.{stores}
-use Rattle.protocol_models.specs.FoeMails as FoeMails
-use Rattle.protocol_models.specs.FoeOctets as FoeOctets
-use Rattle.protocol_models.specs.SoeMails as SoeMails
-use Rattle.protocol_models.specs.SoeOctets as SoeOctets
-use Rattle.protocol_models.specs.EoeMails as EoeMails
-use Rattle.protocol_models.specs.EoeOctets as EoeOctets
-use Rattle.protocol_models.specs.Echo.{echo_of}
-use Rattle.protocol_models.specs.Network.{Station}
-use Rattle.protocol_models.specs.EoeServer.{sends}
+use Rattle.slave_parts.specs.of_protocol_models.FoeMails as FoeMails
+use Rattle.slave_parts.specs.of_protocol_models.FoeOctets as FoeOctets
+use Rattle.slave_parts.specs.of_protocol_models.SoeMails as SoeMails
+use Rattle.slave_parts.specs.of_protocol_models.SoeOctets as SoeOctets
+use Rattle.slave_parts.specs.of_protocol_models.EoeMails as EoeMails
+use Rattle.slave_parts.specs.of_protocol_models.EoeOctets as EoeOctets
+use Rattle.slave_parts.specs.of_protocol_models.Echo.{echo_of}
+use Rattle.slave_parts.specs.of_protocol_models.Network.{Station}
+use Rattle.slave_parts.specs.of_protocol_models.EoeServer.{sends}
 use Rattle.slave_parts.specs.SoeServed.{met}
 use Rattle.slave_parts.specs.Whole.{gated_whole}
 use Rattle.slave_parts.specs.of_slave_model.Application.{with_objects, stored, station_tables, station_files, written, station_elements, network}

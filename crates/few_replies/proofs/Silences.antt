@@ -1,13 +1,13 @@
 -- A mail that is passed on and foreseen as answered is always answered, by what is meant; so one that is over without a reply had none.
 use Rattle.std.proofs.Common.{◌≡◌, Bool, true, false, not, cond, Option, Some, None, List, [], ◌∷◌, ◌++◌, map, drop, refl, ap, sym, ◌∙◌, subst, append-nil, if◌then◌else◌}
-use Rattle.exchange_model.specs.Exchange.{Exchange, given, plain, emitted}
-use Rattle.exchange_model.specs.Rows.{Row, IsWhole}
-use Rattle.segment_model.specs.Slaves.{Registers, Processor, Slave}
-use Rattle.segment_model.specs.Record.{Frame}
-use Rattle.segment_model.specs.Ends.{Passing}
-use Rattle.life_model.specs.Lives.{Spot, Era}
-use Rattle.serving_model.specs.Tagged.{IsServed, Meant, Tagged, Asked, Rowed, untag, is_own, own_gift, no_reply, last_gifts, answer_gifts, ideal, tagged}
-use Rattle.serving_model.proofs.TaggedLaw.{tagged_lawful}
+use Rattle.slave_parts.specs.of_exchange_model.Exchange.{Exchange, given, plain, emitted}
+use Rattle.slave_parts.specs.of_exchange_model.Rows.{Row, IsWhole}
+use Rattle.slave_parts.specs.of_segment_model.Slaves.{Registers, Processor, Slave}
+use Rattle.slave_parts.specs.of_segment_model.Record.{Frame}
+use Rattle.slave_parts.specs.of_segment_model.Ends.{Passing}
+use Rattle.slave_parts.specs.of_life_model.Lives.{Spot, Era}
+use Rattle.slave_parts.specs.of_serving_model.Tagged.{IsServed, Meant, Tagged, Asked, Rowed, untag, is_own, own_gift, no_reply, last_gifts, answer_gifts, ideal, tagged}
+use Rattle.slave_parts.proofs.of_serving_model.TaggedLaw.{tagged_lawful}
 use Rattle.few_replies.specs.Led.{RepliesFirst, IsAnswered, AllHeard, NowHeard, HasHeard, IsLed}
 use Rattle.few_replies.specs.Silent.{is_passed, IsForeseenRight, HadNone, AllHadNone, NowHadNone, EachHadNone, HeardAll}
 use Rattle.few_replies.proofs.Turns

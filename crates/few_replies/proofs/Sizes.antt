@@ -6,24 +6,24 @@ use Rattle.std.specs.Map.{lookup}
 use Rattle.std.proofs.lemmas.List.Sums.{sum_by-cons}
 use Rattle.byteorder.specs.Endian.{little_bytes}
 use Rattle.byteorder.specs.Numbers.{length-bytes_low_first}
-use Rattle.block_pool.specs.Region.{blocks_for}
-use Rattle.object_dictionary.specs.declared.entry.EntrySpec.{EntrySpec}
-use Rattle.object_dictionary.specs.declared.object.Object.{Object}
-use Rattle.object_dictionary.specs.Entries.{is_entry, unless, read_refusal}
-use Rattle.object_dictionary.specs.Dictionary.{Table, object_of, is_count, entry_place, entry_at, upload_found, upload_object, read_from, upload}
-use Rattle.object_dictionary.specs.Whole.{sizes, values_in, count_octets, read_whole_refusal, upload_whole, upload_all}
-use Rattle.object_dictionary.specs.Information.{is_in_list, list_octets, counts_octets, list_info, described, entry_octets, found_info, entry_described}
-use Rattle.object_dictionary.specs.Sound.{is_table}
-use Rattle.object_dictionary.proofs.Tests.{both, all_get}
-use Rattle.object_dictionary.proofs.Kept.{ObjectIs, found_is, small_of, named_of, table_is}
-use Rattle.file_store.specs.Files as Store
-use Rattle.idn_table.specs.declared.element.Element.{Element}
-use Rattle.idn_table.specs.declared.element.Element.TheVariants.{State, Name, Attribute, Unit as UnitOf, Minimum, Maximum, Value}
-use Rattle.idn_table.specs.Idns as Idns
-use Rattle.protocol_models.specs.CoeModel.{value_length}
-use Rattle.protocol_models.specs.Tables.{Target, Ask, list, object, entry}
+use Rattle.slave_parts.specs.of_block_pool.Region.{blocks_for}
+use Rattle.slave_parts.specs.of_object_dictionary.declared.entry.EntrySpec.{EntrySpec}
+use Rattle.slave_parts.specs.of_object_dictionary.declared.object.Object.{Object}
+use Rattle.slave_parts.specs.of_object_dictionary.Entries.{is_entry, unless, read_refusal}
+use Rattle.slave_parts.specs.of_object_dictionary.Dictionary.{Table, object_of, is_count, entry_place, entry_at, upload_found, upload_object, read_from, upload}
+use Rattle.slave_parts.specs.of_object_dictionary.Whole.{sizes, values_in, count_octets, read_whole_refusal, upload_whole, upload_all}
+use Rattle.slave_parts.specs.of_object_dictionary.Information.{is_in_list, list_octets, counts_octets, list_info, described, entry_octets, found_info, entry_described}
+use Rattle.slave_parts.specs.of_object_dictionary.Sound.{is_table}
+use Rattle.slave_parts.proofs.of_object_dictionary.Tests.{both, all_get}
+use Rattle.slave_parts.proofs.of_object_dictionary.Kept.{ObjectIs, found_is, small_of, named_of, table_is}
+use Rattle.slave_parts.specs.of_file_store.Files as Store
+use Rattle.slave_parts.specs.of_idn_table.declared.element.Element.{Element}
+use Rattle.slave_parts.specs.of_idn_table.declared.element.Element.TheVariants.{State, Name, Attribute, Unit as UnitOf, Minimum, Maximum, Value}
+use Rattle.slave_parts.specs.of_idn_table.Idns as Idns
+use Rattle.slave_parts.specs.of_protocol_models.CoeModel.{value_length}
+use Rattle.slave_parts.specs.of_protocol_models.Tables.{Target, Ask, list, object, entry}
 use Rattle.slave_parts.specs.of_coe_server.ObjectTables.{reads, tells}
-use Rattle.protocol_models.specs.FoeModel.{read_length}
+use Rattle.slave_parts.specs.of_protocol_models.FoeModel.{read_length}
 use Rattle.few_replies.specs.Shapes.{mosts, object_size, found_size, entry_size, ask_octets}
 
 -- ---- a value of a dictionary

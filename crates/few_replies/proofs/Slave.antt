@@ -2,9 +2,9 @@
 use Rattle.std.proofs.Common.{◌≡◌, ℕ, zero, suc, ◌-◌, ◌*◌, ◌/◌, ◌≤◌, ◌<◌, not, Bool, true, false, List, length, Result, Ok, Err, refl, ap, ◌∙◌, arith}
 use Rattle.std.proofs.lemmas.Nat.{le-div}
 use Rattle.std.proofs.Math.Nat.{div-mul-le_self}
-use Rattle.protocol_models.specs.CoeMeaning.{Service, download, upload, information}
-use Rattle.protocol_models.specs.CoeModel.{value_length}
-use Rattle.protocol_models.specs.CoeServer.{Transfer}
+use Rattle.slave_parts.specs.of_protocol_models.CoeMeaning.{Service, download, upload, information}
+use Rattle.slave_parts.specs.of_protocol_models.CoeModel.{value_length}
+use Rattle.slave_parts.specs.of_protocol_models.CoeServer.{Transfer}
 use Rattle.slave_parts.specs.CoeServed.{transfer_behind}
 use Rattle.slave_parts.specs.FoeServed.{has_its_room}
 use Rattle.slave_parts.specs.Whole.{gated_whole}

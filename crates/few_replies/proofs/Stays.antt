@@ -2,27 +2,27 @@
 use Rattle.std.proofs.Common.{◌≡◌, ℕ, zero, suc, ◌-◌, ◌&&◌, nat_le, Bool, true, false, cond, List, [], ◌∷◌, length, drop, Option, Some, None, Result, Ok, Err, refl, sym, ap, ap₂, ◌∙◌, slice_get, slice_set, if◌then◌else◌}
 use Rattle.std.specs.Prelude.{unwrap_or, option_map, find, nat_eq}
 use Rattle.std.specs.Map.{lookup, set_value}
-use Rattle.object_dictionary.specs.declared.entry.EntrySpec.{EntrySpec}
-use Rattle.object_dictionary.specs.declared.object.Object.{Object}
-use Rattle.object_dictionary.specs.Entries.{download_entry}
-use Rattle.object_dictionary.specs.Dictionary.{Table, object_of, is_count, entry_place, entry_at, with_entries, download_found, download_object, changed, download}
-use Rattle.object_dictionary.specs.Whole.{with_values, ahead, whole_refusal, download_whole, download_all}
-use Rattle.object_dictionary.proofs.Kept.{unless_ok, entry_kept, map_ok}
-use Rattle.file_store.specs.Files as Store
-use Rattle.idn_table.specs.Idns as Idns
-use Rattle.eoe.specs.Address.{is_block}
-use Rattle.mailbox_mail.specs.declared.outcome.ReplyKind.{ReplyKind}
-use Rattle.protocol_models.specs.Tables as Tables
-use Rattle.protocol_models.specs.CoeMeaning as CoeMeaning
-use Rattle.protocol_models.specs.CoeServer.{Emission, emergency, packet, emission_of, issued}
+use Rattle.slave_parts.specs.of_object_dictionary.declared.entry.EntrySpec.{EntrySpec}
+use Rattle.slave_parts.specs.of_object_dictionary.declared.object.Object.{Object}
+use Rattle.slave_parts.specs.of_object_dictionary.Entries.{download_entry}
+use Rattle.slave_parts.specs.of_object_dictionary.Dictionary.{Table, object_of, is_count, entry_place, entry_at, with_entries, download_found, download_object, changed, download}
+use Rattle.slave_parts.specs.of_object_dictionary.Whole.{with_values, ahead, whole_refusal, download_whole, download_all}
+use Rattle.slave_parts.proofs.of_object_dictionary.Kept.{unless_ok, entry_kept, map_ok}
+use Rattle.slave_parts.specs.of_file_store.Files as Store
+use Rattle.slave_parts.specs.of_idn_table.Idns as Idns
+use Rattle.slave_parts.specs.of_eoe.Address.{is_block}
+use Rattle.slave_parts.specs.of_mailbox_mail.declared.outcome.ReplyKind.{ReplyKind}
+use Rattle.slave_parts.specs.of_protocol_models.Tables as Tables
+use Rattle.slave_parts.specs.of_protocol_models.CoeMeaning as CoeMeaning
+use Rattle.slave_parts.specs.of_protocol_models.CoeServer.{Emission, emergency, packet, emission_of, issued}
 use Rattle.slave_parts.specs.of_coe_server.ObjectTables.{stores}
-use Rattle.protocol_models.specs.FoeMeaning as FoeMeaning
-use Rattle.protocol_models.specs.SoeClient as SoeClient
-use Rattle.protocol_models.specs.EoeClient as EoeClient
-use Rattle.protocol_models.specs.Echo.{echo_of}
-use Rattle.protocol_models.specs.Network.{Station}
-use Rattle.protocol_models.specs.EoeServer.{sends}
-use Rattle.exchange_model.specs.Refusing.{gated}
+use Rattle.slave_parts.specs.of_protocol_models.FoeMeaning as FoeMeaning
+use Rattle.slave_parts.specs.of_protocol_models.SoeClient as SoeClient
+use Rattle.slave_parts.specs.of_protocol_models.EoeClient as EoeClient
+use Rattle.slave_parts.specs.of_protocol_models.Echo.{echo_of}
+use Rattle.slave_parts.specs.of_protocol_models.Network.{Station}
+use Rattle.slave_parts.specs.of_protocol_models.EoeServer.{sends}
+use Rattle.slave_parts.specs.of_exchange_model.Refusing.{gated}
 use Rattle.slave_parts.specs.of_slave_model.Application.{stored, written, station_tables, station_files, station_elements, network}
 use Rattle.slave_parts.specs.of_slave_model.Product.{served, refusal, side}
 use Rattle.slave_parts.specs.of_slave_model.Profile.{Protocol, Profile, serves}

@@ -1,18 +1,18 @@
 -- What the steps of the slave's processor leave of a mail that is awaited.
 use Rattle.std.proofs.Common.{◌≡◌, ◌⊎◌, inl, inr, ℕ, zero, suc, Bool, true, false, Option, Some, None, List, [], ◌∷◌, length, refl, ap, subst, arith, if◌then◌else◌}
 use Rattle.std.specs.Prelude.{⊤}
-use Rattle.exchange_model.specs.Exchange.{Exchange, IsLawful}
-use Rattle.exchange_model.specs.Rows.{Row}
-use Rattle.link_model.specs.Master.{InState}
-use Rattle.link_model.specs.Agree.{Agrees}
-use Rattle.link_model.proofs.Gains.{processor_steps}
-use Rattle.segment_model.specs.Slaves.{Serving, serving, Processor, ring_steps}
-use Rattle.segment_model.specs.Record.{Frame}
-use Rattle.segment_model.specs.Ends.{Passing}
-use Rattle.segment_model.specs.Seats.{Seat, link_of, seat_steps}
-use Rattle.segment_model.proofs.Sounds.{step_agrees}
-use Rattle.segment_model.proofs.Kept.{Follows, step_records}
-use Rattle.serving_model.specs.Tagged.{no_reply}
+use Rattle.slave_parts.specs.of_exchange_model.Exchange.{Exchange, IsLawful}
+use Rattle.slave_parts.specs.of_exchange_model.Rows.{Row}
+use Rattle.slave_parts.specs.of_link_model.Master.{InState}
+use Rattle.slave_parts.specs.of_link_model.Agree.{Agrees}
+use Rattle.slave_parts.proofs.of_link_model.Gains.{processor_steps}
+use Rattle.slave_parts.specs.of_segment_model.Slaves.{Serving, serving, Processor, ring_steps}
+use Rattle.slave_parts.specs.of_segment_model.Record.{Frame}
+use Rattle.slave_parts.specs.of_segment_model.Ends.{Passing}
+use Rattle.slave_parts.specs.of_segment_model.Seats.{Seat, link_of, seat_steps}
+use Rattle.slave_parts.proofs.of_segment_model.Sounds.{step_agrees}
+use Rattle.slave_parts.proofs.of_segment_model.Kept.{Follows, step_records}
+use Rattle.slave_parts.specs.of_serving_model.Tagged.{no_reply}
 use Rattle.few_replies.specs.Led.{IsAnswered, has_step}
 use Rattle.few_replies.proofs.Withdrawn.{Shown, Hidden, IsHidden}
 use Rattle.few_replies.proofs.Awaits.{StageOf, step_taken, step_awaits}

@@ -1,6 +1,6 @@
 -- What a datagram that is heard costs, and what the bound counts for it.
 use Rattle.std.proofs.Common.{ℕ, zero, suc, ◌+◌, ◌*◌, ◌≤◌, arith}
-use Rattle.life_model.specs.Tally.{quiet}
+use Rattle.slave_parts.specs.of_life_model.Tally.{quiet}
 
 pub quiet_few : (slaves pace : ℕ) → 1 ≤ pace → suc (quiet slaves pace) ≤ 4 * (pace * (slaves + 1))
 quiet_few slaves zero some = omega (arith, some)

@@ -3,8 +3,8 @@ use Rattle.std.proofs.Common.{◌≡◌, ℕ, suc, ◌+◌, ◌-◌, ◌*◌, �
 use Rattle.std.proofs.lemmas.Bool.{cases_lt, lt-leb}
 use Rattle.std.proofs.lemmas.Nat.{le-div}
 use Rattle.std.proofs.Math.Nat.{div-mul-le_self}
-use Rattle.exchange_model.specs.Areas.{Areas, AreMailboxes}
-use Rattle.exchange_model.specs.Exchange.{plain, emitted}
+use Rattle.slave_parts.specs.of_exchange_model.Areas.{Areas, AreMailboxes}
+use Rattle.slave_parts.specs.of_exchange_model.Exchange.{plain, emitted}
 use Rattle.few_replies.specs.Counts.{third}
 
 -- what a third is less than

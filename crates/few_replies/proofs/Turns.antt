@@ -1,30 +1,30 @@
 -- Turn by turn: no mail that is always answered is over before a reply of it was heard.
 use Rattle.std.proofs.Common.{◌≡◌, ◌⊎◌, inl, inr, ℕ, zero, suc, ◌-◌, ◌<◌, ◌&&◌, Bool, true, false, not, Option, Some, None, option_map, List, [], ◌∷◌, ◌++◌, map, take, drop, length, refl, ap, sym, ◌∙◌, subst, arith, append-nil, length-append, if◌then◌else◌}
 use Rattle.std.specs.Prelude.{replicate}
-use Rattle.exchange_model.specs.Exchange.{Exchange, IsLawful}
-use Rattle.exchange_model.specs.Rows.{Row, begun, row_heard}
-use Rattle.link_model.specs.Link.{Halves}
-use Rattle.link_model.specs.Frames.{all_accepted}
-use Rattle.link_model.specs.Segment.{RingFate}
-use Rattle.segment_model.specs.Slaves.{Registers, Processor, Slave, Datagram, Access, Address, grams, slave_after, frame_after, Ring, first_meet, ring_after, ring_back, ring_steps}
-use Rattle.segment_model.specs.Record as Rec
-use Rattle.segment_model.specs.Record.{Frame, News, is_for, all_told, told_behind, frame_news, back_news, did_read}
-use Rattle.segment_model.specs.Ends.{Passing}
-use Rattle.segment_model.specs.Seats.{Side, Seat, Choice, newest, side_begins, side_next, side_back, side_lost, seat_next, seat_back, seats_after, writes, IsOpening}
-use Rattle.segment_model.proofs.Sounds.{began_halves}
-use Rattle.segment_model.proofs.Answers.{kept_of}
-use Rattle.segment_model.proofs.Written.{frame_tells, losts_out}
-use Rattle.segment_model.proofs.Posts.{KeptOut, writes-all_back}
-use Rattle.segment_model.proofs.Handed.{KeptSide, next_out, back_out, lost_out}
-use Rattle.segment_model.proofs.Kept.{Follows, nexts_follow, afters_follow, new_follows}
-use Rattle.segment_model.proofs.Hands.{new_out}
-use Rattle.state_model.specs.Accounts.{Pick, IsServed, IsServed.nothing, IsServed.other, IsServed.quiet, IsServed.own, duty_access, mails_choice}
-use Rattle.life_model.specs.Own as Own
-use Rattle.life_model.specs.Own.{own_fate, own_frame, blank}
-use Rattle.life_model.specs.Lives.{Spot, Era, ReadsFull, AsksOpen, granted, passes, new_era, era_next}
-use Rattle.life_model.specs.Eras.{era_frames, planned, opened_slave}
-use Rattle.life_model.proofs.Eras.{frames_push}
-use Rattle.serving_model.specs.Tagged.{no_reply}
+use Rattle.slave_parts.specs.of_exchange_model.Exchange.{Exchange, IsLawful}
+use Rattle.slave_parts.specs.of_exchange_model.Rows.{Row, begun, row_heard}
+use Rattle.slave_parts.specs.of_link_model.Link.{Halves}
+use Rattle.slave_parts.specs.of_link_model.Frames.{all_accepted}
+use Rattle.slave_parts.specs.of_link_model.Segment.{RingFate}
+use Rattle.slave_parts.specs.of_segment_model.Slaves.{Registers, Processor, Slave, Datagram, Access, Address, grams, slave_after, frame_after, Ring, first_meet, ring_after, ring_back, ring_steps}
+use Rattle.slave_parts.specs.of_segment_model.Record as Rec
+use Rattle.slave_parts.specs.of_segment_model.Record.{Frame, News, is_for, all_told, told_behind, frame_news, back_news, did_read}
+use Rattle.slave_parts.specs.of_segment_model.Ends.{Passing}
+use Rattle.slave_parts.specs.of_segment_model.Seats.{Side, Seat, Choice, newest, side_begins, side_next, side_back, side_lost, seat_next, seat_back, seats_after, writes, IsOpening}
+use Rattle.slave_parts.proofs.of_segment_model.Sounds.{began_halves}
+use Rattle.slave_parts.proofs.of_segment_model.Answers.{kept_of}
+use Rattle.slave_parts.proofs.of_segment_model.Written.{frame_tells, losts_out}
+use Rattle.slave_parts.proofs.of_segment_model.Posts.{KeptOut, writes-all_back}
+use Rattle.slave_parts.proofs.of_segment_model.Handed.{KeptSide, next_out, back_out, lost_out}
+use Rattle.slave_parts.proofs.of_segment_model.Kept.{Follows, nexts_follow, afters_follow, new_follows}
+use Rattle.slave_parts.proofs.of_segment_model.Hands.{new_out}
+use Rattle.slave_parts.specs.of_state_model.Accounts.{Pick, IsServed, IsServed.nothing, IsServed.other, IsServed.quiet, IsServed.own, duty_access, mails_choice}
+use Rattle.slave_parts.specs.of_life_model.Own as Own
+use Rattle.slave_parts.specs.of_life_model.Own.{own_fate, own_frame, blank}
+use Rattle.slave_parts.specs.of_life_model.Lives.{Spot, Era, ReadsFull, AsksOpen, granted, passes, new_era, era_next}
+use Rattle.slave_parts.specs.of_life_model.Eras.{era_frames, planned, opened_slave}
+use Rattle.slave_parts.proofs.of_life_model.Eras.{frames_push}
+use Rattle.slave_parts.specs.of_serving_model.Tagged.{no_reply}
 use Rattle.few_replies.specs.Led.{AllHeard, NowHeard, NoneUnheard, IsLed, EraTurn, frame_in, turn_after, has_step, counted_news, counts_behind, AreSingle}
 use Rattle.few_replies.proofs.Founds.{AllFindNone}
 use Rattle.few_replies.proofs.Passings.{skips, sends, counted_told}

@@ -1,12 +1,12 @@
 -- What the datagrams of a frame to one station do to the inward half and to mailbox 1: nothing, or what the half's one datagram does.
 use Rattle.std.proofs.Common.{◌≡◌, ◌⊎◌, inl, inr, ◌==◌, ◌&&◌, ◌||◌, Bool, true, false, not, is_none, is_some, Option, Some, None, List, [], ◌∷◌, refl, ap, ap₂, sym, ◌∙◌}
-use Rattle.link_model.specs.Mails.{LinkMail}
-use Rattle.link_model.specs.Master.{InHalf, InState, in_lost}
-use Rattle.link_model.specs.Slave.{InSide, Node}
-use Rattle.link_model.specs.Link.{Halves, Fate, in_half_after, in_met}
-use Rattle.link_model.specs.Frames.{Ask, Gram, IsSent, IsSent.nothing, IsSent.other, IsSent.write, IsSent.inward, in_ask, node_meets, gram_meets, write_done, read_done, halves_answered, halves_lost}
-use Rattle.link_model.proofs.Own.{node_all, grams_all, halves_all, lost_all}
-use Rattle.segment_model.specs.Record.{is_read}
+use Rattle.slave_parts.specs.of_link_model.Mails.{LinkMail}
+use Rattle.slave_parts.specs.of_link_model.Master.{InHalf, InState, in_lost}
+use Rattle.slave_parts.specs.of_link_model.Slave.{InSide, Node}
+use Rattle.slave_parts.specs.of_link_model.Link.{Halves, Fate, in_half_after, in_met}
+use Rattle.slave_parts.specs.of_link_model.Frames.{Ask, Gram, IsSent, IsSent.nothing, IsSent.other, IsSent.write, IsSent.inward, in_ask, node_meets, gram_meets, write_done, read_done, halves_answered, halves_lost}
+use Rattle.slave_parts.proofs.of_link_model.Own.{node_all, grams_all, halves_all, lost_all}
+use Rattle.slave_parts.specs.of_segment_model.Record.{is_read}
 
 -- a read of mailbox 1 found it empty, or was done, among the datagrams to one station
 abbrev pub found_empty : {M : Type 0} → List (Gram M) → Bool

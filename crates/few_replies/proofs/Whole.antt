@@ -1,11 +1,11 @@
 -- What services count at a slave of a plan with whatever transfers unfinished, and what it tells.
 use Rattle.std.proofs.Common.{◌≡◌, ◌≤◌, true, sym, ap, ◌∙◌, subst, arith, refl}
-use Rattle.object_dictionary.specs.Dictionary.{Table}
-use Rattle.object_dictionary.specs.Sound.{is_table}
-use Rattle.protocol_models.specs.CoeModel.{value_length}
-use Rattle.protocol_models.specs.Tables.{Ask, list, object, entry}
+use Rattle.slave_parts.specs.of_object_dictionary.Dictionary.{Table}
+use Rattle.slave_parts.specs.of_object_dictionary.Sound.{is_table}
+use Rattle.slave_parts.specs.of_protocol_models.CoeModel.{value_length}
+use Rattle.slave_parts.specs.of_protocol_models.Tables.{Ask, list, object, entry}
 use Rattle.slave_parts.specs.of_coe_server.ObjectTables.{tells}
-use Rattle.exchange_model.specs.Exchange.{IsLawful}
+use Rattle.slave_parts.specs.of_exchange_model.Exchange.{IsLawful}
 use Rattle.few_replies.specs.Most.{Tells}
 use Rattle.slave_parts.specs.FoeServed.{has_its_room}
 use Rattle.few_replies.specs.RowCounts.{AreCounted}
@@ -14,7 +14,7 @@ use Rattle.few_replies.proofs.Calms.{calm_lawful, calm_counted}
 use Rattle.few_replies.specs.Shapes.{ask_octets, shape_at, shape_most}
 use Rattle.few_replies.proofs.OfShape.{counted}
 use Rattle.few_replies.proofs.Sizes.{told_within, element_within}
-use Rattle.serving_model.specs.Tagged.{ideal}
+use Rattle.slave_parts.specs.of_serving_model.Tagged.{ideal}
 use Rattle.few_replies.specs.Packets.{is_calm, is_fair}
 use Rattle.few_replies.proofs.Slave.{calm_slave, smaller}
 use Rattle.slave_parts.specs.of_slave_model.Application.{ArePartsLawful, station_valid, station_files}
@@ -24,7 +24,7 @@ use Rattle.slave_parts.specs.Parts.{Server, parts}
 use Rattle.slave_parts.specs.Served.{product_whole, AreFilesServed}
 use Rattle.slave_parts.proofs.Sides.{side_speech}
 use Rattle.slave_parts.proofs.SlaveLaw.{product_served}
-use Rattle.state_model.specs.Families.{InState}
+use Rattle.slave_parts.specs.of_state_model.Families.{InState}
 use Rattle.few_replies.proofs.Alone.{alone, product_many}
 use Rattle.few_replies.proofs.Shaped.{mail_stays, exec_stays}
 

@@ -1,23 +1,23 @@
 -- The newest row, where it is over, is whole.
 use Rattle.std.proofs.Common.{◌≡◌, inl, inr, ℕ, Bool, true, Some, List, [], ◌∷◌, ◌++◌, ap, sym, ◌∙◌, subst}
-use Rattle.exchange_model.specs.Exchange.{Exchange, IsLawful, after, given, plain}
-use Rattle.exchange_model.specs.Rows.{Row, IsWhole, left, told_all}
-use Rattle.exchange_model.proofs.Settles.{settled_ready}
-use Rattle.exchange_model.proofs.Steps.{answered_whole, handed_whole}
-use Rattle.segment_model.specs.Record.{Frame}
-use Rattle.segment_model.specs.Ends.{Outcome}
-use Rattle.segment_model.specs.Seats.{Seat, is_over}
-use Rattle.segment_model.specs.Laws.{as_outcome}
-use Rattle.segment_model.proofs.Overs.{over_parts}
-use Rattle.state_model.specs.States.{Table}
-use Rattle.state_model.specs.Promises.{IsTable}
-use Rattle.state_model.specs.Stated.{Stated, IsStated, Act, Service, Counting, acts, act_emission, with_states, service_handed}
-use Rattle.state_model.proofs.Acts.{acts_same, plain_acts, given_acts, left_mails}
-use Rattle.state_model.proofs.StatedLaw.{stated_law}
-use Rattle.state_model.specs.Accounts.{Account, Started}
-use Rattle.state_model.proofs.Ghosts.{GhostRow, counting, start_of, starts_of, Shows, MailsNow, Rowed, starts_append}
-use Rattle.state_model.proofs.Stately.{state_over}
-use Rattle.state_model.proofs.Newest.{Holds}
+use Rattle.slave_parts.specs.of_exchange_model.Exchange.{Exchange, IsLawful, after, given, plain}
+use Rattle.slave_parts.specs.of_exchange_model.Rows.{Row, IsWhole, left, told_all}
+use Rattle.slave_parts.proofs.of_exchange_model.Settles.{settled_ready}
+use Rattle.slave_parts.proofs.of_exchange_model.Steps.{answered_whole, handed_whole}
+use Rattle.slave_parts.specs.of_segment_model.Record.{Frame}
+use Rattle.slave_parts.specs.of_segment_model.Ends.{Outcome}
+use Rattle.slave_parts.specs.of_segment_model.Seats.{Seat, is_over}
+use Rattle.slave_parts.specs.of_segment_model.Laws.{as_outcome}
+use Rattle.slave_parts.proofs.of_segment_model.Overs.{over_parts}
+use Rattle.slave_parts.specs.of_state_model.States.{Table}
+use Rattle.slave_parts.specs.of_state_model.Promises.{IsTable}
+use Rattle.slave_parts.specs.of_state_model.Stated.{Stated, IsStated, Act, Service, Counting, acts, act_emission, with_states, service_handed}
+use Rattle.slave_parts.proofs.of_state_model.Acts.{acts_same, plain_acts, given_acts, left_mails}
+use Rattle.slave_parts.proofs.of_state_model.StatedLaw.{stated_law}
+use Rattle.slave_parts.specs.of_state_model.Accounts.{Account, Started}
+use Rattle.slave_parts.proofs.of_state_model.Ghosts.{GhostRow, counting, start_of, starts_of, Shows, MailsNow, Rowed, starts_append}
+use Rattle.slave_parts.proofs.of_state_model.Stately.{state_over}
+use Rattle.slave_parts.proofs.of_state_model.Newest.{Holds}
 
 module _ {V A M Q R : Type 0} (x : Exchange V A M Q R) (law : IsLawful x) (s : Stated V A Q) (stated : IsStated x s) (table : Table) where
   abbrev both : Exchange (Counting V) (A × ℕ) (Act M) (Service Q) (Outcome R)

@@ -1,13 +1,13 @@
 -- What the slave may still have withdrawn: where an empty read of mailbox 1 counts, nothing.
 use Rattle.std.proofs.Common.{◌≡◌, ℕ, ◌==◌, ◌&&◌, ◌||◌, Bool, true, false, not, is_some, Option, Some, None, List, [], ◌∷◌, ◌++◌, map, refl, ap, ap₂, sym, ◌∙◌, subst, if◌then◌else◌}
-use Rattle.link_model.specs.Mails.{LinkMail, news, differs}
-use Rattle.link_model.specs.Master.{InHalf, InState, in_lost}
-use Rattle.link_model.specs.Slave.{InSide}
-use Rattle.link_model.specs.Link.{Fate, in_half_after, in_met}
-use Rattle.link_model.specs.Agree.{Knows}
-use Rattle.link_model.specs.Frames.{Ask, Gram, own}
-use Rattle.segment_model.specs.Slaves.{Datagram, Found, grams}
-use Rattle.segment_model.specs.Record.{News, is_for, is_read, did_read, gram_news, found_news, datagram_news, last_heard, back_news}
+use Rattle.slave_parts.specs.of_link_model.Mails.{LinkMail, news, differs}
+use Rattle.slave_parts.specs.of_link_model.Master.{InHalf, InState, in_lost}
+use Rattle.slave_parts.specs.of_link_model.Slave.{InSide}
+use Rattle.slave_parts.specs.of_link_model.Link.{Fate, in_half_after, in_met}
+use Rattle.slave_parts.specs.of_link_model.Agree.{Knows}
+use Rattle.slave_parts.specs.of_link_model.Frames.{Ask, Gram, own}
+use Rattle.slave_parts.specs.of_segment_model.Slaves.{Datagram, Found, grams}
+use Rattle.slave_parts.specs.of_segment_model.Record.{News, is_for, is_read, did_read, gram_news, found_news, datagram_news, last_heard, back_news}
 use Rattle.few_replies.proofs.Ways.{found_empty, was_read, reads_in}
 use Rattle.few_replies.proofs.Passings.{reads_nothing}
 

@@ -1,7 +1,7 @@
 -- HOW MANY MAILS A MAIL THAT IS PASSED ON TAKES, in an exchange of services and such mails.
 use Rattle.std.specs.Prelude.{◌≡◌, ℕ, ◌+◌, ◌≤◌, ◌&&◌, Bool, true, Option, length}
-use Rattle.exchange_model.specs.Exchange.{Exchange, Speech}
-use Rattle.serving_model.specs.Tagged.{Tagged, Asked, Rowed, ideal, tagged, tagged_speech}
+use Rattle.slave_parts.specs.of_exchange_model.Exchange.{Exchange, Speech}
+use Rattle.slave_parts.specs.of_serving_model.Tagged.{Tagged, Asked, Rowed, ideal, tagged, tagged_speech}
 
 -- A SERVER THAT ANSWERS A FAIR MAIL WITH FEW, as long as it is calm: that it is behind fair mails and behind services
 pub record IsCalm {V M Q R : Type 0} (x : Exchange V V M Q R) (calm : V → Bool) (fair : M → Bool) (most : ℕ) : Type 0 where

@@ -1,7 +1,7 @@
 -- A return to Init of a server that sees what is meant by its mails: it is cleared, whatever row it is in.
 use Rattle.std.specs.Prelude.{◌≡◌, true, Option, None, Some, List, [], ◌++◌}
-use Rattle.exchange_model.specs.Exchange.{Exchange}
-use Rattle.serving_model.specs.Tagged.{Rowed, real, rows_done}
+use Rattle.slave_parts.specs.of_exchange_model.Exchange.{Exchange}
+use Rattle.slave_parts.specs.of_serving_model.Tagged.{Rowed, real, rows_done}
 
 -- in a row the mails taken are the first of its service's, at a server that was ready for it
 pub record IsPart {V M Q R : Type 0} (x : Exchange V V M Q R) (w : Rowed V M Q) (q : Q) : Type 0 where

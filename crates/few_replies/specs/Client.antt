@@ -1,8 +1,8 @@
 -- What a client of both speaks where it sees mails as they are: by the contents of a reply it tells whether it is the last.
 use Rattle.std.specs.Prelude.{◌≡◌, ◌&&◌, Bool, if◌then◌else◌, Option, None, Some, option_map, List, [], ◌∷◌, ⊤}
-use Rattle.exchange_model.specs.Exchange.{Speech, plain}
-use Rattle.serving_model.specs.Tagged.{Tagged, Asked, untag, is_own, ends_marked, asked_valid, asked_handed}
-use Rattle.serving_model.specs.Passing.{ends_told}
+use Rattle.slave_parts.specs.of_exchange_model.Exchange.{Speech, plain}
+use Rattle.slave_parts.specs.of_serving_model.Tagged.{Tagged, Asked, untag, is_own, ends_marked, asked_valid, asked_handed}
+use Rattle.slave_parts.specs.of_serving_model.Passing.{ends_told}
 
 -- the mails of a service, or the one that is passed on
 abbrev pub mails_planned : {M Q R : Type 0} → Speech M Q R → Asked M Q → List M → List M

@@ -1,17 +1,17 @@
 -- HOW MANY MAILS A SERVICE TAKES, by the octets that it moves and the lengths of the mailboxes.
 use Rattle.std.specs.Prelude.{ℕ, ◌+◌, ◌*◌, ◌/◌, nat_le, if◌then◌else◌, false, length}
-use Rattle.eoe.specs.Cutting.{blocks_of}
-use Rattle.exchange_model.specs.Areas.{Areas}
-use Rattle.exchange_model.specs.Exchange.{Exchange, given}
-use Rattle.protocol_models.specs.Tables as Tables
-use Rattle.protocol_models.specs.CoeMeaning as CoeMeaning
-use Rattle.protocol_models.specs.CoeModel.{value_length}
-use Rattle.protocol_models.specs.Files as Files
-use Rattle.protocol_models.specs.FoeMeaning as FoeMeaning
-use Rattle.protocol_models.specs.FoeModel.{read_length}
-use Rattle.protocol_models.specs.Elements as Elements
-use Rattle.protocol_models.specs.SoeClient as SoeClient
-use Rattle.protocol_models.specs.EoeClient as EoeClient
+use Rattle.slave_parts.specs.of_eoe.Cutting.{blocks_of}
+use Rattle.slave_parts.specs.of_exchange_model.Areas.{Areas}
+use Rattle.slave_parts.specs.of_exchange_model.Exchange.{Exchange, given}
+use Rattle.slave_parts.specs.of_protocol_models.Tables as Tables
+use Rattle.slave_parts.specs.of_protocol_models.CoeMeaning as CoeMeaning
+use Rattle.slave_parts.specs.of_protocol_models.CoeModel.{value_length}
+use Rattle.slave_parts.specs.of_protocol_models.Files as Files
+use Rattle.slave_parts.specs.of_protocol_models.FoeMeaning as FoeMeaning
+use Rattle.slave_parts.specs.of_protocol_models.FoeModel.{read_length}
+use Rattle.slave_parts.specs.of_protocol_models.Elements as Elements
+use Rattle.slave_parts.specs.of_protocol_models.SoeClient as SoeClient
+use Rattle.slave_parts.specs.of_protocol_models.EoeClient as EoeClient
 
 -- the mails of a service at a server: those of its client, and those that the server gives
 abbrev pub mails_between : {V A M Q R : Type 0} → Exchange V A M Q R → V → Q → ℕ

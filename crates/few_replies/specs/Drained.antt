@@ -1,9 +1,9 @@
 -- A state service that has drained: its slave has carried out all services by mails before it.
 use Rattle.std.specs.Prelude.{◌≡◌, ◌+◌, Some}
-use Rattle.state_model.specs.Accounts.{Duty, Stage}
-use Rattle.state_model.specs.Promise.{services_in, mails_in}
-use Rattle.state_model.specs.States.{Phase}
-use Rattle.life_model.specs.Eras.{OpenEra}
+use Rattle.slave_parts.specs.of_state_model.Accounts.{Duty, Stage}
+use Rattle.slave_parts.specs.of_state_model.Promise.{services_in, mails_in}
+use Rattle.slave_parts.specs.of_state_model.States.{Phase}
+use Rattle.slave_parts.specs.of_life_model.Eras.{OpenEra}
 
 -- A STATE SERVICE IS IN HAND, and has drained: mailbox 0 was seen empty
 pub record DrainedDuty {V A M Q R : Type 0} (w : OpenEra V A M Q R) : Type 0 where

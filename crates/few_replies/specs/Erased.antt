@@ -1,12 +1,12 @@
 -- A master's side of a slave, and what frames tell of it, as another sees them, who has other forms of the mails, other names of the services and other
 -- forms of the replies.
 use Rattle.std.specs.Prelude.{◌≡◌, Option, None, Some, option_map, List, map}
-use Rattle.exchange_model.specs.Exchange.{Speech, plain}
-use Rattle.exchange_model.specs.Rows.{Row}
-use Rattle.link_model.specs.Link.{Halves}
-use Rattle.segment_model.specs.Record.{Frame, News}
-use Rattle.segment_model.specs.Seats.{Side}
-use Rattle.serving_model.specs.Erasing.{box_as, all_as}
+use Rattle.slave_parts.specs.of_exchange_model.Exchange.{Speech, plain}
+use Rattle.slave_parts.specs.of_exchange_model.Rows.{Row}
+use Rattle.slave_parts.specs.of_link_model.Link.{Halves}
+use Rattle.slave_parts.specs.of_segment_model.Record.{Frame, News}
+use Rattle.slave_parts.specs.of_segment_model.Seats.{Side}
+use Rattle.slave_parts.specs.of_serving_model.Erasing.{box_as, all_as}
 
 -- the halves
 abbrev pub halves_as : {N M : Type 0} → (N → M) → Halves N → Halves M

@@ -1,23 +1,23 @@
 -- A worked life: the frames of a slave of SoE, as its master has them, with the values of a run.
 use Rattle.std.specs.Prelude.{ℕ, zero, suc, ◌+◌, ◌%◌, Bool, true, false, nat_le, if◌then◌else◌, Option, None, Some, List, [], ◌∷◌, ◌++◌, length, Ok, Err}
-use Rattle.exchange_model.specs.Areas.{Areas}
-use Rattle.exchange_model.specs.Exchange.{Speech, after}
-use Rattle.link_model.specs.Mails.{LinkMail}
-use Rattle.link_model.specs.Frames.{Ask}
-use Rattle.segment_model.specs.Slaves.{Datagram, Address, Access, Found}
-use Rattle.segment_model.specs.Record.{News}
-use Rattle.state_model.specs.Stated.{Service}
-use Rattle.state_model.specs.Accounts.{Pick}
-use Rattle.protocol_models.specs.Elements.{Target, Elements}
-use Rattle.protocol_models.specs.SoeMails.{SoeMail, mail, unread, failed, other, message}
-use Rattle.protocol_models.specs.SoeServer as Server
-use Rattle.protocol_models.specs.SoeClient as Client
-use Rattle.protocol_models.specs.SoeClient.{Reply}
-use Rattle.protocol_models.specs.SoeModel.{soe_speech}
+use Rattle.slave_parts.specs.of_exchange_model.Areas.{Areas}
+use Rattle.slave_parts.specs.of_exchange_model.Exchange.{Speech, after}
+use Rattle.slave_parts.specs.of_link_model.Mails.{LinkMail}
+use Rattle.slave_parts.specs.of_link_model.Frames.{Ask}
+use Rattle.slave_parts.specs.of_segment_model.Slaves.{Datagram, Address, Access, Found}
+use Rattle.slave_parts.specs.of_segment_model.Record.{News}
+use Rattle.slave_parts.specs.of_state_model.Stated.{Service}
+use Rattle.slave_parts.specs.of_state_model.Accounts.{Pick}
+use Rattle.slave_parts.specs.of_protocol_models.Elements.{Target, Elements}
+use Rattle.slave_parts.specs.of_protocol_models.SoeMails.{SoeMail, mail, unread, failed, other, message}
+use Rattle.slave_parts.specs.of_protocol_models.SoeServer as Server
+use Rattle.slave_parts.specs.of_protocol_models.SoeClient as Client
+use Rattle.slave_parts.specs.of_protocol_models.SoeClient.{Reply}
+use Rattle.slave_parts.specs.of_protocol_models.SoeModel.{soe_speech}
 use Rattle.slave_parts.specs.SoeServed.{soe_served}
-use Rattle.serving_model.specs.Tagged.{Asked, Meant, told, ideal, tagged}
+use Rattle.slave_parts.specs.of_serving_model.Tagged.{Asked, Meant, told, ideal, tagged}
 use Rattle.few_replies.specs.Client.{asked_speech}
-use Rattle.life_model.specs.Lives.{Life, Spot, new_life, life_next, life_back, life_lost, gives_up}
+use Rattle.slave_parts.specs.of_life_model.Lives.{Life, Spot, new_life, life_next, life_back, life_lost, gives_up}
 
 -- station 0x1601 at place 0, which starts in PreOp
 abbrev pub spot : Spot

@@ -1,10 +1,10 @@
 -- WHAT WAS HEARD for a mail that is passed on, by how far it has come.
 use Rattle.std.specs.Prelude.{◌≡◌, ◌≢◌, ◌⊎◌, Bool, true, false, Option, Some, List, []}
-use Rattle.exchange_model.specs.Exchange.{Exchange, Speech, given, plain}
-use Rattle.exchange_model.specs.Rows.{Row}
-use Rattle.life_model.specs.Lives.{Era}
-use Rattle.segment_model.specs.Ends.{Passing}
-use Rattle.serving_model.specs.Passing.{ends_told}
+use Rattle.slave_parts.specs.of_exchange_model.Exchange.{Exchange, Speech, given, plain}
+use Rattle.slave_parts.specs.of_exchange_model.Rows.{Row}
+use Rattle.slave_parts.specs.of_life_model.Lives.{Era}
+use Rattle.slave_parts.specs.of_segment_model.Ends.{Passing}
+use Rattle.slave_parts.specs.of_serving_model.Passing.{ends_told}
 
 -- no reply, while its slave isn't known to have answered; or replies, of which others follow the last
 abbrev pub HeardBy : {M : Type 0} → (M → Bool) → (M → Bool) → Passing → List M → Type 0

@@ -1,17 +1,17 @@
 -- An epoch as its master leads it, which passes mails on: the status of mailbox 0 is read only where nothing is in doubt.
 use Rattle.std.specs.Prelude.{◌≡◌, ◌⊎◌, ℕ, zero, suc, ◌&&◌, Bool, true, false, not, if◌then◌else◌, Option, Some, None, List, [], ◌∷◌, ◌++◌, length, ⊤}
-use Rattle.exchange_model.specs.Exchange.{Exchange, plain, emitted}
-use Rattle.exchange_model.specs.Rows.{Row}
-use Rattle.link_model.specs.Frames.{Ask}
-use Rattle.link_model.specs.Segment.{RingFate}
-use Rattle.segment_model.specs.Slaves.{Registers, Processor, Slave, Datagram, Access, grams, ring_after, ring_back, ring_steps}
-use Rattle.segment_model.specs.Record.{Frame, News, frame_news, kept_all, nothing_kept, did_read, without_empty}
-use Rattle.segment_model.specs.Ends.{Passing}
-use Rattle.state_model.specs.Accounts.{Pick}
-use Rattle.life_model.specs.Own.{own, own_fate, own_frame}
-use Rattle.life_model.specs.Lives.{Spot, Era, AsksOpen, new_era, era_next, era_after}
-use Rattle.life_model.specs.Eras.{era_frames, opened_slave}
-use Rattle.serving_model.specs.Tagged.{no_reply}
+use Rattle.slave_parts.specs.of_exchange_model.Exchange.{Exchange, plain, emitted}
+use Rattle.slave_parts.specs.of_exchange_model.Rows.{Row}
+use Rattle.slave_parts.specs.of_link_model.Frames.{Ask}
+use Rattle.slave_parts.specs.of_link_model.Segment.{RingFate}
+use Rattle.slave_parts.specs.of_segment_model.Slaves.{Registers, Processor, Slave, Datagram, Access, grams, ring_after, ring_back, ring_steps}
+use Rattle.slave_parts.specs.of_segment_model.Record.{Frame, News, frame_news, kept_all, nothing_kept, did_read, without_empty}
+use Rattle.slave_parts.specs.of_segment_model.Ends.{Passing}
+use Rattle.slave_parts.specs.of_state_model.Accounts.{Pick}
+use Rattle.slave_parts.specs.of_life_model.Own.{own, own_fate, own_frame}
+use Rattle.slave_parts.specs.of_life_model.Lives.{Spot, Era, AsksOpen, new_era, era_next, era_after}
+use Rattle.slave_parts.specs.of_life_model.Eras.{era_frames, opened_slave}
+use Rattle.slave_parts.specs.of_serving_model.Tagged.{no_reply}
 
 -- REPLIES COME FIRST: what a server gives for a mail are its replies, and behind them its emissions
 abbrev pub RepliesFirst : {V A M Q R : Type 0} → Exchange V A M Q R → Type 0

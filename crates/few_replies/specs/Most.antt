@@ -1,16 +1,16 @@
 -- HOW MANY MAILS A SLAVE ANSWERS ONE MAIL WITH AT MOST, by what its application tells and the length of its mailbox.
 use Rattle.std.specs.Prelude.{◌≡◌, ℕ, suc, ◌-◌, ◌/◌, ◌≤◌, ◌==◌, ◌&&◌, not, Bool, true, false, []}
-use Rattle.eoe.specs.Cutting.{blocks_of}
-use Rattle.link_mails.specs.Body.{Body}
-use Rattle.protocol_models.specs.CoeMails.{CoeMail, mail, unread, failed, fragment, other, Coe, Expedited, First}
-use Rattle.protocol_models.specs.CoeModel.{value_length}
-use Rattle.protocol_models.specs.CoeOctets.{coe_mail_heard}
-use Rattle.protocol_models.specs.CoeServer.{Transfer, idle, downloading, uploading}
-use Rattle.protocol_models.specs.Tables.{Target, Ask}
+use Rattle.slave_parts.specs.of_eoe.Cutting.{blocks_of}
+use Rattle.slave_parts.specs.of_link_mails.Body.{Body}
+use Rattle.slave_parts.specs.of_protocol_models.CoeMails.{CoeMail, mail, unread, failed, fragment, other, Coe, Expedited, First}
+use Rattle.slave_parts.specs.of_protocol_models.CoeModel.{value_length}
+use Rattle.slave_parts.specs.of_protocol_models.CoeOctets.{coe_mail_heard}
+use Rattle.slave_parts.specs.of_protocol_models.CoeServer.{Transfer, idle, downloading, uploading}
+use Rattle.slave_parts.specs.of_protocol_models.Tables.{Target, Ask}
 use Rattle.slave_parts.specs.of_slave_model.Application.{Parts}
 use Rattle.slave_parts.specs.of_slave_model.Profile.{Profile}
 use Rattle.slave_parts.specs.of_slave_model.Server.{Server, heard_by}
-use Rattle.protocol_models.specs.Elements as Elements
+use Rattle.slave_parts.specs.of_protocol_models.Elements as Elements
 
 -- WHAT AN APPLICATION TELLS: no information of its objects has more octets than the one number, and no element of its IDNs more than the other
 pub record Tells {T F I : Type 0} (o : Parts T F I) (information element : ℕ) : Type 0 where

@@ -1,10 +1,10 @@
 -- The newest row of a session, where it is over.
 use Rattle.std.specs.Prelude.{◌≡◌, true, Some, List, [], ◌∷◌, ◌++◌}
-use Rattle.exchange_model.specs.Rows.{Row, IsWhole}
-use Rattle.segment_model.specs.Seats.{is_over}
-use Rattle.state_model.specs.Stated.{Service}
-use Rattle.state_model.specs.Accounts.{Started}
-use Rattle.life_model.specs.Eras.{OpenEra}
+use Rattle.slave_parts.specs.of_exchange_model.Rows.{Row, IsWhole}
+use Rattle.slave_parts.specs.of_segment_model.Seats.{is_over}
+use Rattle.slave_parts.specs.of_state_model.Stated.{Service}
+use Rattle.slave_parts.specs.of_state_model.Accounts.{Started}
+use Rattle.slave_parts.specs.of_life_model.Eras.{OpenEra}
 
 -- THE NEWEST SERVICE is this row's, and it is over
 pub record IsNewestOver {V A M Q R : Type 0} (w : OpenEra V A M Q R) (r : Row M Q R) : Type 0 where

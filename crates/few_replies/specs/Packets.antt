@@ -1,8 +1,8 @@
 -- Which mails make a slave send a packet of itself, and which slaves are about to.
 use Rattle.std.specs.Prelude.{not, Bool}
-use Rattle.link_mails.specs.Body.{Body}
+use Rattle.slave_parts.specs.of_link_mails.Body.{Body}
 use Rattle.slave_parts.specs.of_slave_model.Server.{Server}
-use Rattle.state_model.specs.Families.{InState}
+use Rattle.slave_parts.specs.of_state_model.Families.{InState}
 use Rattle.few_replies.specs.Most.{begins_packet, is_packet_free}
 
 -- A CALM SLAVE, in whatever AL state: no download to the entry 2F01:01 is unfinished

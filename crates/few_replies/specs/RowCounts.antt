@@ -1,7 +1,7 @@
 -- HOW MANY MAILS ROWS HAVE, by what each of their services takes at most.
 use Rattle.std.specs.Prelude.{◌≡◌, ℕ, ◌+◌, ◌≤◌, true, List, length, sum_by}
-use Rattle.exchange_model.specs.Exchange.{Exchange, after}
-use Rattle.exchange_model.specs.Rows.{Row, told_all, heard_all}
+use Rattle.slave_parts.specs.of_exchange_model.Exchange.{Exchange, after}
+use Rattle.slave_parts.specs.of_exchange_model.Rows.{Row, told_all, heard_all}
 use Rattle.few_replies.specs.Counts.{mails_between}
 
 -- SERVICES ARE COUNTED by what no service changes of a server, as the greatest sizes of its entries: each takes so many mails at most

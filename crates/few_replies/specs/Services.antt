@@ -1,6 +1,6 @@
 -- WHAT SERVICES COUNT, of which each takes so many mails at most; a state service has its control word.
 use Rattle.std.specs.Prelude.{ℕ, List, sum_by}
-use Rattle.state_model.specs.Stated.{Service}
+use Rattle.slave_parts.specs.of_state_model.Stated.{Service}
 
 -- one service
 abbrev pub service_count : {Q : Type 0} → (Q → ℕ) → Service Q → ℕ

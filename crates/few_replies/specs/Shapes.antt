@@ -1,23 +1,23 @@
 -- WHAT NO SERVICE CHANGES OF A SLAVE: the greatest sizes of its entries, how often its files are busy and how many blocks they share; and how many mails
 -- a service takes at most by that.
 use Rattle.std.specs.Prelude.{ℕ, ◌+◌, ◌-◌, ◌*◌, ◌==◌, List, map, length, slice_index, if◌then◌else◌, Option, Some, None, option_map, unwrap_or}
-use Rattle.eoe.specs.Cutting.{blocks_of}
-use Rattle.object_dictionary.specs.declared.entry.EntrySpec.{EntrySpec}
-use Rattle.object_dictionary.specs.declared.object.Object.{Object}
-use Rattle.object_dictionary.specs.Dictionary.{Table, object_of}
-use Rattle.file_store.specs.Files.{busy_of}
-use Rattle.protocol_models.specs.CoeMeaning as CoeMeaning
-use Rattle.protocol_models.specs.Tables.{Ask, list, object, entry}
-use Rattle.protocol_models.specs.CoeServer.{Emission, emergency, packet, emission_of}
-use Rattle.protocol_models.specs.FoeMeaning as FoeMeaning
-use Rattle.protocol_models.specs.SoeClient as SoeClient
-use Rattle.protocol_models.specs.EoeClient as EoeClient
-use Rattle.protocol_models.specs.Echo.{echo_of}
+use Rattle.slave_parts.specs.of_eoe.Cutting.{blocks_of}
+use Rattle.slave_parts.specs.of_object_dictionary.declared.entry.EntrySpec.{EntrySpec}
+use Rattle.slave_parts.specs.of_object_dictionary.declared.object.Object.{Object}
+use Rattle.slave_parts.specs.of_object_dictionary.Dictionary.{Table, object_of}
+use Rattle.slave_parts.specs.of_file_store.Files.{busy_of}
+use Rattle.slave_parts.specs.of_protocol_models.CoeMeaning as CoeMeaning
+use Rattle.slave_parts.specs.of_protocol_models.Tables.{Ask, list, object, entry}
+use Rattle.slave_parts.specs.of_protocol_models.CoeServer.{Emission, emergency, packet, emission_of}
+use Rattle.slave_parts.specs.of_protocol_models.FoeMeaning as FoeMeaning
+use Rattle.slave_parts.specs.of_protocol_models.SoeClient as SoeClient
+use Rattle.slave_parts.specs.of_protocol_models.EoeClient as EoeClient
+use Rattle.slave_parts.specs.of_protocol_models.Echo.{echo_of}
 use Rattle.few_replies.specs.Counts.{mails_within, eoe_mails}
 use Rattle.slave_parts.specs.of_slave_model.Profile.{Protocol, Profile, areas_of}
 use Rattle.slave_parts.specs.of_slave_model.Server.{ServiceOf}
 use Rattle.slave_parts.specs.Parts.{Core, Server}
-use Rattle.state_model.specs.Families.{InState}
+use Rattle.slave_parts.specs.of_state_model.Families.{InState}
 
 -- the greatest size at a subindex, of an object of this code and these sizes: the number of an array's or record's entries has one octet
 abbrev pub size_at : ℕ → List ℕ → ℕ → ℕ

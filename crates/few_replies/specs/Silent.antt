@@ -1,10 +1,10 @@
 -- A mail that is passed on, and over without a reply: it had none.
 use Rattle.std.specs.Prelude.{◌≡◌, Bool, true, false, not, Option, Some, None, List, [], ◌∷◌, ⊤}
-use Rattle.exchange_model.specs.Exchange.{Exchange, plain}
-use Rattle.exchange_model.specs.Rows.{Row}
-use Rattle.segment_model.specs.Ends.{Passing}
-use Rattle.life_model.specs.Lives.{Era}
-use Rattle.serving_model.specs.Tagged.{Tagged, Asked, Rowed, untag, is_own, no_reply, ideal}
+use Rattle.slave_parts.specs.of_exchange_model.Exchange.{Exchange, plain}
+use Rattle.slave_parts.specs.of_exchange_model.Rows.{Row}
+use Rattle.slave_parts.specs.of_segment_model.Ends.{Passing}
+use Rattle.slave_parts.specs.of_life_model.Lives.{Era}
+use Rattle.slave_parts.specs.of_serving_model.Tagged.{Tagged, Asked, Rowed, untag, is_own, no_reply, ideal}
 
 -- a mail that is passed on
 abbrev pub is_passed : {M Q : Type 0} → Asked M Q → Bool

@@ -1,8 +1,8 @@
 -- WHAT A SERVICE TAKES AT A SLAVE, by its protocol.
 use Rattle.std.specs.Prelude.{ℕ, ◌+◌, ◌*◌, length}
-use Rattle.protocol_models.specs.CoeMeaning as CoeMeaning
-use Rattle.protocol_models.specs.EoeClient as EoeClient
-use Rattle.protocol_models.specs.Network.{Station}
+use Rattle.slave_parts.specs.of_protocol_models.CoeMeaning as CoeMeaning
+use Rattle.slave_parts.specs.of_protocol_models.EoeClient as EoeClient
+use Rattle.slave_parts.specs.of_protocol_models.Network.{Station}
 use Rattle.few_replies.specs.Counts.{mails_within, coe_octets, foe_octets, foe_busy, soe_octets, eoe_mails}
 use Rattle.slave_parts.specs.of_slave_model.Application.{Core, Parts, station_tables, station_files, station_elements, network}
 use Rattle.slave_parts.specs.of_slave_model.Profile.{Protocol, Profile, areas_of}

@@ -1,10 +1,10 @@
 -- HOW FAR THE MAILS THAT ARE PASSED ON HAVE COME: four steps of each at most. It is sent, taken by mailbox 0, taken by the server, and then a reply came
 -- or mailbox 1 was seen empty.
 use Rattle.std.specs.Prelude.{ℕ, ◌+◌, ◌-◌, ◌*◌, ◌≤◌, Bool, if◌then◌else◌, Option, Some, None, List, [], ◌∷◌}
-use Rattle.segment_model.specs.Ends.{Passing}
-use Rattle.state_model.specs.Stated.{Service}
-use Rattle.state_model.specs.Accounts.{Started}
-use Rattle.life_model.specs.Lives.{Era, Life}
+use Rattle.slave_parts.specs.of_segment_model.Ends.{Passing}
+use Rattle.slave_parts.specs.of_state_model.Stated.{Service}
+use Rattle.slave_parts.specs.of_state_model.Accounts.{Started}
+use Rattle.slave_parts.specs.of_life_model.Lives.{Era, Life}
 
 -- the steps that a mail has to come yet; none where it is over, or none is in hand
 abbrev pub steps_left : Option Passing → ℕ

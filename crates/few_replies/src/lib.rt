@@ -17,7 +17,7 @@ pub mod whole_counts;
 pub mod worked_life;
 
 ghost use Rattle.few_replies.specs.Most.{Tells, AreEnough, begins_packet, is_packet_free};
-ghost use Rattle.link_mails.specs.Body.{Body};
+ghost use Rattle.slave_parts.specs.of_link_mails.Body.{Body};
 ghost use Rattle.slave_parts.specs.of_slave_model.Application.{Parts, ArePartsLawful, station_valid};
 ghost use Rattle.slave_parts.specs.of_slave_model.Product.{serve};
 ghost use Rattle.slave_parts.specs.of_slave_model.Profile.{Profile, IsProfile};

@@ -2,11 +2,11 @@
 //! here do nothing, and their contracts state the laws.
 
 ghost use Rattle.std.specs.Prelude.{◌≡◌, ◌≤◌, ◌+◌, ◌*◌, ◌&&◌, ℕ, suc, Bool, true};
-ghost use Rattle.exchange_model.specs.Exchange.{Exchange, IsLawful};
-ghost use Rattle.serving_model.specs.Tagged.{IsServed, IsForeseen, Asked, Rowed, ideal};
+ghost use Rattle.slave_parts.specs.of_exchange_model.Exchange.{Exchange, IsLawful};
+ghost use Rattle.slave_parts.specs.of_serving_model.Tagged.{IsServed, IsForeseen, Asked, Rowed, ideal};
 ghost use Rattle.few_replies.specs.Counts.{mails_between};
 ghost use Rattle.few_replies.specs.RowCounts.{AreCounted};
-ghost use Rattle.life_model.specs.Tally.{quiet};
+ghost use Rattle.slave_parts.specs.of_life_model.Tally.{quiet};
 ghost use Rattle.few_replies.specs.Calm.{IsCalm, KeepsPassed, calm_tagged, asked_count};
 
 /// SERVICES AND MAILS THAT ARE PASSED ON ARE COUNTED, by what no service and no such mail changes of the server: a service takes what it takes alone, a

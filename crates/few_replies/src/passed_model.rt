@@ -2,14 +2,14 @@
 //! running code.
 
 ghost use Rattle.std.specs.Prelude.{◌≡◌, ℕ, Bool, true, List, [], ◌∷◌, ◌++◌, map, option_map, Some, None};
-ghost use Rattle.exchange_model.specs.Exchange.{Speech, Exchange};
-ghost use Rattle.link_model.specs.Frames.{all_accepted};
-ghost use Rattle.segment_model.specs.Slaves.{Datagram, grams};
-ghost use Rattle.segment_model.specs.Record.{Frame, Kept, frame_news, kept_after, news_each};
-ghost use Rattle.segment_model.specs.Seats.{Side, Choice, side_next, side_back, side_lost};
-ghost use Rattle.serving_model.specs.Erasing.{all_as};
+ghost use Rattle.slave_parts.specs.of_exchange_model.Exchange.{Speech, Exchange};
+ghost use Rattle.slave_parts.specs.of_link_model.Frames.{all_accepted};
+ghost use Rattle.slave_parts.specs.of_segment_model.Slaves.{Datagram, grams};
+ghost use Rattle.slave_parts.specs.of_segment_model.Record.{Frame, Kept, frame_news, kept_after, news_each};
+ghost use Rattle.slave_parts.specs.of_segment_model.Seats.{Side, Choice, side_next, side_back, side_lost};
+ghost use Rattle.slave_parts.specs.of_serving_model.Erasing.{all_as};
 ghost use Rattle.few_replies.specs.Erased.{side_seen, frame_as, all_news_as, AreOne, PlanOne, EndOne, OfRow};
-ghost use Rattle.serving_model.specs.Tagged.{IsServed, Tagged, Rowed, Meant, Asked, real, ideal, tagged, serve_tagged, tagged_speech};
+ghost use Rattle.slave_parts.specs.of_serving_model.Tagged.{IsServed, Tagged, Rowed, Meant, Asked, real, ideal, tagged, serve_tagged, tagged_speech};
 ghost use Rattle.few_replies.specs.Client.{asked_speech, ByContents, MarksTold};
 ghost use Rattle.few_replies.specs.Clearing.{InRow, Forgets, cleared_rowed};
 

@@ -1,14 +1,14 @@
 //! Mails that are passed on, over a session: all replies of such a mail are heard in its row, also where there are none. Definitions and laws, no
 //! running code.
 
-ghost use Rattle.exchange_model.specs.Exchange.{Exchange, IsLawful};
-ghost use Rattle.exchange_model.specs.Rows.{Row, IsWhole};
-ghost use Rattle.life_model.specs.Lives.{Spot, Era};
+ghost use Rattle.slave_parts.specs.of_exchange_model.Exchange.{Exchange, IsLawful};
+ghost use Rattle.slave_parts.specs.of_exchange_model.Rows.{Row, IsWhole};
+ghost use Rattle.slave_parts.specs.of_life_model.Lives.{Spot, Era};
 ghost use Rattle.few_replies.specs.Led.{RepliesFirst, IsLed, NoneUnheard};
 ghost use Rattle.few_replies.specs.Silent.{is_passed, IsForeseenRight, EachHadNone, HeardAll};
-ghost use Rattle.segment_model.specs.Record.{Frame};
-ghost use Rattle.segment_model.specs.Slaves.{Registers, Processor, Slave};
-ghost use Rattle.serving_model.specs.Tagged.{IsServed, Tagged, Asked, Rowed, ideal, tagged};
+ghost use Rattle.slave_parts.specs.of_segment_model.Record.{Frame};
+ghost use Rattle.slave_parts.specs.of_segment_model.Slaves.{Registers, Processor, Slave};
+ghost use Rattle.slave_parts.specs.of_serving_model.Tagged.{IsServed, Tagged, Asked, Rowed, ideal, tagged};
 ghost use Rattle.std.specs.Prelude.{◌≡◌, ℕ, Bool, Option, List};
 
 /// A service of one mail that is always answered isn't over before a reply of it was heard: a master that reads the status of mailbox 0 only where

@@ -2,12 +2,12 @@
 //! their contracts state the laws.
 
 ghost use Rattle.std.specs.Prelude.{◌≡◌, ◌≤◌, ◌*◌, ℕ, suc, Bool, false, Option, Some, List};
-ghost use Rattle.exchange_model.specs.Exchange.{Speech};
-ghost use Rattle.segment_model.specs.Slaves.{Datagram, Found};
-ghost use Rattle.segment_model.specs.Record.{News};
-ghost use Rattle.segment_model.specs.Ends.{Passing, passing_after};
-ghost use Rattle.state_model.specs.Accounts.{Pick};
-ghost use Rattle.life_model.specs.Lives.{Stand, Life, Spot, new_life, life_next, life_back, life_lost, gives_up, passes};
+ghost use Rattle.slave_parts.specs.of_exchange_model.Exchange.{Speech};
+ghost use Rattle.slave_parts.specs.of_segment_model.Slaves.{Datagram, Found};
+ghost use Rattle.slave_parts.specs.of_segment_model.Record.{News};
+ghost use Rattle.slave_parts.specs.of_segment_model.Ends.{Passing, passing_after};
+ghost use Rattle.slave_parts.specs.of_state_model.Accounts.{Pick};
+ghost use Rattle.slave_parts.specs.of_life_model.Lives.{Stand, Life, Spot, new_life, life_next, life_back, life_lost, gives_up, passes};
 ghost use Rattle.few_replies.specs.Steps.{steps_left, life_steps, life_passed, IsUnderWay};
 
 /// NO NEWS TAKES A MAIL THAT IS PASSED ON BACK, and each of these takes it a step on: the mail was told, its write was done, mailbox 0 was seen empty,

@@ -2,14 +2,14 @@
 //! contracts state the laws.
 
 ghost use Rattle.std.specs.Prelude.{◌≡◌, ℕ, true, Bool, Option, List, []};
-ghost use Rattle.exchange_model.specs.Exchange.{Exchange, Speech, given, plain};
-ghost use Rattle.life_model.specs.Lives.{Stand, Life, Spot, new_life, life_next, life_back, life_lost, gives_up};
-ghost use Rattle.life_model.specs.Own.{own};
-ghost use Rattle.link_model.specs.Frames.{all_accepted};
-ghost use Rattle.segment_model.specs.Ends.{Passing};
-ghost use Rattle.segment_model.specs.Record.{News, mails_heard};
-ghost use Rattle.segment_model.specs.Slaves.{Datagram, Found, grams};
-ghost use Rattle.state_model.specs.Accounts.{Pick};
+ghost use Rattle.slave_parts.specs.of_exchange_model.Exchange.{Exchange, Speech, given, plain};
+ghost use Rattle.slave_parts.specs.of_life_model.Lives.{Stand, Life, Spot, new_life, life_next, life_back, life_lost, gives_up};
+ghost use Rattle.slave_parts.specs.of_life_model.Own.{own};
+ghost use Rattle.slave_parts.specs.of_link_model.Frames.{all_accepted};
+ghost use Rattle.slave_parts.specs.of_segment_model.Ends.{Passing};
+ghost use Rattle.slave_parts.specs.of_segment_model.Record.{News, mails_heard};
+ghost use Rattle.slave_parts.specs.of_segment_model.Slaves.{Datagram, Found, grams};
+ghost use Rattle.slave_parts.specs.of_state_model.Accounts.{Pick};
 ghost use Rattle.few_replies.specs.Heard.{EraPasses, HeardBy, LastTold};
 
 /// WHILE A MAIL THAT IS PASSED ON ISN'T OVER it is the newest row of its epoch, and no reply of it was heard, or others follow the last that was: at every frame

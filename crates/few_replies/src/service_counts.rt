@@ -7,7 +7,7 @@ ghost use Rattle.slave_parts.specs.of_slave_model.Application.{Parts, ArePartsLa
 ghost use Rattle.slave_parts.specs.of_slave_model.Product.{product};
 ghost use Rattle.slave_parts.specs.of_slave_model.Profile.{Protocol, Profile, IsProfile};
 ghost use Rattle.slave_parts.specs.of_slave_model.Server.{Server, ServiceOf};
-ghost use Rattle.state_model.specs.Families.{InState};
+ghost use Rattle.slave_parts.specs.of_state_model.Families.{InState};
 ghost use Rattle.slave_parts.specs.Parts.{Server as PartsServer, parts};
 ghost use Rattle.few_replies.specs.RowCounts.{AreCounted};
 ghost use Rattle.few_replies.specs.Slave.{service_most};

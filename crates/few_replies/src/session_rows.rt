@@ -1,7 +1,7 @@
 //! What a session says of its rows at each moment, beyond what it promises. Definitions and laws, no running code.
 
-ghost use Rattle.exchange_model.specs.Rows.{Row};
-ghost use Rattle.life_model.specs.Eras.{OpenEra};
+ghost use Rattle.slave_parts.specs.of_exchange_model.Rows.{Row};
+ghost use Rattle.slave_parts.specs.of_life_model.Eras.{OpenEra};
 ghost use Rattle.few_replies.specs.Drained.{DrainedDuty, AllMailsDone};
 ghost use Rattle.few_replies.specs.Newest.{IsNewestOver, IsWholeRow};
 

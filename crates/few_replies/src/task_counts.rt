@@ -3,8 +3,8 @@
 
 ghost use Rattle.std.specs.Prelude.{◌≡◌, ◌≤◌, ℕ};
 ghost use Rattle.few_replies.specs.RowCounts.{AreCounted, rows_mails};
-ghost use Rattle.segment_model.specs.Seats.{rows_of};
-ghost use Rattle.state_model.specs.Promise.{PlanSession, OfEach, services_in};
+ghost use Rattle.slave_parts.specs.of_segment_model.Seats.{rows_of};
+ghost use Rattle.slave_parts.specs.of_state_model.Promise.{PlanSession, OfEach, services_in};
 ghost use Rattle.few_replies.specs.Services.{services_count};
 
 /// THE MAILS OF A SLAVE, told and heard in all its rows, are no more than the services count that came into hand of it, by what no service changes of

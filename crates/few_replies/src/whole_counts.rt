@@ -1,12 +1,12 @@
 //! What services and mails that are passed on count together at a slave of a plan, whatever transfers are unfinished. Definitions and laws, no running
 //! code: the functions here do nothing, and their contracts state the laws.
 
-ghost use Rattle.exchange_model.specs.Exchange.{IsLawful};
+ghost use Rattle.slave_parts.specs.of_exchange_model.Exchange.{IsLawful};
 ghost use Rattle.few_replies.specs.Most.{Tells};
 ghost use Rattle.few_replies.specs.RowCounts.{AreCounted};
 ghost use Rattle.few_replies.specs.Calm.{IsCalm, KeepsPassed, calm_tagged, asked_count};
 ghost use Rattle.few_replies.specs.Shapes.{shape_at, shape_most};
-ghost use Rattle.serving_model.specs.Tagged.{ideal};
+ghost use Rattle.slave_parts.specs.of_serving_model.Tagged.{ideal};
 ghost use Rattle.few_replies.specs.Packets.{is_calm, is_fair};
 ghost use Rattle.slave_parts.specs.of_slave_model.Profile.{Profile, IsProfile};
 ghost use Rattle.slave_parts.specs.Parts.{parts};

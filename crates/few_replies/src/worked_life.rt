@@ -1,9 +1,9 @@
 //! A worked life of a slave of SoE, frame by frame, with the values of a run. Definitions and laws, no running code.
 
 ghost use Rattle.std.specs.Prelude.{◌≡◌, ℕ, false, Some, None, List, [], ◌∷◌, ◌++◌, map, length};
-ghost use Rattle.mailbox_mail.specs.declared.outcome.ReplyKind.{ReplyKind};
-ghost use Rattle.segment_model.specs.Seats.{rows_of};
-ghost use Rattle.life_model.specs.Lives.{Stand, reopening};
+ghost use Rattle.slave_parts.specs.of_mailbox_mail.declared.outcome.ReplyKind.{ReplyKind};
+ghost use Rattle.slave_parts.specs.of_segment_model.Seats.{rows_of};
+ghost use Rattle.slave_parts.specs.of_life_model.Lives.{Stand, reopening};
 ghost use Rattle.few_replies.specs.Frames.{life_of, brought_up, cut_off, reopened, passed_on, written, octets, served};
 
 /// A bring-up with a lost access; a write in fragments that a give-up cuts off; a reopening with a new epoch; a fragment that is passed on and leaves a

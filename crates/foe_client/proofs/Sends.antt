@@ -2,9 +2,9 @@
 use Rattle.std.proofs.Common.{◌≡◌, inl, inr, ℕ, zero, suc, ◌+◌, ◌-◌, ◌/◌, ◌<◌, ◌≤◌, Bool, true, false, ◌&&◌, nat_le, nat_lt, ◌==◌, List, [], ◌∷◌, length, take, drop, if◌then◌else◌, Some, refl, sym, ap, ◌∙◌, arith, length-take, length-drop, eqb-true, eq-eqb, leb-true, lt-ltb, le-ltb}
 use Rattle.std.proofs.lemmas.Bool.{cases_lt, and_parts, and_from}
 use Rattle.std.proofs.lemmas.List.{drop-drop}
-use Rattle.exchange_model.specs.Areas.{Areas}
-use Rattle.exchange_model.specs.Dialogue.{chosen, said}
-use Rattle.foe_codec.specs.Message.{is_name, IsSpellable, foe_text}
+use Rattle.protocol_models.specs.of_exchange_model.Areas.{Areas}
+use Rattle.protocol_models.specs.of_exchange_model.Dialogue.{chosen, said}
+use Rattle.protocol_models.specs.of_foe_codec.Message.{is_name, IsSpellable, foe_text}
 use Rattle.protocol_models.specs.FoeMails.{Read, Write, Data, Ack, Error, Busy, FoeMail, mail, unread, failed, other}
 use Rattle.protocol_models.specs.FoeServer.{packet_room, packet_of, is_last}
 use Rattle.protocol_models.specs.FoeMeaning.{read, write}

@@ -2,7 +2,7 @@
 use Rattle.std.proofs.Common.{◌≡◌, ℕ, zero, suc, ◌+◌, ◌-◌, ◌<◌, Bool, true, false, ◌&&◌, nat_le, nat_lt, ◌==◌, List, [], ◌∷◌, ◌++◌, length, if◌then◌else◌, None, Some, refl, sym, ap, ◌∙◌, arith, eqb-true, ltb-true}
 use Rattle.std.proofs.lemmas.Bool.{eqb-false, and_parts}
 use Rattle.arrayvec.specs.ArrayVec.{ArrayVec}
-use Rattle.mailbox_mail.specs.declared.outcome.ReplyKind.{ReplyKind}
+use Rattle.protocol_models.specs.of_mailbox_mail.declared.outcome.ReplyKind.{ReplyKind}
 use Rattle.protocol_models.specs.FoeMails.{Foe, FoeMail, mail, unread, failed, other, Read, Write, Data, Ack, Error, Busy}
 use Rattle.protocol_models.specs.FoeServer.{is_last}
 use Rattle.protocol_models.specs.FoeClient.{at_end, refused_by, is_ack, is_busy, acks_end, is_packet, most, packets_end}

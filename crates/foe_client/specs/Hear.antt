@@ -1,7 +1,7 @@
 -- What a client makes of one mail, state by state.
 use Rattle.std.specs.Prelude.{◌≡◌, ℕ, ◌+◌, ◌-◌, ◌<◌, ◌==◌, nat_lt, true, false, List, [], ◌∷◌, ◌++◌, length, if◌then◌else◌, None, Some}
-use Rattle.mailbox_mail.specs.declared.outcome.ReplyKind.{ReplyKind}
-use Rattle.mailbox_mail.specs.declared.outcome.Took.{Took}
+use Rattle.protocol_models.specs.of_mailbox_mail.declared.outcome.ReplyKind.{ReplyKind}
+use Rattle.protocol_models.specs.of_mailbox_mail.declared.outcome.Took.{Took}
 use Rattle.protocol_models.specs.FoeMails.{Foe, Data, Ack, Error, Busy, FoeMail, mail, failed}
 use Rattle.protocol_models.specs.FoeServer.{is_last}
 use Rattle.protocol_models.specs.FoeClient.{most}

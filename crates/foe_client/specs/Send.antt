@@ -1,7 +1,7 @@
 -- What a client sends next.
 use Rattle.std.specs.Prelude.{◌≡◌, ℕ, ◌+◌, ◌-◌, ◌≤◌, List, ◌∷◌, length, take, drop}
-use Rattle.mailbox_mail.specs.declared.mail.Kind.TheVariants.{FoE}
-use Rattle.foe_codec.specs.Message.{IsSpellable, foe_text}
+use Rattle.protocol_models.specs.of_mailbox_mail.declared.mail.Kind.TheVariants.{FoE}
+use Rattle.protocol_models.specs.of_foe_codec.Message.{IsSpellable, foe_text}
 use Rattle.protocol_models.specs.FoeMails.{Foe, Read, Write, Data, Ack, FoeMail, mail}
 use Rattle.protocol_models.specs.FoeServer.{packet_room}
 use Rattle.protocol_models.specs.FoeOctets.{foe_mail_written, mail_with}

@@ -1,11 +1,11 @@
 -- What a client's state stands for: the mails that it has left to send, by what it will hear, and the reply that further mails complete.
 use Rattle.std.specs.Prelude.{◌≡◌, ℕ, zero, suc, ◌+◌, ◌-◌, ◌≤◌, ◌&&◌, nat_lt, nat_le, ◌==◌, Bool, true, false, List, [], ◌∷◌, length, drop, if◌then◌else◌, Option, None}
-use Rattle.mailbox_mail.specs.declared.outcome.ReplyKind.{ReplyKind}
-use Rattle.foe_codec.specs.Message.{is_name}
+use Rattle.protocol_models.specs.of_mailbox_mail.declared.outcome.ReplyKind.{ReplyKind}
+use Rattle.protocol_models.specs.of_foe_codec.Message.{is_name}
 use Rattle.protocol_models.specs.FoeMails.{Read, Write, Data, Ack, FoeMail, mail}
 use Rattle.protocol_models.specs.FoeServer.{packet_room, packet_of}
 use Rattle.protocol_models.specs.FoeMeaning.{Reply}
-use Rattle.exchange_model.specs.Areas.{Areas}
+use Rattle.protocol_models.specs.of_exchange_model.Areas.{Areas}
 use Rattle.protocol_models.specs.FoeClient.{at_end, is_busy, acks_end, packets_end}
 use Rattle.foe_client.specs.declared.state.Unsent.{Unsent}
 use Rattle.foe_client.specs.declared.state.Awaits.{Awaits}

@@ -1,16 +1,16 @@
 ghost use Rattle.std.specs.Prelude.{◌≡◌, ◌≤◌, ◌<◌, ◌+◌, List, [], ◌++◌, true, length, IfOk, OnOk, OnErr, Some, None, suc};
-ghost use Rattle.foe_codec.specs.Message.{is_name};
+ghost use Rattle.protocol_models.specs.of_foe_codec.Message.{is_name};
 ghost use Rattle.protocol_models.specs.FoeMails.{FoeMail};
 ghost use Rattle.protocol_models.specs.FoeMeaning.{Service, read, write};
-ghost use Rattle.exchange_model.specs.Areas.{Areas};
+ghost use Rattle.protocol_models.specs.of_exchange_model.Areas.{Areas};
 ghost use Rattle.protocol_models.specs.FoeClient.{full_packets, ends};
 ghost use Rattle.protocol_models.specs.FoeModel.{planned};
 ghost use Rattle.foe_client.specs.Talk.{areas_of, later, awaited, awaits_nothing, begun, IsFresh};
 
 use crate::state::{Awaits, Unsent};
-use ec_fields::{NoMemory, Octets, Transfer, buffer_of};
-use foe_codec::Name;
-use mailbox_mail::ReplyKind;
+use protocol_models::ec_fields::{NoMemory, Octets, Transfer, buffer_of};
+use protocol_models::foe_codec::Name;
+use protocol_models::mailbox_mail::ReplyKind;
 use std::alloc::Global;
 use std::marker::Model;
 

@@ -1,13 +1,14 @@
 ghost use Rattle.std.specs.Prelude.{◌≡◌, ◌≤◌, length};
-ghost use Rattle.foe_codec.specs.View.{foe_seen};
+ghost use Rattle.protocol_models.specs.of_foe_codec.View.{foe_seen};
 ghost use Rattle.protocol_models.specs.FoeOctets.{body_heard, foe_mail_heard};
 ghost use Rattle.foe_client.specs.Hear.{onward, refused, hear_data, hear_ack, hear_busy, hear_refusal, hear_message, hear_mail, TookIs};
 
 use crate::client::{FoeClient, HEADER, MOST};
 use crate::state::{Awaits, Unsent};
-use ec_fields::u16_at;
-use foe_codec::FoeView;
-use mailbox_mail::{Kind, Mail, ReplyKind, Took};
+use protocol_models::ec_fields::u16_at;
+use protocol_models::foe_codec;
+use protocol_models::foe_codec::FoeView;
+use protocol_models::mailbox_mail::{Kind, Mail, ReplyKind, Took};
 
 impl FoeClient {
     // The number of mails that may go, behind an answer that lets one more go.

@@ -1,6 +1,6 @@
 ghost use Rattle.std.specs.Prelude.{◌≡◌, ◌≤◌, ◌<◌, ◌+◌, ◌↔◌, List, [], true, false, length, take, drop};
-ghost use Rattle.foe_codec.specs.Message.{IsSpellable, foe_text};
-ghost use Rattle.foe_codec.specs.View.{foe_seen, IsCapped};
+ghost use Rattle.protocol_models.specs.of_foe_codec.Message.{IsSpellable, foe_text};
+ghost use Rattle.protocol_models.specs.of_foe_codec.View.{foe_seen, IsCapped};
 ghost use Rattle.protocol_models.specs.FoeServer.{packet_room};
 ghost use Rattle.std.specs.Bool.{OnTrue, OnFalse};
 ghost use Rattle.protocol_models.specs.FoeMails.{FoeMail};
@@ -10,7 +10,7 @@ ghost use Rattle.foe_client.specs.Send.{message_of, sent_first, SendsNext};
 use crate::client::{FoeClient, HEADER};
 use crate::state::Unsent;
 use arrayvec::ArrayVec;
-use foe_codec::{FoeView, write_view};
+use protocol_models::foe_codec::{FoeView, write_view};
 
 impl FoeClient {
     // A packet's octets: as many as the mailbox takes, or all that are left.

@@ -1,3 +1,2 @@
-pub use Rattle.ec_fields.specs as of_ec_fields
 pub mod Message
 pub mod View

@@ -1,7 +1,7 @@
 -- What a server's call did with a mail is the step of the exchange of mails.
 use Rattle.std.proofs.Common.{◌≡◌, ℕ, Bool, List, ap, ◌∙◌, map}
-use Rattle.mailbox_mail.specs.declared.mail.Kind.TheVariants.{FoE}
-use Rattle.exchange_model.specs.Areas.{Areas}
+use Rattle.protocol_models.specs.of_mailbox_mail.declared.mail.Kind.TheVariants.{FoE}
+use Rattle.protocol_models.specs.of_exchange_model.Areas.{Areas}
 use Rattle.file_store.specs.Files.{Kept}
 use Rattle.file_store.specs.Stored.{Stored}
 use Rattle.protocol_models.specs.Files.{Files}

@@ -2,10 +2,10 @@
 use Rattle.std.specs.Prelude.{◌≡◌, ℕ, ◌+◌, ◌≤◌, ◌&&◌, nat_le, Bool, true, false, List, [], ◌∷◌, map, length, drop, is_some, Some, None}
 use Rattle.file_store.specs.Files.{Kept, file_of, get}
 use Rattle.file_store.specs.Stored.{Stored, part_octets}
-use Rattle.mailbox_mail.specs.declared.mail.Mail.{Mail}
+use Rattle.protocol_models.specs.of_mailbox_mail.declared.mail.Mail.{Mail}
 use Rattle.protocol_models.specs.FoeMails.{Foe, Ack, Error, Busy, FoeMail, mail, failed}
 use Rattle.protocol_models.specs.FoeServer.{Transfer, idle, reading, writing, closing, Outcome, Server, one_more, packet_of}
-use Rattle.foe_codec.specs.Message.{foe_text}
+use Rattle.protocol_models.specs.of_foe_codec.Message.{foe_text}
 use Rattle.protocol_models.specs.FoeOctets.{foe_mail_written}
 use Rattle.foe_server.specs.declared.state.State.{State}
 use Rattle.foe_server.specs.declared.state.Pending.{Pending}

@@ -1,12 +1,12 @@
 ghost use Rattle.std.specs.Prelude.{◌≡◌, ℕ, Bool, List};
-ghost use Rattle.exchange_model.specs.Areas.{Areas, AreMailboxes};
-ghost use Rattle.exchange_model.specs.Exchange.{IsLawful};
+ghost use Rattle.protocol_models.specs.of_exchange_model.Areas.{Areas, AreMailboxes};
+ghost use Rattle.protocol_models.specs.of_exchange_model.Exchange.{IsLawful};
 ghost use Rattle.file_store.specs.Files.{Kept};
 ghost use Rattle.file_store.specs.Stored.{Stored};
 ghost use Rattle.protocol_models.specs.Files.{Files, AreLawful, AreSpelled};
 ghost use Rattle.protocol_models.specs.FoeServer.{Server, foe_outcome};
 ghost use Rattle.protocol_models.specs.FoeOctets.{body_heard, mail_with, foe_mail_exchange};
-ghost use Rattle.mailbox_mail.specs.declared.mail.Kind.TheVariants.{FoE};
+ghost use Rattle.protocol_models.specs.of_mailbox_mail.declared.mail.Kind.TheVariants.{FoE};
 ghost use Rattle.foe_server.specs.Stores.{store_files};
 ghost use Rattle.foe_server.specs.Serving.{Serving, transfer_of, outcome_of, served_of};
 

@@ -2,16 +2,17 @@ ghost use Rattle.std.specs.Prelude.{◌≡◌, ◌≤◌, ◌+◌, ℕ, true, is
 ghost use Rattle.file_store.specs.Files.{file_of, get};
 ghost use Rattle.file_store.specs.Stored.{Stored, part_octets};
 ghost use Rattle.protocol_models.specs.FoeServer.{takes_read, takes_write, takes_data, stores, closes, takes_ack, continues, foe_takes, takes_unread, foe_outcome};
-ghost use Rattle.foe_codec.specs.View.{foe_seen, IsCapped};
+ghost use Rattle.protocol_models.specs.of_foe_codec.View.{foe_seen, IsCapped};
 ghost use Rattle.protocol_models.specs.FoeOctets.{body_heard};
 ghost use Rattle.foe_server.specs.Stores.{store_files};
 ghost use Rattle.foe_server.specs.Serving.{Serving, Serves, IsWriting, transfer_of, outcome_of, told_of};
 
 use crate::server::{FoeServer, PACKET_HEAD};
 use crate::state::{Pending, State};
-use ec_fields::refill;
+use file_store::ec_fields::refill;
 use file_store::{NOT_FOUND, Store};
-use foe_codec::{FoeFault, FoeView};
+use protocol_models::foe_codec;
+use protocol_models::foe_codec::{FoeFault, FoeView};
 
 /// No block is free for a packet's octets (ETG.1000.6, "FoE error codes").
 const DISK_FULL: u32 = 0x8003;

@@ -13,9 +13,9 @@ use Rattle.al_state.specs.of_datagrams.Datagram as Raw
 use Rattle.al_state.specs.of_datagrams.Frame.{datagram_of}
 use Rattle.frame_view.specs.View.{Lens, datagram_seen, address_of, place_of, station_of}
 use Rattle.frame_view.specs.Seen.{datagrams_seen}
-use Rattle.segment_model.specs.Slaves as Slaves
-use Rattle.segment_model.specs.Slaves.{Datagram}
-use Rattle.segment_model.specs.Record.{is_for}
+use Rattle.life_model.specs.of_segment_model.Slaves as Slaves
+use Rattle.life_model.specs.of_segment_model.Slaves.{Datagram}
+use Rattle.life_model.specs.of_segment_model.Record.{is_for}
 use Rattle.life_model.specs.Lives.{Spot, Stand}
 use Rattle.life_model.specs.Own.{own}
 use Rattle.frame_view.specs.Frames.{IsNotFor, AllNotFor, HasOne, GramFor, AreApart}

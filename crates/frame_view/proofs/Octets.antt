@@ -3,11 +3,11 @@ use Rattle.std.proofs.Common.{◌≡◌, ℕ, ◌+◌, List, [], ◌∷◌, ◌+
 use Rattle.std.proofs.Math.Seq.{drop-append-add, take-append_seam}
 use Rattle.byteorder.specs.Endian.{little_bytes}
 use Rattle.std.specs.Prelude.{map}
-use Rattle.datagrams.specs.Datagram as Raw
-use Rattle.datagrams.specs.Datagram.{IsDatagram, datagram_text, size_of}
-use Rattle.datagrams.specs.Frame.{IsFrame, Each, text_of, parts_of, header_text, chained, saying}
-use Rattle.datagrams.proofs.Header.{frame_read-only}
-use Rattle.datagrams.proofs.Spelled.{length-datagram_text}
+use Rattle.al_state.specs.of_datagrams.Datagram as Raw
+use Rattle.al_state.specs.of_datagrams.Datagram.{IsDatagram, datagram_text, size_of}
+use Rattle.al_state.specs.of_datagrams.Frame.{IsFrame, Each, text_of, parts_of, header_text, chained, saying}
+use Rattle.al_state.proofs.of_datagrams.Header.{frame_read-only}
+use Rattle.al_state.proofs.of_datagrams.Spelled.{length-datagram_text}
 use Rattle.frame_view.specs.View.{Lens, head_seen, datagram_seen, station_of}
 use Rattle.frame_view.specs.Seen.{part_seen, parts_seen, seen}
 

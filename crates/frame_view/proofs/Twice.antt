@@ -5,10 +5,10 @@ use Rattle.std.specs.Prelude.{◌&&◌, is_none, is_some, nat_lt, if◌then◌el
 use Rattle.life_model.specs.of_exchange_model.Exchange.{Speech}
 use Rattle.life_model.specs.of_exchange_model.Rows.{Row, begun, left, row_told}
 use Rattle.link_mails.specs.Body.{Body}
-use Rattle.segment_model.specs.of_link_model.Mails.{LinkMail}
-use Rattle.segment_model.specs.Seats.{Side, Choice, is_over, is_none_left, side_begins, side_holds, side_next, next_mail}
+use Rattle.link_mails.specs.of_link_model.Mails.{LinkMail}
+use Rattle.life_model.specs.of_segment_model.Seats.{Side, Choice, is_over, is_none_left, side_begins, side_holds, side_next, next_mail}
 use Rattle.life_model.specs.of_state_model.Stated.{Service}
-use Rattle.segment_model.specs.Ends.{Passing}
+use Rattle.life_model.specs.of_segment_model.Ends.{Passing}
 use Rattle.life_model.specs.Lives
 use Rattle.life_model.specs.Lives.{Era, Life, era_next, life_next, passing_begins}
 use Rattle.life_model.specs.of_state_model.Accounts.{Account, Duty, Pick, mails_choice, account_begins, account_next, is_free, is_acknowledged, starts, state_begins}

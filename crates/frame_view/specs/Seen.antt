@@ -1,12 +1,12 @@
 -- The frame of octets as a session sees it: a function of the octets and of the lengths of the mailboxes at each station.
 use Rattle.std.specs.Prelude.{ℕ, ◌+◌, List, [], map, take, drop, Result, Ok, Err}
-use Rattle.datagrams.specs.declared.frame.Frame.{Frame}
-use Rattle.datagrams.specs.declared.frame.FrameFault.{FrameFault}
-use Rattle.datagrams.specs.declared.frame.Part.{Part}
-use Rattle.datagrams.specs.Datagram as Raw
-use Rattle.datagrams.specs.Frame.{frame_read}
+use Rattle.al_state.specs.of_datagrams.declared.frame.Frame.{Frame}
+use Rattle.al_state.specs.of_datagrams.declared.frame.FrameFault.{FrameFault}
+use Rattle.al_state.specs.of_datagrams.declared.frame.Part.{Part}
+use Rattle.al_state.specs.of_datagrams.Datagram as Raw
+use Rattle.al_state.specs.of_datagrams.Frame.{frame_read}
 use Rattle.link_mails.specs.Body.{Body}
-use Rattle.segment_model.specs.Slaves.{Datagram}
+use Rattle.life_model.specs.of_segment_model.Slaves.{Datagram}
 use Rattle.frame_view.specs.View.{Lens, head_seen, datagram_seen, station_of}
 
 -- a datagram at its place

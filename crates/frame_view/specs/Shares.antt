@@ -5,8 +5,8 @@ use Rattle.life_model.specs.of_exchange_model.Exchange.{Speech}
 use Rattle.frame_view.specs.View.{Lens}
 use Rattle.frame_view.specs.Seen.{datagrams_seen}
 use Rattle.link_mails.specs.Body.{Body}
-use Rattle.segment_model.specs.Slaves.{Datagram, Found}
-use Rattle.segment_model.specs.Record.{News}
+use Rattle.life_model.specs.of_segment_model.Slaves.{Datagram, Found}
+use Rattle.life_model.specs.of_segment_model.Record.{News}
 use Rattle.life_model.specs.of_state_model.Accounts.{Pick}
 use Rattle.life_model.specs.Lives.{Spot, Stand, Life, AsksOpen, life_next, life_back, life_lost, gives_up}
 use Rattle.life_model.specs.Tours.{item_at}

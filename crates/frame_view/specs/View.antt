@@ -1,15 +1,15 @@
 -- A datagram of octets as a session sees it.
 use Rattle.std.specs.Prelude.{ℕ, ◌-◌, ◌==◌, ◌&&◌, nat_le, nat_lt, not, Bool, false, if◌then◌else◌, Option, Some, None, List, length, slice_index}
-use Rattle.datagrams.specs.of_ec_fields.Fields.{number_at, bits_of}
-use Rattle.datagrams.specs.declared.command.Command.{Command}
-use Rattle.datagrams.specs.declared.command.Command.TheVariants.{Aprd, Apwr, Aprw, Fprd, Fpwr, Fprw}
-use Rattle.datagrams.specs.declared.head.Head.{Head}
-use Rattle.datagrams.specs.Datagram as Raw
+use Rattle.al_state.specs.of_ec_fields.Fields.{number_at, bits_of}
+use Rattle.al_state.specs.of_datagrams.declared.command.Command.{Command}
+use Rattle.al_state.specs.of_datagrams.declared.command.Command.TheVariants.{Aprd, Apwr, Aprw, Fprd, Fpwr, Fprw}
+use Rattle.al_state.specs.of_datagrams.declared.head.Head.{Head}
+use Rattle.al_state.specs.of_datagrams.Datagram as Raw
 use Rattle.link_mails.specs.of_mailbox_mail.Mail.{mail_read}
-use Rattle.segment_model.specs.of_link_model.Mails.{LinkMail}
-use Rattle.segment_model.specs.of_link_model.Frames.{Ask}
+use Rattle.link_mails.specs.of_link_model.Mails.{LinkMail}
+use Rattle.link_mails.specs.of_link_model.Frames.{Ask}
 use Rattle.link_mails.specs.Body.{Body, link_read, mail_brought, bit_1}
-use Rattle.segment_model.specs.Slaves.{Address, Access, Found, Datagram}
+use Rattle.life_model.specs.of_segment_model.Slaves.{Address, Access, Found, Datagram}
 
 -- the lengths of a slave's mailboxes
 pub record Lens : Type 0 where

@@ -6,8 +6,8 @@
 pub mod life_frames;
 
 ghost use Rattle.std.specs.Prelude.{◌≡◌, ℕ, List, map};
-ghost use Rattle.datagrams.specs.Datagram as Raw;
-ghost use Rattle.datagrams.specs.Frame.{IsFrame, chained};
+ghost use Rattle.al_state.specs.of_datagrams.Datagram as Raw;
+ghost use Rattle.al_state.specs.of_datagrams.Frame.{IsFrame, chained};
 ghost use Rattle.frame_view.specs.View.{Lens, datagram_seen};
 ghost use Rattle.frame_view.specs.Seen.{seen};
 

@@ -3,17 +3,17 @@ use Rattle.std.proofs.Common.{◌≡◌, ℕ, ◌+◌, ◌%◌, ◌<◌, ◌==�
 use Rattle.std.specs.Prelude.{if◌then◌else◌, slice_index}
 use Rattle.std.proofs.lemmas.Bool.{eq-eqb, and_parts}
 use Rattle.std.proofs.Math.Bool.{and-true}
-use Rattle.datagrams.specs.declared.command.Command.TheVariants.{Fprd, Fpwr}
-use Rattle.datagrams.specs.declared.command.Command.{Command}
-use Rattle.datagrams.specs.Datagram as Raw
+use Rattle.slave_node.specs.of_datagrams.declared.command.Command.TheVariants.{Fprd, Fpwr}
+use Rattle.slave_node.specs.of_datagrams.declared.command.Command.{Command}
+use Rattle.slave_node.specs.of_datagrams.Datagram as Raw
 use Rattle.slave_node.specs.of_esc_registers.declared.registers.Registers.{Registers}
 use Rattle.slave_node.specs.of_esc_registers.Access.{Passed}
 use Rattle.slave_node.specs.of_esc_registers.Manager.{is_right, is_enabled}
 use Rattle.slave_node.specs.of_esc_registers.Registers.{are_areas_right}
 use Rattle.slave_node.specs.Passing.{passed}
-use Rattle.link_mails.specs.Body.{Body, bit_1}
-use Rattle.mailbox_slave.specs.Kept.{Kept}
-use Rattle.segment_model.specs.Slaves.{Serving}
+use Rattle.frame_view.specs.of_link_mails.Body.{Body, bit_1}
+use Rattle.slave_node.specs.of_mailbox_slave.Kept.{Kept}
+use Rattle.frame_view.specs.of_segment_model.Slaves.{Serving}
 use Rattle.frame_view.specs.View.{Lens}
 use Rattle.frames_seen.specs.Slaves.{IsOpen}
 use Rattle.frames_seen.specs.Met.{IsMet}

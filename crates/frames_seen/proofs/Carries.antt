@@ -1,13 +1,13 @@
 -- What the slave's AL state machine does with a control word is what the model carries out.
 use Rattle.std.proofs.Common.{◌≡◌, ◌≢◌, ℕ, ◌==◌, ◌&&◌, Bool, true, false, not, Option, Some, None, refl, ap, sym, ◌∙◌, subst, arith, if◌then◌else◌}
 use Rattle.std.proofs.lemmas.Bool.Decides.{nat_tests}
-use Rattle.ec_fields.specs.Fields.{bits_of}
-use Rattle.al_state.specs.declared.machine.Al.{Al}
-use Rattle.al_state.specs.declared.machine.Asked.{Asked}
-use Rattle.al_state.specs.declared.machine.Asked.TheVariants.{Ignored}
-use Rattle.al_state.specs.Request.{refusal_of, carried, request_of}
-use Rattle.segment_model.specs.Slaves.{Registers}
-use Rattle.state_model.specs.States.{carry, word_carried, decided}
+use Rattle.frame_view.specs.of_ec_fields.Fields.{bits_of}
+use Rattle.slave_node.specs.of_al_state.declared.machine.Al.{Al}
+use Rattle.slave_node.specs.of_al_state.declared.machine.Asked.{Asked}
+use Rattle.slave_node.specs.of_al_state.declared.machine.Asked.TheVariants.{Ignored}
+use Rattle.slave_node.specs.of_al_state.Request.{refusal_of, carried, request_of}
+use Rattle.frame_view.specs.of_segment_model.Slaves.{Registers}
+use Rattle.frame_view.specs.of_state_model.States.{carry, word_carried, decided}
 use Rattle.frames_seen.specs.Shows.{Shows, slave_table, error_of, word_seen}
 use Rattle.frames_seen.proofs.Tables.{coded}
 

@@ -1,12 +1,12 @@
 -- A WHOLE FRAME at an open slave, and the octets of one.
 use Rattle.std.proofs.Common.{ℕ, List, [], ◌∷◌, refl, ap, sym, ◌∙◌, subst}
-use Rattle.datagrams.specs.Datagram as Raw
-use Rattle.datagrams.specs.Frame.{IsFrame}
+use Rattle.slave_node.specs.of_datagrams.Datagram as Raw
+use Rattle.slave_node.specs.of_datagrams.Frame.{IsFrame}
 use Rattle.slave_node.specs.of_esc_registers.declared.registers.Registers.{Registers}
 use Rattle.slave_node.specs.Passing.{passed, datagrams_after, IsPassed}
-use Rattle.link_mails.specs.Body.{Body}
-use Rattle.mailbox_slave.specs.Kept.{Kept}
-use Rattle.segment_model.specs.Slaves.{Serving, slave_after, frame_after, slave_meets}
+use Rattle.frame_view.specs.of_link_mails.Body.{Body}
+use Rattle.slave_node.specs.of_mailbox_slave.Kept.{Kept}
+use Rattle.frame_view.specs.of_segment_model.Slaves.{Serving, slave_after, frame_after, slave_meets}
 use Rattle.frame_view.specs.View.{Lens, datagram_seen}
 use Rattle.frame_view.specs.Seen.{datagrams_seen}
 use Rattle.frames_seen.specs.Slaves.{slave_of, IsOpen}

@@ -2,10 +2,10 @@
 use Rattle.std.proofs.Common.{◌≡◌, ◌⊎◌, inl, inr, ℕ, suc, ◌+◌, ◌-◌, ◌%◌, ◌<◌, ◌≤◌, ◌==◌, Bool, true, false, List, ◌∷◌, ◌++◌, refl, ap, sym, subst, ◌∙◌, arith}
 use Rattle.std.specs.Prelude.{if◌then◌else◌, nat_le}
 use Rattle.std.proofs.lemmas.Bool.{eq-eqb, eqb-true, eqb-false, ne_eqb, le-leb, lt-leb}
-use Rattle.segment_model.specs.Slaves.{Address, Registers, is_meant, address_behind}
+use Rattle.frame_view.specs.of_segment_model.Slaves.{Address, Registers, is_meant, address_behind}
 use Rattle.frame_view.specs.View.{place_of}
 use Rattle.byteorder.specs.Endian.{little_bytes}
-use Rattle.ec_fields.specs.Fields.{number_at}
+use Rattle.frame_view.specs.of_ec_fields.Fields.{number_at}
 
 pub counted_is : (c : ℕ) → c + 1 < 65536 → (c + 1) % 65536 ≡ suc c
 counted_is c room = omega arith

@@ -3,16 +3,16 @@ use Rattle.std.proofs.Common.{◌≡◌, ◌⊎◌, inl, inr, ℕ, ◌+◌, ◌%
 use Rattle.std.specs.Prelude.{slice_index}
 use Rattle.std.proofs.lemmas.Bool.{eq-eqb, eqb-true, or_cases, and_parts, not-true, cases_Bool}
 use Rattle.byteorder.specs.Endian.{little_bytes}
-use Rattle.datagrams.specs.declared.command.Command.TheVariants.{Aprd, Apwr, Aprw, Fprd, Fpwr, Fprw}
-use Rattle.datagrams.specs.declared.command.Command.{Command}
-use Rattle.datagrams.specs.Datagram as Raw
+use Rattle.slave_node.specs.of_datagrams.declared.command.Command.TheVariants.{Aprd, Apwr, Aprw, Fprd, Fpwr, Fprw}
+use Rattle.slave_node.specs.of_datagrams.declared.command.Command.{Command}
+use Rattle.slave_node.specs.of_datagrams.Datagram as Raw
 use Rattle.slave_node.specs.of_esc_registers.declared.registers.Registers.{Registers}
 use Rattle.slave_node.specs.of_esc_registers.Access.{Passed}
 use Rattle.slave_node.specs.of_esc_registers.Manager.{is_enabled}
-use Rattle.link_model.specs.Frames.{Ask}
-use Rattle.link_mails.specs.Body.{Body}
-use Rattle.mailbox_slave.specs.Kept.{Kept}
-use Rattle.segment_model.specs.Slaves.{Serving, Address, Access}
+use Rattle.frame_view.specs.of_link_model.Frames.{Ask}
+use Rattle.frame_view.specs.of_link_mails.Body.{Body}
+use Rattle.slave_node.specs.of_mailbox_slave.Kept.{Kept}
+use Rattle.frame_view.specs.of_segment_model.Slaves.{Serving, Address, Access}
 use Rattle.frame_view.specs.View.{Lens, asking, place_of, read_access, write_access}
 use Rattle.frames_seen.specs.Slaves.{registers_seen, IsOpen}
 use Rattle.frames_seen.specs.Spoken.{IsSpoken}

@@ -1,15 +1,15 @@
 -- A datagram that asks nothing of the link, at a slave that it means.
 use Rattle.std.proofs.Common.{◌≡◌, ℕ, ◌==◌, true, false, List, refl, ap, sym, subst, ◌∙◌}
 use Rattle.std.specs.Prelude.{if◌then◌else◌, None}
-use Rattle.link_model.specs.Frames.{Ask}
-use Rattle.link_mails.specs.Body.{Body}
-use Rattle.segment_model.specs.Slaves.{Slave, Address, Access, is_meant, address_behind, registers_met, counter_met, found_met, slave_meets, datagram_meets, Serving}
-use Rattle.datagrams.specs.Datagram as Raw
+use Rattle.frame_view.specs.of_link_model.Frames.{Ask}
+use Rattle.frame_view.specs.of_link_mails.Body.{Body}
+use Rattle.frame_view.specs.of_segment_model.Slaves.{Slave, Address, Access, is_meant, address_behind, registers_met, counter_met, found_met, slave_meets, datagram_meets, Serving}
+use Rattle.slave_node.specs.of_datagrams.Datagram as Raw
 use Rattle.slave_node.specs.of_esc_registers.declared.registers.Registers as Esc
 use Rattle.slave_node.specs.of_esc_registers.Access.{Passed}
 use Rattle.slave_node.specs.Passing.{passed}
-use Rattle.mailbox_slave.specs.Kept.{Kept}
-use Rattle.mailbox_slave.specs.Node.{node_of}
+use Rattle.slave_node.specs.of_mailbox_slave.Kept.{Kept}
+use Rattle.slave_node.specs.of_mailbox_slave.Node.{node_of}
 use Rattle.frame_view.specs.View.{Lens, asking, register_counter, found_of, datagram_seen}
 use Rattle.frames_seen.specs.Slaves.{slave_of, registers_seen, IsOpen}
 use Rattle.frames_seen.specs.Met.{IsMetAs, IsMet, behind}

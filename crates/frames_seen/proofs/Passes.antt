@@ -1,15 +1,15 @@
 -- A FRAME OF OCTETS passes: its datagrams do, one behind the other.
 use Rattle.std.proofs.Common.{◌≡◌, ℕ, ◌+◌, List, [], ◌∷◌, ◌++◌, length, take, drop, Result, Ok, Err, refl, ap, sym, ◌∙◌, subst, arith, append_assoc, length-append}
-use Rattle.datagrams.specs.declared.frame.Frame.{Frame}
-use Rattle.datagrams.specs.declared.frame.FrameFault.{FrameFault}
-use Rattle.datagrams.specs.declared.frame.Part.{Part}
-use Rattle.datagrams.specs.Datagram as Raw
-use Rattle.datagrams.specs.Datagram.{datagram_text, size_of}
-use Rattle.datagrams.specs.Frame.{IsFrame, text_of, parts_of, frame_read, octets_set}
-use Rattle.datagrams.proofs.Building.{text_of-append}
-use Rattle.datagrams.proofs.Changing.{IsFrame-set}
-use Rattle.datagrams.proofs.Header.{frame_read-only}
-use Rattle.datagrams.proofs.Spelled.{length-datagram_text}
+use Rattle.slave_node.specs.of_datagrams.declared.frame.Frame.{Frame}
+use Rattle.slave_node.specs.of_datagrams.declared.frame.FrameFault.{FrameFault}
+use Rattle.slave_node.specs.of_datagrams.declared.frame.Part.{Part}
+use Rattle.slave_node.specs.of_datagrams.Datagram as Raw
+use Rattle.slave_node.specs.of_datagrams.Datagram.{datagram_text, size_of}
+use Rattle.slave_node.specs.of_datagrams.Frame.{IsFrame, text_of, parts_of, frame_read, octets_set}
+use Rattle.slave_node.proofs.of_datagrams.Building.{text_of-append}
+use Rattle.slave_node.proofs.of_datagrams.Changing.{IsFrame-set}
+use Rattle.slave_node.proofs.of_datagrams.Header.{frame_read-only}
+use Rattle.slave_node.proofs.of_datagrams.Spelled.{length-datagram_text}
 use Rattle.slave_node.specs.of_esc_registers.declared.registers.Registers as Esc
 use Rattle.slave_node.specs.of_esc_registers.Access.{access}
 use Rattle.slave_node.specs.Passing.{passed, datagram_after, registers_after, datagrams_after, replaced, part_passed, parts_passed, passed_as, frame_passed, IsPassed}

@@ -2,16 +2,16 @@
 use Rattle.std.proofs.Common.{◌≡◌, ℕ, suc, ◌+◌, ◌-◌, ◌%◌, ◌<◌, ◌==◌, Bool, true, false, List, [], ◌∷◌, length, refl, ap, sym, ◌∙◌, subst, arith}
 use Rattle.std.specs.Prelude.{if◌then◌else◌, Option, Some, None}
 use Rattle.std.proofs.lemmas.Bool.{ne_eqb, eqb-false}
-use Rattle.datagrams.specs.declared.command.Command.{Command}
-use Rattle.datagrams.specs.declared.command.Command.TheVariants.{Aprd, Apwr, Aprw}
-use Rattle.datagrams.specs.Datagram as Raw
+use Rattle.slave_node.specs.of_datagrams.declared.command.Command.{Command}
+use Rattle.slave_node.specs.of_datagrams.declared.command.Command.TheVariants.{Aprd, Apwr, Aprw}
+use Rattle.slave_node.specs.of_datagrams.Datagram as Raw
 use Rattle.slave_node.specs.of_esc_registers.declared.registers.Registers as Esc
 use Rattle.slave_node.specs.of_esc_registers.declared.row.Row.{Row}
 use Rattle.slave_node.specs.of_esc_registers.Access.{passed_at, row_of}
 use Rattle.slave_node.specs.Passing.{passed, datagram_after, datagrams_after}
-use Rattle.link_mails.specs.Body.{Body}
-use Rattle.mailbox_slave.specs.Kept.{Kept}
-use Rattle.segment_model.specs.Slaves.{Serving}
+use Rattle.frame_view.specs.of_link_mails.Body.{Body}
+use Rattle.slave_node.specs.of_mailbox_slave.Kept.{Kept}
+use Rattle.frame_view.specs.of_segment_model.Slaves.{Serving}
 use Rattle.frame_view.specs.View.{Lens}
 use Rattle.frames_seen.specs.Slaves.{IsOpen}
 use Rattle.frames_seen.specs.Spoken.{means, AllSpoken}

@@ -1,17 +1,17 @@
 -- Datagrams that change nothing at an open slave.
 use Rattle.std.proofs.Common.{◌≡◌, ℕ, ◌+◌, ◌%◌, ◌==◌, ◌&&◌, Bool, true, false, List, length, refl, ap, ap₂}
 use Rattle.std.specs.Prelude.{if◌then◌else◌, Option, Some, None}
-use Rattle.datagrams.specs.declared.command.Command.TheVariants.{Aprd, Apwr, Fprd, Fpwr}
-use Rattle.datagrams.specs.Datagram as Raw
+use Rattle.slave_node.specs.of_datagrams.declared.command.Command.TheVariants.{Aprd, Apwr, Fprd, Fpwr}
+use Rattle.slave_node.specs.of_datagrams.Datagram as Raw
 use Rattle.slave_node.specs.of_esc_registers.declared.registers.Registers.{Registers}
 use Rattle.slave_node.specs.of_esc_registers.declared.row.Row.{Row}
 use Rattle.slave_node.specs.of_esc_registers.declared.row.Row.TheVariants.{Station, AlControl, AlStatus, AlStatusAndCode, AlStatusCode, Whole, Status, Activate, PdiControl, OutArea, InArea}
 use Rattle.slave_node.specs.of_esc_registers.declared.row.Mailbox.TheVariants.{Outward, Inward}
 use Rattle.slave_node.specs.of_esc_registers.Access.{accessed, passed_by, row_of}
-use Rattle.link_model.specs.Frames.{Ask}
-use Rattle.link_mails.specs.Body.{Body}
-use Rattle.mailbox_slave.specs.Kept.{Kept}
-use Rattle.segment_model.specs.Slaves.{Serving, Address, Access}
+use Rattle.frame_view.specs.of_link_model.Frames.{Ask}
+use Rattle.frame_view.specs.of_link_mails.Body.{Body}
+use Rattle.slave_node.specs.of_mailbox_slave.Kept.{Kept}
+use Rattle.frame_view.specs.of_segment_model.Slaves.{Serving, Address, Access}
 use Rattle.frame_view.specs.View.{Lens, asking, read_ask, read_access, write_ask, write_access}
 use Rattle.frames_seen.specs.Slaves.{IsOpen}
 use Rattle.frames_seen.specs.Met.{IsMet}

@@ -1,27 +1,27 @@
 -- A FRAME THROUGH A RING: each slave, whatever its registers, leaves of a datagram what it asks, whom it means by station, and its length.
 use Rattle.std.proofs.Common.{◌≡◌, ℕ, ◌+◌, ◌-◌, ◌%◌, ◌==◌, Bool, true, false, List, [], ◌∷◌, length, Option, Some, None, refl, ap, sym, ◌∙◌, subst}
 use Rattle.std.specs.Prelude.{if◌then◌else◌, nat_le, unwrap_or}
-use Rattle.datagrams.specs.declared.command.Command.{Command}
-use Rattle.datagrams.specs.declared.head.Head.{Head}
-use Rattle.datagrams.specs.Datagram as Raw
-use Rattle.datagrams.specs.Frame.{IsFrame}
-use Rattle.esc_registers.specs.declared.registers.Registers as Esc
-use Rattle.esc_registers.specs.declared.row.Row.{Row}
-use Rattle.esc_registers.specs.Access.{reads, is_by_place, is_meant, row_of, read_row, moved_on, passed_at, access}
+use Rattle.slave_node.specs.of_datagrams.declared.command.Command.{Command}
+use Rattle.slave_node.specs.of_datagrams.declared.head.Head.{Head}
+use Rattle.slave_node.specs.of_datagrams.Datagram as Raw
+use Rattle.slave_node.specs.of_datagrams.Frame.{IsFrame}
+use Rattle.slave_node.specs.of_esc_registers.declared.registers.Registers as Esc
+use Rattle.slave_node.specs.of_esc_registers.declared.row.Row.{Row}
+use Rattle.slave_node.specs.of_esc_registers.Access.{reads, is_by_place, is_meant, row_of, read_row, moved_on, passed_at, access}
 use Rattle.slave_node.specs.Passing.{passed, datagram_after, datagrams_after, frame_passed}
 use Rattle.frame_view.specs.View.{Lens, datagram_seen, asking, ask_of, access_of, station_of, address_of, place_of, read_ask, read_access}
 use Rattle.frame_view.specs.Seen.{seen, datagrams_seen}
 use Rattle.frame_view.proofs.Octets.{seen_is}
 use Rattle.frames_seen.proofs.Passes.{passes}
 use Rattle.frames_seen.proofs.Rows.{access_len}
-use Rattle.link_mails.specs.Body.{Body}
-use Rattle.segment_model.specs.Record.{is_for}
-use Rattle.segment_model.specs.Returned.{IsReturn, Returns}
-use Rattle.segment_model.specs.Slaves.{Datagram, Address}
-use Rattle.segment_ring.specs.declared.wire.Fate.{Fate}
-use Rattle.segment_ring.specs.declared.wire.Fate.TheVariants.{Pass}
-use Rattle.segment_ring.specs.Ring.{RingState, nodes_passed, frame_met, ring_returned}
-use Rattle.segment_ring.specs.Schedule.{fate_at}
+use Rattle.frame_view.specs.of_link_mails.Body.{Body}
+use Rattle.frame_view.specs.of_segment_model.Record.{is_for}
+use Rattle.frame_view.specs.of_segment_model.Returned.{IsReturn, Returns}
+use Rattle.frame_view.specs.of_segment_model.Slaves.{Datagram, Address}
+use Rattle.slave_node.specs.of_segment_ring.declared.wire.Fate.{Fate}
+use Rattle.slave_node.specs.of_segment_ring.declared.wire.Fate.TheVariants.{Pass}
+use Rattle.slave_node.specs.of_segment_ring.Ring.{RingState, nodes_passed, frame_met, ring_returned}
+use Rattle.slave_node.specs.of_segment_ring.Schedule.{fate_at}
 use Rattle.slave_node.specs.Node.{Node, node_passed}
 
 -- a datagram by place is addressed to no station

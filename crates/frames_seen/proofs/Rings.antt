@@ -1,15 +1,15 @@
 -- A RING: one open slave has of a frame its own datagrams, untouched by the others.
 use Rattle.std.proofs.Common.{◌≡◌, ℕ, ◌==◌, Bool, true, false, List, [], ◌∷◌, refl, ap, sym, ◌∙◌, subst}
 use Rattle.std.specs.Prelude.{if◌then◌else◌, Option, Some, None}
-use Rattle.datagrams.specs.Datagram as Raw
+use Rattle.slave_node.specs.of_datagrams.Datagram as Raw
 use Rattle.slave_node.specs.of_esc_registers.declared.registers.Registers as Esc
 use Rattle.slave_node.specs.Passing.{datagrams_after}
-use Rattle.link_mails.specs.Body.{Body}
-use Rattle.link_model.specs.Mails.{LinkMail}
-use Rattle.link_model.specs.Slave.{Node}
-use Rattle.link_model.specs.Frames.{Ask, Gram, gram_meets, write_done, read_done}
-use Rattle.mailbox_slave.specs.Kept.{Kept}
-use Rattle.segment_model.specs.Slaves.{Slave, Serving, Datagram, slave_meets, datagram_meets, slave_after, frame_after}
+use Rattle.frame_view.specs.of_link_mails.Body.{Body}
+use Rattle.frame_view.specs.of_link_model.Mails.{LinkMail}
+use Rattle.frame_view.specs.of_link_model.Slave.{Node}
+use Rattle.frame_view.specs.of_link_model.Frames.{Ask, Gram, gram_meets, write_done, read_done}
+use Rattle.slave_node.specs.of_mailbox_slave.Kept.{Kept}
+use Rattle.frame_view.specs.of_segment_model.Slaves.{Slave, Serving, Datagram, slave_meets, datagram_meets, slave_after, frame_after}
 use Rattle.frame_view.specs.View.{Lens}
 use Rattle.frame_view.specs.Seen.{datagrams_seen}
 use Rattle.frames_seen.specs.Slaves.{slave_of, IsOpen}

@@ -2,7 +2,7 @@
 use Rattle.std.proofs.Common.{◌≡◌, ℕ, ◌+◌, ◌%◌, ◌<◌, ◌==◌, ◌&&◌, Bool, true, false, not, List, [], ◌∷◌, ◌++◌, length, refl, ap, sym, ◌∙◌, subst, arith}
 use Rattle.std.specs.Prelude.{Option, Some, None, if◌then◌else◌, is_some, unwrap_or}
 use Rattle.std.proofs.lemmas.Bool.{eqb-true, and_parts}
-use Rattle.datagrams.specs.declared.head.Head.{Head}
+use Rattle.slave_node.specs.of_datagrams.declared.head.Head.{Head}
 use Rattle.slave_node.specs.of_esc_registers.declared.registers.Registers as Esc
 use Rattle.slave_node.specs.of_esc_registers.declared.row.Row.{Row}
 use Rattle.slave_node.specs.of_esc_registers.declared.row.Row.TheVariants.{Station, AlControl, AlStatus, AlStatusAndCode, AlStatusCode, Whole, Status, Activate, PdiControl, OutArea, InArea}

@@ -1,8 +1,8 @@
 -- The slave's table of changes is one of which the laws of state services speak, and none of its codes is 0.
 use Rattle.std.proofs.Common.{◌≡◌, ◌≢◌, ℕ, ◌==◌, ◌&&◌, ◌||◌, Bool, true, false, not, Option, Some, None, refl, ap, ◌∙◌, arith, if◌then◌else◌}
 use Rattle.std.proofs.lemmas.Bool.Decides.{nat_tests}
-use Rattle.al_state.specs.Request.{is_state, is_change, refusal_of}
-use Rattle.state_model.specs.Promises.{IsTable}
+use Rattle.slave_node.specs.of_al_state.Request.{is_state, is_change, refusal_of}
+use Rattle.frame_view.specs.of_state_model.Promises.{IsTable}
 use Rattle.frames_seen.specs.Shows.{slave_table}
 
 abbrev pub answer : Bool → Bool → Bool → Bool → Bool → Option ℕ

@@ -3,16 +3,16 @@ use Rattle.std.proofs.Common.{◌≡◌, ℕ, ◌+◌, ◌%◌, ◌<◌, ◌==�
 use Rattle.std.specs.Prelude.{if◌then◌else◌, Option, Some, None, is_some}
 use Rattle.std.proofs.lemmas.Bool.{lt-ltb}
 use Rattle.byteorder.specs.Endian.{little_bytes}
-use Rattle.ec_fields.specs.Fields.{number_at, bits_of}
-use Rattle.datagrams.specs.declared.command.Command.TheVariants.{Aprd, Apwr, Fprd, Fpwr}
-use Rattle.datagrams.specs.Datagram as Raw
+use Rattle.frame_view.specs.of_ec_fields.Fields.{number_at, bits_of}
+use Rattle.slave_node.specs.of_datagrams.declared.command.Command.TheVariants.{Aprd, Apwr, Fprd, Fpwr}
+use Rattle.slave_node.specs.of_datagrams.Datagram as Raw
 use Rattle.slave_node.specs.of_esc_registers.declared.registers.Registers.{Registers}
 use Rattle.slave_node.specs.of_esc_registers.Access.{Passed}
 use Rattle.slave_node.specs.of_esc_registers.Manager.{status_of}
 use Rattle.slave_node.specs.Passing.{passed}
-use Rattle.link_mails.specs.Body.{Body}
-use Rattle.mailbox_slave.specs.Kept.{Kept}
-use Rattle.segment_model.specs.Slaves.{Serving, Address, Access, Found, found_met}
+use Rattle.frame_view.specs.of_link_mails.Body.{Body}
+use Rattle.slave_node.specs.of_mailbox_slave.Kept.{Kept}
+use Rattle.frame_view.specs.of_segment_model.Slaves.{Serving, Address, Access, Found, found_met}
 use Rattle.frame_view.specs.View.{Lens, found_of}
 use Rattle.frames_seen.specs.Slaves.{slave_of, IsOpen}
 use Rattle.frames_seen.specs.Met.{IsMet}

@@ -1,12 +1,12 @@
 -- A frame of 60 octets with the write of a mail of 8 octets to station 4097, and the read of mailbox 1 behind a slave, as they are seen.
 use Rattle.std.proofs.Common.{◌≡◌, ℕ, false, List, [], ◌∷◌, refl}
 use Rattle.std.specs.Prelude.{Ok}
-use Rattle.datagrams.specs.declared.command.Command.TheVariants.{Fpwr}
-use Rattle.datagrams.specs.Datagram as Raw
-use Rattle.datagrams.specs.Frame.{frame_text}
-use Rattle.mailbox_mail.specs.declared.mail.Kind.TheVariants.{CoE}
-use Rattle.link_model.specs.Frames.{Ask}
-use Rattle.segment_model.specs.Slaves.{Address, Access}
+use Rattle.slave_node.specs.of_datagrams.declared.command.Command.TheVariants.{Fpwr}
+use Rattle.slave_node.specs.of_datagrams.Datagram as Raw
+use Rattle.slave_node.specs.of_datagrams.Frame.{frame_text}
+use Rattle.frame_view.specs.of_mailbox_mail.declared.mail.Kind.TheVariants.{CoE}
+use Rattle.frame_view.specs.of_link_model.Frames.{Ask}
+use Rattle.frame_view.specs.of_segment_model.Slaves.{Address, Access}
 use Rattle.frame_view.specs.View.{Lens, asking}
 use Rattle.frame_view.specs.Seen.{seen}
 

@@ -1,11 +1,11 @@
 -- A frame at an open slave, as the session has it.
 use Rattle.std.specs.Prelude.{◌≡◌, ℕ, List}
-use Rattle.datagrams.specs.Datagram as Raw
+use Rattle.slave_node.specs.of_datagrams.Datagram as Raw
 use Rattle.slave_node.specs.of_esc_registers.declared.registers.Registers as Esc
 use Rattle.slave_node.specs.Passing.{registers_after, datagrams_after}
-use Rattle.link_mails.specs.Body.{Body}
-use Rattle.mailbox_slave.specs.Kept.{Kept}
-use Rattle.segment_model.specs.Slaves.{Serving, slave_after, frame_after}
+use Rattle.frame_view.specs.of_link_mails.Body.{Body}
+use Rattle.slave_node.specs.of_mailbox_slave.Kept.{Kept}
+use Rattle.frame_view.specs.of_segment_model.Slaves.{Serving, slave_after, frame_after}
 use Rattle.frame_view.specs.View.{Lens}
 use Rattle.frame_view.specs.Seen.{seen, datagrams_seen}
 use Rattle.frames_seen.specs.Slaves.{slave_of, IsOpen}

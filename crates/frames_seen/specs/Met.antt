@@ -1,12 +1,12 @@
 -- A datagram at an open slave, as the session has it.
 use Rattle.std.specs.Prelude.{◌≡◌, ℕ}
-use Rattle.datagrams.specs.Datagram as Raw
+use Rattle.slave_node.specs.of_datagrams.Datagram as Raw
 use Rattle.slave_node.specs.of_esc_registers.declared.registers.Registers as Esc
 use Rattle.slave_node.specs.of_esc_registers.Access.{Passed}
 use Rattle.slave_node.specs.Passing.{passed}
-use Rattle.link_mails.specs.Body.{Body}
-use Rattle.mailbox_slave.specs.Kept.{Kept}
-use Rattle.segment_model.specs.Slaves.{Serving, datagram_meets, slave_meets}
+use Rattle.frame_view.specs.of_link_mails.Body.{Body}
+use Rattle.slave_node.specs.of_mailbox_slave.Kept.{Kept}
+use Rattle.frame_view.specs.of_segment_model.Slaves.{Serving, datagram_meets, slave_meets}
 use Rattle.frame_view.specs.View.{Lens, datagram_seen}
 use Rattle.frames_seen.specs.Slaves.{slave_of, IsOpen}
 

@@ -1,6 +1,6 @@
 -- Datagrams by place, along a ring.
 use Rattle.std.specs.Prelude.{◌≡◌, ℕ, ◌+◌, ◌-◌, ◌%◌, ◌<◌, ◌==◌, true, false, List, [], ◌∷◌, ⊤}
-use Rattle.datagrams.specs.Datagram as Raw
+use Rattle.slave_node.specs.of_datagrams.Datagram as Raw
 use Rattle.slave_node.specs.of_esc_registers.Access.{is_by_place}
 
 -- behind `passed` slaves: one by place was sent to another place than this one

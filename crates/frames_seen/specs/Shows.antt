@@ -1,10 +1,10 @@
 -- The AL state machine of a slave as the model of state services sees it.
 use Rattle.std.specs.Prelude.{◌≡◌, ◌≢◌, ℕ, ◌==◌, Bool, not, Option, Some, None}
-use Rattle.ec_fields.specs.Fields.{bits_of}
-use Rattle.al_state.specs.declared.machine.Al.{Al}
-use Rattle.al_state.specs.Request.{refusal_of}
-use Rattle.segment_model.specs.Slaves.{Registers}
-use Rattle.state_model.specs.States.{Table}
+use Rattle.frame_view.specs.of_ec_fields.Fields.{bits_of}
+use Rattle.slave_node.specs.of_al_state.declared.machine.Al.{Al}
+use Rattle.slave_node.specs.of_al_state.Request.{refusal_of}
+use Rattle.frame_view.specs.of_segment_model.Slaves.{Registers}
+use Rattle.frame_view.specs.of_state_model.States.{Table}
 
 -- what a slave answers to a change, with Bootstrap or without, and with its mailbox sync managers right or not
 abbrev pub slave_table : Bool → Bool → Table

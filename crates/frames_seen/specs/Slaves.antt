@@ -1,15 +1,15 @@
 -- A slave's registers and box as a session sees them.
 use Rattle.std.specs.Prelude.{◌≡◌, ℕ, ◌<◌, ◌==◌, not, true, if◌then◌else◌, Some, None, length, Ok}
-use Rattle.ec_fields.specs.Fields.{bits_of}
+use Rattle.frame_view.specs.of_ec_fields.Fields.{bits_of}
 use Rattle.slave_node.specs.of_esc_registers.Manager.{is_right}
 use Rattle.slave_node.specs.of_esc_registers.Registers.{are_areas_right}
 use Rattle.slave_node.specs.of_esc_registers.declared.registers.Registers as Esc
-use Rattle.mailbox_mail.specs.declared.mail.Mail.{Mail}
-use Rattle.mailbox_mail.specs.Mail.{mail_read}
-use Rattle.mailbox_slave.specs.Kept.{Kept}
-use Rattle.mailbox_slave.specs.Node.{node_of}
-use Rattle.link_mails.specs.Body.{Body}
-use Rattle.segment_model.specs.Slaves.{Registers, Slave, Serving}
+use Rattle.frame_view.specs.of_mailbox_mail.declared.mail.Mail.{Mail}
+use Rattle.frame_view.specs.of_mailbox_mail.Mail.{mail_read}
+use Rattle.slave_node.specs.of_mailbox_slave.Kept.{Kept}
+use Rattle.slave_node.specs.of_mailbox_slave.Node.{node_of}
+use Rattle.frame_view.specs.of_link_mails.Body.{Body}
+use Rattle.frame_view.specs.of_segment_model.Slaves.{Registers, Slave, Serving}
 use Rattle.frame_view.specs.View.{Lens}
 
 -- the registers of a slave as a session sees them

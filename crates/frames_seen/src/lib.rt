@@ -7,13 +7,13 @@ pub mod ring_returns;
 pub mod state_law;
 
 ghost use Rattle.std.specs.Prelude.{◌≡◌, ◌<◌, ◌==◌, ℕ, List, false, ◌+◌, length};
-ghost use Rattle.datagrams.specs.Datagram as Raw;
-ghost use Rattle.datagrams.specs.Frame.{IsFrame};
+ghost use Rattle.slave_node.specs.of_datagrams.Datagram as Raw;
+ghost use Rattle.slave_node.specs.of_datagrams.Frame.{IsFrame};
 ghost use Rattle.slave_node.specs.of_esc_registers.declared.registers.Registers.{Registers};
 ghost use Rattle.slave_node.specs.Passing.{IsPassed, frame_passed, datagrams_after};
-ghost use Rattle.link_mails.specs.Body.{Body};
-ghost use Rattle.mailbox_slave.specs.Kept.{Kept};
-ghost use Rattle.segment_model.specs.Slaves.{Serving, Slave, Datagram, frame_after};
+ghost use Rattle.frame_view.specs.of_link_mails.Body.{Body};
+ghost use Rattle.slave_node.specs.of_mailbox_slave.Kept.{Kept};
+ghost use Rattle.frame_view.specs.of_segment_model.Slaves.{Serving, Slave, Datagram, frame_after};
 ghost use Rattle.frame_view.specs.View.{Lens};
 ghost use Rattle.frames_seen.specs.FrameMet.{IsFrameMet, AreOctetsMet};
 ghost use Rattle.frames_seen.specs.Kept.{FrameKeeps};

@@ -2,14 +2,14 @@
 //! a law.
 
 ghost use Rattle.std.specs.Prelude.{◌≡◌, ℕ, List};
-ghost use Rattle.datagrams.specs.Datagram as Raw;
-ghost use Rattle.datagrams.specs.Frame.{IsFrame};
+ghost use Rattle.slave_node.specs.of_datagrams.Datagram as Raw;
+ghost use Rattle.slave_node.specs.of_datagrams.Frame.{IsFrame};
 ghost use Rattle.frame_view.specs.View.{Lens};
 ghost use Rattle.frame_view.specs.Seen.{seen};
-ghost use Rattle.segment_model.specs.Returned.{Returns};
-ghost use Rattle.segment_ring.specs.declared.wire.Fate.TheVariants.{Pass};
-ghost use Rattle.segment_ring.specs.Ring.{RingState, ring_returned};
-ghost use Rattle.segment_ring.specs.Schedule.{fate_at};
+ghost use Rattle.frame_view.specs.of_segment_model.Returned.{Returns};
+ghost use Rattle.slave_node.specs.of_segment_ring.declared.wire.Fate.TheVariants.{Pass};
+ghost use Rattle.slave_node.specs.of_segment_ring.Ring.{RingState, ring_returned};
+ghost use Rattle.slave_node.specs.of_segment_ring.Schedule.{fate_at};
 ghost use Rattle.slave_node.specs.Node.{Node, node_passed};
 
 /// A FRAME THAT ISN'T LOST comes back from any ring of slaves, whatever their registers, as the return of what was sent: datagram by datagram with

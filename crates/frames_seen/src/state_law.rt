@@ -2,11 +2,11 @@
 //! states the laws.
 
 ghost use Rattle.std.specs.Prelude.{◌≡◌, ℕ, Bool, Option, Some, None};
-ghost use Rattle.al_state.specs.declared.machine.Al.{Al};
-ghost use Rattle.al_state.specs.Request.{request_of};
-ghost use Rattle.segment_model.specs.Slaves.{Registers};
-ghost use Rattle.state_model.specs.States.{carry};
-ghost use Rattle.state_model.specs.Promises.{IsTable};
+ghost use Rattle.slave_node.specs.of_al_state.declared.machine.Al.{Al};
+ghost use Rattle.slave_node.specs.of_al_state.Request.{request_of};
+ghost use Rattle.frame_view.specs.of_segment_model.Slaves.{Registers};
+ghost use Rattle.frame_view.specs.of_state_model.States.{carry};
+ghost use Rattle.frame_view.specs.of_state_model.Promises.{IsTable};
 ghost use Rattle.frames_seen.specs.Shows.{Shows, slave_table, word_seen};
 
 /// The slave's AL state machine is one of the model: its table is one of those of which the laws of state services speak, and what it does with

@@ -1,7 +1,7 @@
 -- The datagrams of the gateway (ETG.8200).
 use Rattle.std.specs.Prelude.{ℕ, ◌+◌, ◌-◌, ◌==◌, if◌then◌else◌, nat_lt, List, ◌++◌, length, take, drop, Result, Ok, Err}
 use Rattle.byteorder.specs.Endian.{little_bytes}
-use Rattle.ec_fields.specs.Fields.{number_at, bits_of}
+use Rattle.mailbox_mail.specs.of_ec_fields.Fields.{number_at, bits_of}
 use Rattle.mailbox_mail.specs.Mail.{mail_text, mail_read}
 use Rattle.mailbox_mail.specs.View.{mail_seen}
 use Rattle.mailbox_mail.specs.declared.mail.Mail.{Mail}

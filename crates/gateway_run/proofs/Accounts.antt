@@ -3,10 +3,10 @@ use Rattle.std.proofs.Common.{◌≡◌, ℕ, zero, suc, ◌<◌, ◌≤◌, Lis
 use Rattle.std.specs.Prelude.{◌≢◌, ◌==◌, ◌&&◌, not, cond, filter, find, IfSome, Contains, slice_get, slice_set, slice_index_or, Option, Some, None, All}
 use Rattle.std.proofs.lemmas.List.Elements.{All-nil, All-head, All-tail, All-push, All-filter, All-cons, filter-append}
 use Rattle.slab.specs.Slab.{Slab, get}
-use Rattle.ec_outside.specs.Port.{HeardGram}
-use Rattle.mailbox_mail.specs.Mail.{error_of}
+use Rattle.gateway_core.specs.of_ec_outside.Port.{HeardGram}
+use Rattle.gateway_core.specs.of_mailbox_mail.Mail.{error_of}
 use Rattle.gateway_core.specs.declared.asker.Asker.{Asker}
-use Rattle.run_book.specs.declared.book.GramOut.{GramOut}
+use Rattle.run_record.specs.of_run_book.declared.book.GramOut.{GramOut}
 use Rattle.gateway_run.specs.Account.{Owing, owing, is_other, is_of, waits_at, begun_first, others, elsewhere, cut_off, IsFree, Spells, AreSpelled}
 use Rattle.gateway_run.specs.Desk.{IsOpen, AreApart, AreUnlike, Owes, cut_one}
 use Rattle.gateway_run.specs.declared.desk.Request.{Request}

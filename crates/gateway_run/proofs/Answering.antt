@@ -4,22 +4,22 @@ use Rattle.std.specs.Prelude.{replicate, All}
 use Rattle.std.proofs.lemmas.List.{length-map, map-append}
 use Rattle.std.proofs.lemmas.List.Elements.{All-nil, All-cons, All-head, All-tail}
 use Rattle.run_record.specs.of_served_places.Rows.{ToldAll, passed_rows, passings, replies_of}
-use Rattle.run_record.specs.of_served_places.of_life_runs.Served.{IsServedLed, Keyed, Serves, all_serve, asked_at, new_serves}
-use Rattle.master_node.specs.Happened.{events_of as switch_events}
-use Rattle.master_node.specs.Ports.{ports_behind, ports_of}
-use Rattle.master_node.specs.of_frame_view.Shares.{AllBoth}
-use Rattle.master_node.specs.of_life_runs.First.{first_leads, leads_from, lens_of}
-use Rattle.master_node.specs.of_life_runs.Led.{Exchanged, Leads}
-use Rattle.master_node.specs.of_master_tour.Made.{is_in}
-use Rattle.master_node.specs.of_life_runs.of_segment_plan.declared.service.Service as Plan
-use Rattle.run_book.specs.declared.book.GramIn.{GramIn}
-use Rattle.run_book.specs.declared.book.SentFrame.{SentFrame}
+use Rattle.run_record.specs.of_life_runs.Served.{IsServedLed, Keyed, Serves, all_serve, asked_at, new_serves}
+use Rattle.run_record.specs.of_master_node.Happened.{events_of as switch_events}
+use Rattle.run_record.specs.of_master_node.Ports.{ports_behind, ports_of}
+use Rattle.run_record.specs.of_frame_view.Shares.{AllBoth}
+use Rattle.run_record.specs.of_life_runs.First.{first_leads, leads_from, lens_of}
+use Rattle.run_record.specs.of_life_runs.Led.{Exchanged, Leads}
+use Rattle.run_record.specs.of_master_tour.Made.{is_in}
+use Rattle.run_record.specs.of_segment_plan.declared.service.Service as Plan
+use Rattle.run_record.specs.of_run_book.declared.book.GramIn.{GramIn}
+use Rattle.run_record.specs.of_run_book.declared.book.SentFrame.{SentFrame}
 use Rattle.run_record.specs.Led.{exchanged}
 use Rattle.run_record.specs.Served.{ServingBegins}
 use Rattle.run_record.specs.Session.{SessionState, first_session, numbers_over}
-use Rattle.segment_plan.specs.Sound.{IsPlan}
-use Rattle.segment_plan.specs.declared.plan.Scenario.{Scenario}
-use Rattle.segment_plan.specs.declared.slave.SlaveSpec.{SlaveSpec}
+use Rattle.run_record.specs.of_segment_plan.Sound.{IsPlan}
+use Rattle.run_record.specs.of_segment_plan.declared.plan.Scenario.{Scenario}
+use Rattle.run_record.specs.of_segment_plan.declared.slave.SlaveSpec.{SlaveSpec}
 use Rattle.gateway_run.specs.Account.{Course, Course.begins, Course.hears, Course.steps, Owing, happened_in, left_by_all, numbers_in, owed_by_all}
 use Rattle.gateway_run.specs.Events.{events_of}
 use Rattle.gateway_run.specs.Rooms.{done_by_all}

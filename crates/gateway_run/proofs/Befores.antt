@@ -2,29 +2,29 @@
 use Rattle.std.proofs.Common.{◌≡◌, ℕ, zero, suc, ◌<◌, Bool, true, false, Option, Some, None, List, [], ◌∷◌, ◌++◌, length, length-append, map, sym, subst, arith}
 use Rattle.std.specs.Prelude.{All, if◌then◌else◌, nat_lt}
 use Rattle.std.proofs.lemmas.List.Elements.{All-nil, All-append, All-cons, All-head, All-push, All-tail, All-weaker}
-use Rattle.master_node.specs.Wants.{gave_of}
-use Rattle.master_node.specs.of_datagrams.Datagram as Raw
-use Rattle.master_node.specs.of_frame_view.View.{Lens}
-use Rattle.master_node.specs.of_frame_view.Shares.{AllBoth}
-use Rattle.master_node.specs.of_frame_view.of_exchange_model.Rows.{Row, begun}
-use Rattle.master_node.specs.of_life_runs.First.{first_leads, leads_from, lens_of}
-use Rattle.master_node.specs.of_life_runs.Led.{Exchanged, Leads, gives_up_at}
-use Rattle.master_node.specs.of_life_runs.of_link_mails.Body.{Body}
-use Rattle.master_node.specs.of_life_runs.of_segment_plan.declared.service.Service as Plan
-use Rattle.master_node.specs.of_master_duty.Reply.{Reply}
-use Rattle.master_node.specs.of_master_duty.of_state_model.Stated.{Service}
-use Rattle.master_node.specs.of_master_hand.Spoken.{Asked, is_passed}
-use Rattle.master_node.specs.of_segment_ring.declared.wire.Fate.{Fate}
-use Rattle.master_node.specs.of_segment_ring.declared.wire.Fate.TheVariants as Fates
+use Rattle.run_record.specs.of_master_node.Wants.{gave_of}
+use Rattle.run_record.specs.of_datagrams.Datagram as Raw
+use Rattle.run_record.specs.of_frame_view.View.{Lens}
+use Rattle.run_record.specs.of_frame_view.Shares.{AllBoth}
+use Rattle.run_record.specs.of_exchange_model.Rows.{Row, begun}
+use Rattle.run_record.specs.of_life_runs.First.{first_leads, leads_from, lens_of}
+use Rattle.run_record.specs.of_life_runs.Led.{Exchanged, Leads, gives_up_at}
+use Rattle.run_record.specs.of_link_mails.Body.{Body}
+use Rattle.run_record.specs.of_segment_plan.declared.service.Service as Plan
+use Rattle.run_record.specs.of_master_duty.Reply.{Reply}
+use Rattle.run_record.specs.of_state_model.Stated.{Service}
+use Rattle.run_record.specs.of_master_hand.Spoken.{Asked, is_passed}
+use Rattle.run_record.specs.of_segment_ring.declared.wire.Fate.{Fate}
+use Rattle.run_record.specs.of_segment_ring.declared.wire.Fate.TheVariants as Fates
 use Rattle.run_record.proofs.Noted.{GivesOne}
 use Rattle.run_record.proofs.ServedGaves.{one_gives}
 use Rattle.run_record.specs.Served.{ServeTo}
-use Rattle.segment_plan.specs.declared.plan.Scenario.{Scenario}
-use Rattle.segment_plan.specs.declared.slave.SlaveSpec.{SlaveSpec}
+use Rattle.run_record.specs.of_segment_plan.declared.plan.Scenario.{Scenario}
+use Rattle.run_record.specs.of_segment_plan.declared.slave.SlaveSpec.{SlaveSpec}
 use Rattle.run_record.proofs.of_served_places.Behind.{behind_stays}
 use Rattle.run_record.proofs.of_served_places.Next.{next_stays}
 use Rattle.run_record.specs.of_served_places.Rows.{Stays, passed_rows, row_begun}
-use Rattle.run_record.specs.of_served_places.of_life_runs.Served.{AllServedTurn, IsServedLed, IsServedTurn, Keyed, ServedTurn, Serves, all_serve, asked_at, new_serves, served_behind}
+use Rattle.run_record.specs.of_life_runs.Served.{AllServedTurn, IsServedLed, IsServedTurn, Keyed, ServedTurn, Serves, all_serve, asked_at, new_serves, served_behind}
 use Rattle.gateway_run.specs.Since.{NoneSince}
 
 -- these rows began before the frame of this number

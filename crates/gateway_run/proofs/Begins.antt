@@ -2,30 +2,30 @@
 use Rattle.std.proofs.Common.{◌≡◌, ℕ, ◌≤◌, Bool, true, false, Option, Some, None, List, [], ◌∷◌, ◌++◌, refl, sym, ap, ◌∙◌, subst, append-nil, eqb-true}
 use Rattle.std.specs.Prelude.{◌==◌, if◌then◌else◌, map, not, slice_get, All, Ok}
 use Rattle.std.proofs.lemmas.List.Elements.{All-filter, All-head, filter_passes}
-use Rattle.master_node.specs.of_frame_view.of_exchange_model.Rows.{begun}
+use Rattle.run_record.specs.of_exchange_model.Rows.{begun}
 use Rattle.gateway_core.specs.Framing.{request_in}
 use Rattle.run_record.specs.of_served_places.Rows.{Stays, passed_rows, passings, replies_of, row_begun}
 use Rattle.run_record.proofs.of_served_places.Next.{next_free, next_heard, next_over, next_passing, next_stays, waiting_row}
 use Rattle.run_record.proofs.of_served_places.Stay.{StaysOver}
-use Rattle.run_record.specs.of_served_places.of_life_runs.Served.{Keyed, Serves, ServedComes, ServedTurn, IsServedTurn}
-use Rattle.run_record.specs.of_served_places.of_life_runs.Told.{Passed}
-use Rattle.mailbox_mail.specs.declared.mail.Mail.{Mail}
-use Rattle.master_node.proofs.Handeds.{comes_own}
-use Rattle.master_node.specs.Begins.{is_other}
-use Rattle.master_node.specs.Events.{begun_told}
-use Rattle.master_node.specs.Listing.{origin_of}
-use Rattle.master_node.specs.Serving.{serves_of}
-use Rattle.master_node.specs.Wants.{gave_of}
-use Rattle.master_node.specs.declared.event.Event.TheVariants as events
-use Rattle.master_node.specs.declared.event.Origin.{Origin}
-use Rattle.master_node.specs.of_datagrams.Datagram as Raw
-use Rattle.master_node.specs.of_frame_view.View.{Lens}
-use Rattle.master_node.specs.of_frame_view.Shares.{AllBoth}
-use Rattle.master_node.specs.of_life_runs.of_segment_plan.declared.service.Service as Plan
-use Rattle.master_node.specs.of_master_duty.of_state_model.Stated.{Service}
-use Rattle.master_node.specs.of_master_hand.Spoken.{Asked, is_passed, passed}
-use Rattle.master_node.specs.of_master_side.Passing.{passing_behind}
-use Rattle.run_book.specs.declared.book.GramIn.{GramIn}
+use Rattle.run_record.specs.of_life_runs.Served.{Keyed, Serves, ServedComes, ServedTurn, IsServedTurn}
+use Rattle.run_record.specs.of_life_runs.Told.{Passed}
+use Rattle.gateway_core.specs.of_mailbox_mail.declared.mail.Mail.{Mail}
+use Rattle.run_record.proofs.of_master_node.Handeds.{comes_own}
+use Rattle.run_record.specs.of_master_node.Begins.{is_other}
+use Rattle.run_record.specs.of_master_node.Events.{begun_told}
+use Rattle.run_record.specs.of_master_node.Listing.{origin_of}
+use Rattle.run_record.specs.of_master_node.Serving.{serves_of}
+use Rattle.run_record.specs.of_master_node.Wants.{gave_of}
+use Rattle.run_record.specs.of_master_node.declared.event.Event.TheVariants as events
+use Rattle.run_record.specs.of_master_node.declared.event.Origin.{Origin}
+use Rattle.run_record.specs.of_datagrams.Datagram as Raw
+use Rattle.run_record.specs.of_frame_view.View.{Lens}
+use Rattle.run_record.specs.of_frame_view.Shares.{AllBoth}
+use Rattle.run_record.specs.of_segment_plan.declared.service.Service as Plan
+use Rattle.run_record.specs.of_state_model.Stated.{Service}
+use Rattle.run_record.specs.of_master_hand.Spoken.{Asked, is_passed, passed}
+use Rattle.run_record.specs.of_master_side.Passing.{passing_behind}
+use Rattle.run_record.specs.of_run_book.declared.book.GramIn.{GramIn}
 use Rattle.gateway_run.specs.Account.{Owing, begun_first, left_by, left_by_all, waits_at}
 use Rattle.gateway_run.specs.Rooms.{begun_of, owed_for, waiting_of}
 use Rattle.gateway_run.specs.Replies.{Fares, GivesAll, IsDesk, IsFor, IsNew, keyed_in}

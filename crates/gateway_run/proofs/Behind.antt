@@ -2,15 +2,15 @@
 use Rattle.std.proofs.Common.{◌≡◌, ℕ, Bool, true, false, Some, List, [], ◌∷◌, ◌++◌, map, refl, sym, ap, ◌∙◌, subst, append-nil, eqb-true}
 use Rattle.std.specs.Prelude.{◌≢◌, cond, find, filter, Ok, Err}
 use Rattle.std.proofs.lemmas.List.Elements.{All-head, All-tail}
-use Rattle.run_record.specs.of_served_places.of_life_runs.Served.{Serves}
-use Rattle.run_record.specs.of_served_places.of_life_runs.Told.{Passed}
-use Rattle.master_node.specs.Gateways.{done_told, replies_told}
-use Rattle.master_node.specs.declared.event.Event.{Event}
-use Rattle.master_node.specs.of_frame_view.Shares.{AllBoth}
-use Rattle.master_node.specs.of_life_runs.of_link_mails.Body.{Body}
-use Rattle.master_node.specs.of_master_tour.Made.{is_in}
-use Rattle.master_node.specs.of_segment_model.Ends.{Passing}
-use Rattle.run_book.specs.declared.book.GramIn.{GramIn}
+use Rattle.run_record.specs.of_life_runs.Served.{Serves}
+use Rattle.run_record.specs.of_life_runs.Told.{Passed}
+use Rattle.run_record.specs.of_master_node.Gateways.{done_told, replies_told}
+use Rattle.run_record.specs.of_master_node.declared.event.Event.{Event}
+use Rattle.run_record.specs.of_frame_view.Shares.{AllBoth}
+use Rattle.run_record.specs.of_link_mails.Body.{Body}
+use Rattle.run_record.specs.of_master_tour.Made.{is_in}
+use Rattle.run_record.specs.of_segment_model.Ends.{Passing}
+use Rattle.run_record.specs.of_run_book.declared.book.GramIn.{GramIn}
 use Rattle.gateway_run.specs.Account.{IsFree, Owing, owing, has_key, left_by_all, others, owed_by_all, waits_at}
 use Rattle.gateway_run.specs.Desk.{AreApart}
 use Rattle.gateway_run.specs.Rooms.{begun_of, done_by, done_by_all, grams_of, has_begun, waiting_of}

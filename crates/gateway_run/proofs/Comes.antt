@@ -2,21 +2,21 @@
 use Rattle.std.proofs.Common.{◌≡◌, ℕ, zero, suc, ◌+◌, ◌<◌, ◌≤◌, ◌⊎◌, Bool, true, false, inl, Option, Some, None, List, [], ◌∷◌, ◌++◌, length, refl, sym, ap, ◌∙◌, subst, eqb-true, append_assoc, length-append, arith}
 use Rattle.std.specs.Prelude.{◌==◌, slice_get, All, Ok}
 use Rattle.std.proofs.lemmas.List.Elements.{All-head, All-tail, All-push, All-weaker}
-use Rattle.master_node.specs.Wants.{gave_of}
-use Rattle.master_node.specs.of_frame_view.of_exchange_model.Exchange.{plain}
-use Rattle.master_node.specs.of_frame_view.of_exchange_model.Rows.{Row, begun}
+use Rattle.run_record.specs.of_master_node.Wants.{gave_of}
+use Rattle.run_record.specs.of_exchange_model.Exchange.{plain}
+use Rattle.run_record.specs.of_exchange_model.Rows.{Row, begun}
 use Rattle.gateway_core.specs.Framing.{request_in}
 use Rattle.run_record.specs.of_served_places.Rows.{Stays, passed_rows}
-use Rattle.run_record.specs.of_served_places.of_life_runs.Served.{Keyed, Serves}
-use Rattle.run_record.specs.of_served_places.of_life_runs.Told.{Passed}
-use Rattle.mailbox_mail.specs.declared.mail.Mail.{Mail}
-use Rattle.master_node.specs.of_frame_view.Shares.{AllBoth}
-use Rattle.master_node.specs.of_life_runs.of_link_mails.Body.{Body}
-use Rattle.master_node.specs.of_master_duty.Reply.{Reply}
-use Rattle.master_node.specs.of_master_hand.Spoken.{Asked, emission, passed}
-use Rattle.master_node.specs.of_master_tour.Made.{is_in}
-use Rattle.master_node.specs.of_segment_model.Ends.{Passing}
-use Rattle.run_book.specs.declared.book.GramIn.{GramIn}
+use Rattle.run_record.specs.of_life_runs.Served.{Keyed, Serves}
+use Rattle.run_record.specs.of_life_runs.Told.{Passed}
+use Rattle.gateway_core.specs.of_mailbox_mail.declared.mail.Mail.{Mail}
+use Rattle.run_record.specs.of_frame_view.Shares.{AllBoth}
+use Rattle.run_record.specs.of_link_mails.Body.{Body}
+use Rattle.run_record.specs.of_master_duty.Reply.{Reply}
+use Rattle.run_record.specs.of_master_hand.Spoken.{Asked, emission, passed}
+use Rattle.run_record.specs.of_master_tour.Made.{is_in}
+use Rattle.run_record.specs.of_segment_model.Ends.{Passing}
+use Rattle.run_record.specs.of_run_book.declared.book.GramIn.{GramIn}
 use Rattle.gateway_run.specs.Account.{Owing}
 use Rattle.gateway_run.specs.Rooms.{AreRising, grams_of}
 use Rattle.gateway_run.specs.Replies.{Fares, Fares.dropped, Fares.replies, Fares.waits, IsDesk, IsFor, IsLate, IsNew, IsNewest, IsOurs, IsSame, StandsSo, keyed_in}

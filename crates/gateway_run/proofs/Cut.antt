@@ -1,8 +1,8 @@
 -- The frames of a serving where memory runs out behind a frame.
 use Rattle.std.proofs.Common.{ℕ, ◌<◌, refl}
-use Rattle.segment_plan.specs.declared.plan.Scenario.{Scenario}
-use Rattle.run_book.specs.declared.book.Book.{Book}
-use Rattle.run_book.specs.declared.book.SentFrame.{SentFrame}
+use Rattle.run_record.specs.of_segment_plan.declared.plan.Scenario.{Scenario}
+use Rattle.run_record.specs.of_run_book.declared.book.Book.{Book}
+use Rattle.run_record.specs.of_run_book.declared.book.SentFrame.{SentFrame}
 use Rattle.run_record.specs.Session.{SessionState, Steps}
 use Rattle.run_record.specs.Ran.{HasSent}
 use Rattle.run_record.proofs.Underway.{has_frames, stepped_on}

@@ -3,11 +3,11 @@ use Rattle.std.proofs.Common.{◌≡◌, ℕ, List, [], ◌∷◌, ◌++◌, map
 use Rattle.std.specs.Prelude.{◌≢◌, ◌==◌, ◌&&◌, not, cond, if◌then◌else◌, filter, find, Some, All, Ok, Err}
 use Rattle.std.proofs.lemmas.List.Elements.{All-nil, All-cons, All-head, All-filter}
 use Rattle.gateway_run.specs.Replies.{mails_told}
-use Rattle.mailbox_mail.specs.Mail.{error_of}
-use Rattle.master_node.specs.of_master_tour.Made.{is_in}
-use Rattle.master_node.specs.Gateways.{replies_told}
-use Rattle.master_node.specs.of_life_runs.of_link_mails.Body.{Body}
-use Rattle.mailbox_mail.specs.declared.mail.Mail.{Mail}
+use Rattle.gateway_core.specs.of_mailbox_mail.Mail.{error_of}
+use Rattle.run_record.specs.of_master_tour.Made.{is_in}
+use Rattle.run_record.specs.of_master_node.Gateways.{replies_told}
+use Rattle.run_record.specs.of_link_mails.Body.{Body}
+use Rattle.gateway_core.specs.of_mailbox_mail.declared.mail.Mail.{Mail}
 use Rattle.gateway_run.specs.Account.{owing, IsFree, begun_first, elsewhere, has_key, is_elsewhere, left_by_all, others, owed_by_all, owed_to, waits_at}
 use Rattle.gateway_run.specs.Desk.{AreApart}
 use Rattle.gateway_run.specs.Rooms.{AreFiled, begun_of, grams_of, has_begun, owed_for, waiting_of}

@@ -3,13 +3,13 @@ use Rattle.std.proofs.Common.{◌≡◌, ℕ, zero, suc, List, [], ◌∷◌, �
 use Rattle.std.specs.Prelude.{◌≢◌, ◌==◌, not, filter, slice_get, Option, Some, None, All, IfSome}
 use Rattle.std.proofs.lemmas.List.Elements.{All-weaker, All-push, All-filter, filter_passes}
 use Rattle.slab.specs.Slab.{Slab, Updates, get, slab_len}
-use Rattle.ec_outside.specs.Port.{HeardGram}
-use Rattle.ec_outside.specs.declared.port.Peer.{Peer}
-use Rattle.mailbox_mail.specs.declared.mail.Mail.{Mail}
+use Rattle.gateway_core.specs.of_ec_outside.Port.{HeardGram}
+use Rattle.gateway_core.specs.of_ec_outside.declared.port.Peer.{Peer}
+use Rattle.gateway_core.specs.of_mailbox_mail.declared.mail.Mail.{Mail}
 use Rattle.gateway_core.specs.Framing.{gram_text}
 use Rattle.gateway_core.specs.Gateway.{RepliesTo}
 use Rattle.gateway_core.specs.declared.asker.Asker.{Asker}
-use Rattle.run_book.specs.declared.book.GramOut.{GramOut}
+use Rattle.run_record.specs.of_run_book.declared.book.GramOut.{GramOut}
 use Rattle.gateway_run.specs.Account.{is_other, owing, IsFree, Spells}
 use Rattle.gateway_run.specs.Heard.{IsOwed}
 use Rattle.gateway_run.specs.Desk.{AreApart, IsOpen, IsSoundBut, IsSound}

@@ -6,24 +6,24 @@ use Rattle.std.proofs.lemmas.Bool.{OnTrue_at, OnTrue_from}
 use Rattle.std.proofs.lemmas.List.Elements.{All-head, All-tail}
 use Rattle.run_record.proofs.of_served_places.Held.{all_held}
 use Rattle.run_record.specs.of_served_places.Rows.{IsHeld}
-use Rattle.run_record.specs.of_served_places.of_life_runs.Served.{Serves}
-use Rattle.run_record.specs.of_served_places.of_life_runs.Told.{Passed}
-use Rattle.mailbox_mail.specs.declared.mail.Mail.{Mail}
-use Rattle.master_node.specs.Serving.{run_lead}
-use Rattle.master_node.specs.Wants.{AllCounted, IsCounted, IsServedOut, gave_of}
-use Rattle.master_node.specs.of_frame_view.View.{Lens}
-use Rattle.master_node.specs.of_frame_view.Shares.{AllBoth}
-use Rattle.master_node.specs.of_life_model.Lives.{Stand}
-use Rattle.master_node.specs.of_life_runs.First.{first_leads, lens_of}
-use Rattle.master_node.specs.of_life_runs.Led.{Exchanged}
-use Rattle.master_node.specs.of_master_tour.Made.{is_in}
-use Rattle.run_book.specs.declared.book.Book.{Book}
-use Rattle.run_book.specs.declared.book.GramIn.{GramIn}
+use Rattle.run_record.specs.of_life_runs.Served.{Serves}
+use Rattle.run_record.specs.of_life_runs.Told.{Passed}
+use Rattle.gateway_core.specs.of_mailbox_mail.declared.mail.Mail.{Mail}
+use Rattle.run_record.specs.of_master_node.Serving.{run_lead}
+use Rattle.run_record.specs.of_master_node.Wants.{AllCounted, IsCounted, IsServedOut, gave_of}
+use Rattle.run_record.specs.of_frame_view.View.{Lens}
+use Rattle.run_record.specs.of_frame_view.Shares.{AllBoth}
+use Rattle.run_record.specs.of_life_model.Lives.{Stand}
+use Rattle.run_record.specs.of_life_runs.First.{first_leads, lens_of}
+use Rattle.run_record.specs.of_life_runs.Led.{Exchanged}
+use Rattle.run_record.specs.of_master_tour.Made.{is_in}
+use Rattle.run_record.specs.of_run_book.declared.book.Book.{Book}
+use Rattle.run_record.specs.of_run_book.declared.book.GramIn.{GramIn}
 use Rattle.run_record.specs.Led.{exchanged}
 use Rattle.run_record.specs.Served.{ServingRests}
 use Rattle.run_record.specs.Session.{SessionState}
 use Rattle.run_record.proofs.ServedGaves.{served_counted}
-use Rattle.segment_plan.specs.declared.plan.Scenario.{Scenario}
+use Rattle.run_record.specs.of_segment_plan.declared.plan.Scenario.{Scenario}
 use Rattle.gateway_run.specs.Account.{Owing, waits_at}
 use Rattle.gateway_run.specs.Done.{AllDone, IsDone, IsOver, IsOver.cut, IsOver.dropped as is_dropped, IsOver.whole}
 use Rattle.gateway_run.specs.Replies.{AllDesk, AllGot, Answers, Fares, Fares.dropped, Fares.replies, Fares.waits, Got, Got.ignored, Got.queued, Got.refused, IsDesk, IsFor, IsHeard, StandsSo, dones_of, keyed_in}

@@ -5,22 +5,22 @@ use Rattle.slab.specs.Slab.{slab_len}
 use Rattle.gateway_run.specs.declared.stop.Stop.{Stop}
 use Rattle.gateway_run.specs.declared.stop.Stop.TheVariants as stops
 use Rattle.std.proofs.lemmas.List.Elements.{All-nil}
-use Rattle.ec_outside.specs.declared.port.SentGram.{SentGram}
-use Rattle.master_node.specs.Happened.{HasHappened, events_of}
-use Rattle.master_node.specs.Ports.{ports_behind, ports_of}
-use Rattle.master_node.specs.Serving.{run_lead}
-use Rattle.master_node.specs.of_frame_view.Shares.{AllBoth}
-use Rattle.master_node.specs.of_life_runs.First.{lens_of}
-use Rattle.segment_plan.specs.Sound.{IsPlan}
-use Rattle.segment_plan.specs.Bound.{bound_of}
-use Rattle.segment_plan.specs.declared.plan.Scenario.{Scenario}
-use Rattle.run_book.specs.Book.{IsNew}
-use Rattle.run_book.specs.declared.book.Book.{Book}
-use Rattle.run_book.specs.declared.book.Ending.{Ending}
-use Rattle.run_book.specs.declared.book.Ending.TheVariants as endings
-use Rattle.run_book.specs.declared.book.GramIn.{GramIn}
-use Rattle.run_book.specs.declared.book.GramOut.{GramOut}
-use Rattle.run_book.specs.declared.book.SlaveBook.{SlaveBook}
+use Rattle.gateway_core.specs.of_ec_outside.declared.port.SentGram.{SentGram}
+use Rattle.run_record.specs.of_master_node.Happened.{HasHappened, events_of}
+use Rattle.run_record.specs.of_master_node.Ports.{ports_behind, ports_of}
+use Rattle.run_record.specs.of_master_node.Serving.{run_lead}
+use Rattle.run_record.specs.of_frame_view.Shares.{AllBoth}
+use Rattle.run_record.specs.of_life_runs.First.{lens_of}
+use Rattle.run_record.specs.of_segment_plan.Sound.{IsPlan}
+use Rattle.run_record.specs.of_segment_plan.Bound.{bound_of}
+use Rattle.run_record.specs.of_segment_plan.declared.plan.Scenario.{Scenario}
+use Rattle.run_record.specs.of_run_book.Book.{IsNew}
+use Rattle.run_record.specs.of_run_book.declared.book.Book.{Book}
+use Rattle.run_record.specs.of_run_book.declared.book.Ending.{Ending}
+use Rattle.run_record.specs.of_run_book.declared.book.Ending.TheVariants as endings
+use Rattle.run_record.specs.of_run_book.declared.book.GramIn.{GramIn}
+use Rattle.run_record.specs.of_run_book.declared.book.GramOut.{GramOut}
+use Rattle.run_record.specs.of_run_book.declared.book.SlaveBook.{SlaveBook}
 use Rattle.run_record.specs.Mails.{passing_at, served_mails, served_overs}
 use Rattle.run_record.specs.Led.{LeavesNone, exchanged}
 use Rattle.run_record.specs.Served.{ServingBegins, ServingRests}

@@ -4,23 +4,23 @@ use Rattle.std.specs.Prelude.{if◌then◌else◌, is_some, All}
 use Rattle.std.proofs.lemmas.List.Elements.{All-filter, All-weaker}
 use Rattle.run_record.proofs.of_served_places.Behind.{behind_stays, unpassed_behind}
 use Rattle.run_record.specs.of_served_places.Rows.{AreAll, Stays, passed_rows, passings, told_besides}
-use Rattle.run_record.specs.of_served_places.of_life_runs.Served.{Serves, ServedTurn, TellsSo, served_behind}
-use Rattle.run_record.specs.of_served_places.of_life_runs.Told.{Passed, replies_in, told_on}
-use Rattle.master_node.specs.Gateways.{done_told, life_told, replies_told}
-use Rattle.master_node.specs.Named.{is_left}
-use Rattle.master_node.specs.Serving.{serves_of}
-use Rattle.master_node.specs.Wants.{gave_of}
-use Rattle.master_node.specs.declared.event.Event.{Event}
-use Rattle.master_node.specs.of_frame_view.Seen.{seen}
-use Rattle.master_node.specs.of_frame_view.View.{Lens}
-use Rattle.master_node.specs.of_frame_view.Shares.{AllBoth}
-use Rattle.master_node.specs.of_life_model.Lives.{Stand}
-use Rattle.master_node.specs.of_life_runs.of_link_mails.Body.{Body}
-use Rattle.master_node.specs.of_master_tour.Brings.{accepted_in}
-use Rattle.master_node.specs.of_segment_model.Ends.{Passing}
-use Rattle.master_node.specs.of_segment_ring.declared.wire.Fate.{Fate}
-use Rattle.master_node.specs.of_segment_ring.declared.wire.Fate.TheVariants.{Pass}
-use Rattle.run_book.specs.declared.book.GramIn.{GramIn}
+use Rattle.run_record.specs.of_life_runs.Served.{Serves, ServedTurn, TellsSo, served_behind}
+use Rattle.run_record.specs.of_life_runs.Told.{Passed, replies_in, told_on}
+use Rattle.run_record.specs.of_master_node.Gateways.{done_told, life_told, replies_told}
+use Rattle.run_record.specs.of_master_node.Named.{is_left}
+use Rattle.run_record.specs.of_master_node.Serving.{serves_of}
+use Rattle.run_record.specs.of_master_node.Wants.{gave_of}
+use Rattle.run_record.specs.of_master_node.declared.event.Event.{Event}
+use Rattle.run_record.specs.of_frame_view.Seen.{seen}
+use Rattle.run_record.specs.of_frame_view.View.{Lens}
+use Rattle.run_record.specs.of_frame_view.Shares.{AllBoth}
+use Rattle.run_record.specs.of_life_model.Lives.{Stand}
+use Rattle.run_record.specs.of_link_mails.Body.{Body}
+use Rattle.run_record.specs.of_master_tour.Brings.{accepted_in}
+use Rattle.run_record.specs.of_segment_model.Ends.{Passing}
+use Rattle.run_record.specs.of_segment_ring.declared.wire.Fate.{Fate}
+use Rattle.run_record.specs.of_segment_ring.declared.wire.Fate.TheVariants.{Pass}
+use Rattle.run_record.specs.of_run_book.declared.book.GramIn.{GramIn}
 use Rattle.gateway_run.specs.Account.{Owing, left_by_all}
 use Rattle.gateway_run.specs.Desk.{AreApart}
 use Rattle.gateway_run.specs.Rooms.{begun_of, owed_for, waiting_of}

@@ -3,25 +3,25 @@ use Rattle.std.proofs.Common.{◌≡◌, ◌<◌, ◌≤◌, ℕ, zero, suc, Boo
 use Rattle.std.specs.Prelude.{All, ◌&&◌, if◌then◌else◌, is_some, replicate, slice_get}
 use Rattle.std.proofs.lemmas.Option.{none-some, same_Some}
 use Rattle.std.proofs.lemmas.List.Elements.{All-nil, All-cons, All-head, All-tail}
-use Rattle.run_record.specs.of_served_places.of_life_runs.Served.{Keyed, Serves, ServedComes, ServedTurn, AllServedTurn, IsServedTurn, asked_at, gives_it, served_behind, served_life}
-use Rattle.run_record.specs.of_served_places.of_life_runs.Told.{Passed}
-use Rattle.master_node.proofs.Counts.{lost_gave}
-use Rattle.master_node.specs.Serving.{run_lead}
-use Rattle.master_node.specs.Wants.{gave_of}
-use Rattle.master_node.specs.of_datagrams.Datagram as Raw
-use Rattle.master_node.specs.of_frame_view.Seen.{seen}
-use Rattle.master_node.specs.of_frame_view.View.{Lens}
-use Rattle.master_node.specs.of_frame_view.Shares.{given_where}
-use Rattle.master_node.specs.of_life_model.Lives.{Life, Spot, life_lost}
-use Rattle.master_node.specs.of_life_runs.Led.{Exchanged, speech_at}
-use Rattle.master_node.specs.of_life_runs.of_link_mails.Body.{Body}
-use Rattle.master_node.specs.of_life_runs.of_segment_plan.declared.service.Service as Plan
-use Rattle.master_node.specs.of_master_duty.Reply.{Reply}
-use Rattle.master_node.specs.of_master_duty.of_state_model.Stated.{Service}
-use Rattle.master_node.specs.of_master_hand.Spoken.{Asked, acknowledged, is_followed, is_passed}
-use Rattle.master_node.specs.of_master_side.Passing.{news_lost}
-use Rattle.master_node.specs.of_segment_ring.declared.wire.Fate.{Fate}
-use Rattle.master_node.specs.of_segment_ring.declared.wire.Fate.TheVariants as Fates
+use Rattle.run_record.specs.of_life_runs.Served.{Keyed, Serves, ServedComes, ServedTurn, AllServedTurn, IsServedTurn, asked_at, gives_it, served_behind, served_life}
+use Rattle.run_record.specs.of_life_runs.Told.{Passed}
+use Rattle.run_record.proofs.of_master_node.Counts.{lost_gave}
+use Rattle.run_record.specs.of_master_node.Serving.{run_lead}
+use Rattle.run_record.specs.of_master_node.Wants.{gave_of}
+use Rattle.run_record.specs.of_datagrams.Datagram as Raw
+use Rattle.run_record.specs.of_frame_view.Seen.{seen}
+use Rattle.run_record.specs.of_frame_view.View.{Lens}
+use Rattle.run_record.specs.of_frame_view.Shares.{given_where}
+use Rattle.run_record.specs.of_life_model.Lives.{Life, Spot, life_lost}
+use Rattle.run_record.specs.of_life_runs.Led.{Exchanged, speech_at}
+use Rattle.run_record.specs.of_link_mails.Body.{Body}
+use Rattle.run_record.specs.of_segment_plan.declared.service.Service as Plan
+use Rattle.run_record.specs.of_master_duty.Reply.{Reply}
+use Rattle.run_record.specs.of_state_model.Stated.{Service}
+use Rattle.run_record.specs.of_master_hand.Spoken.{Asked, acknowledged, is_followed, is_passed}
+use Rattle.run_record.specs.of_master_side.Passing.{news_lost}
+use Rattle.run_record.specs.of_segment_ring.declared.wire.Fate.{Fate}
+use Rattle.run_record.specs.of_segment_ring.declared.wire.Fate.TheVariants as Fates
 use Rattle.run_record.specs.of_run_notes.Notes.{station_of, stations_of}
 use Rattle.run_record.specs.of_run_notes.Slaves.{gaves_noted}
 use Rattle.run_record.specs.of_run_notes.declared.notes.Notes.{Notes}

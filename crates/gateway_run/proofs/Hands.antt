@@ -2,20 +2,20 @@
 use Rattle.std.proofs.Common.{◌≡◌, ℕ, zero, suc, ◌<◌, ◌≤◌, Bool, true, false, inl, inr, Option, Some, None, List, [], ◌∷◌, ◌++◌, length, refl, sym, ap, ◌∙◌, subst, eq-eqb, eqb-true, append_assoc, arith}
 use Rattle.std.specs.Prelude.{◌==◌, if◌then◌else◌, slice_get, All}
 use Rattle.std.proofs.lemmas.List.Elements.{All-nil, All-head, All-tail, All-cons, All-push, All-weaker}
-use Rattle.master_node.specs.Wants.{gave_of}
-use Rattle.master_node.specs.of_frame_view.of_exchange_model.Exchange.{plain}
-use Rattle.master_node.specs.of_frame_view.of_exchange_model.Rows.{Row}
-use Rattle.run_record.proofs.of_served_places.of_exchange_model.Words.{plain-append}
+use Rattle.run_record.specs.of_master_node.Wants.{gave_of}
+use Rattle.run_record.specs.of_exchange_model.Exchange.{plain}
+use Rattle.run_record.specs.of_exchange_model.Rows.{Row}
+use Rattle.run_record.proofs.of_exchange_model.Words.{plain-append}
 use Rattle.run_record.specs.of_served_places.Rows.{Stays, passed_rows}
-use Rattle.run_record.specs.of_served_places.of_life_runs.Served.{Serves}
-use Rattle.run_record.specs.of_served_places.of_life_runs.Told.{Passed}
-use Rattle.mailbox_mail.specs.declared.mail.Mail.{Mail}
-use Rattle.master_node.specs.of_frame_view.Shares.{AllBoth}
-use Rattle.master_node.specs.of_life_runs.of_link_mails.Body.{Body}
-use Rattle.master_node.specs.of_master_duty.Reply.{Reply}
-use Rattle.master_node.specs.of_master_hand.Spoken.{Asked, emission}
-use Rattle.master_node.specs.of_master_tour.Made.{is_in}
-use Rattle.run_book.specs.declared.book.GramIn.{GramIn}
+use Rattle.run_record.specs.of_life_runs.Served.{Serves}
+use Rattle.run_record.specs.of_life_runs.Told.{Passed}
+use Rattle.gateway_core.specs.of_mailbox_mail.declared.mail.Mail.{Mail}
+use Rattle.run_record.specs.of_frame_view.Shares.{AllBoth}
+use Rattle.run_record.specs.of_link_mails.Body.{Body}
+use Rattle.run_record.specs.of_master_duty.Reply.{Reply}
+use Rattle.run_record.specs.of_master_hand.Spoken.{Asked, emission}
+use Rattle.run_record.specs.of_master_tour.Made.{is_in}
+use Rattle.run_record.specs.of_run_book.declared.book.GramIn.{GramIn}
 use Rattle.gateway_run.specs.Account.{Owing}
 use Rattle.gateway_run.specs.Rooms.{AreRising, grams_of}
 use Rattle.gateway_run.specs.Replies.{Fares, Fares.dropped, Fares.replies, Fares.waits, HasRow, IsDesk, IsFor, IsLate, StandsSo, keyed_in, mails_told}

@@ -5,17 +5,17 @@ use Rattle.std.proofs.lemmas.List.Sums.{count_by-le-length}
 use Rattle.std.specs.Prelude.{◌==◌, nat_lt, nat_le, slice_get, Option, Some, None, Result, Ok, Err, IfSome, if◌then◌else◌}
 use Rattle.slab.specs.Slab.{Slab, Updates, entries, get, slab_len}
 use Rattle.slab.proofs.SlabLemmas.{length-entries}
-use Rattle.ec_outside.specs.Port.{HeardGram}
-use Rattle.ec_outside.specs.declared.port.Peer.{Peer}
-use Rattle.mailbox_mail.specs.Mail.{error_of}
-use Rattle.mailbox_mail.specs.declared.mail.Mail.{Mail}
+use Rattle.gateway_core.specs.of_ec_outside.Port.{HeardGram}
+use Rattle.gateway_core.specs.of_ec_outside.declared.port.Peer.{Peer}
+use Rattle.gateway_core.specs.of_mailbox_mail.Mail.{error_of}
+use Rattle.gateway_core.specs.of_mailbox_mail.declared.mail.Mail.{Mail}
 use Rattle.gateway_core.specs.Framing.{request_in}
 use Rattle.gateway_core.specs.Gateway.{place_from, is_passed, judged, judged_at, unfinished_at, error_text, IsAsker, AnswersMail, Answers}
 use Rattle.gateway_core.specs.declared.asker.Asked.{Asked}
 use Rattle.gateway_core.specs.declared.asker.Asked.TheVariants as asked
 use Rattle.gateway_core.specs.declared.asker.Asker.{Asker}
 use Rattle.gateway_core.specs.declared.framing.GatewayFault.{GatewayFault}
-use Rattle.run_book.specs.declared.book.GramOut.{GramOut}
+use Rattle.run_record.specs.of_run_book.declared.book.GramOut.{GramOut}
 use Rattle.run_record.specs.of_run_notes.Notes.{stations_of}
 use Rattle.run_record.specs.Session.{SessionState}
 use Rattle.run_record.proofs.of_run_notes.Stations.{stands_at_home}

@@ -5,22 +5,22 @@ use Rattle.std.proofs.lemmas.List.Elements.{All-nil, All-append, All-cons, All-p
 use Rattle.std.proofs.lemmas.List.Sums.{count_by-le-length, length-filter}
 use Rattle.gateway_core.specs.Framing.{request_in}
 use Rattle.run_record.specs.of_served_places.Rows.{ToldAll}
-use Rattle.run_record.specs.of_served_places.of_life_runs.Served.{Keyed, MayAsk, Serves, asked_at}
-use Rattle.mailbox_mail.specs.Mail.{error_of}
-use Rattle.mailbox_mail.specs.declared.mail.Mail.{Mail}
-use Rattle.master_node.specs.Wants.{gave_of}
-use Rattle.master_node.specs.of_frame_view.View.{Lens}
-use Rattle.master_node.specs.of_frame_view.Shares.{AllBoth}
-use Rattle.master_node.specs.of_life_runs.First.{lens_of}
-use Rattle.master_node.specs.of_life_runs.Led.{Exchanged}
-use Rattle.master_node.specs.of_master_tour.Made.{is_in}
-use Rattle.run_book.specs.declared.book.GramIn.{GramIn}
-use Rattle.master_node.specs.Happened.{events_of as switch_events}
+use Rattle.run_record.specs.of_life_runs.Served.{Keyed, MayAsk, Serves, asked_at}
+use Rattle.gateway_core.specs.of_mailbox_mail.Mail.{error_of}
+use Rattle.gateway_core.specs.of_mailbox_mail.declared.mail.Mail.{Mail}
+use Rattle.run_record.specs.of_master_node.Wants.{gave_of}
+use Rattle.run_record.specs.of_frame_view.View.{Lens}
+use Rattle.run_record.specs.of_frame_view.Shares.{AllBoth}
+use Rattle.run_record.specs.of_life_runs.First.{lens_of}
+use Rattle.run_record.specs.of_life_runs.Led.{Exchanged}
+use Rattle.run_record.specs.of_master_tour.Made.{is_in}
+use Rattle.run_record.specs.of_run_book.declared.book.GramIn.{GramIn}
+use Rattle.run_record.specs.of_master_node.Happened.{events_of as switch_events}
 use Rattle.run_record.specs.Served.{AsksOn, Serving}
 use Rattle.run_record.specs.Session.{SessionState}
 use Rattle.run_record.specs.of_run_notes.Slaves.{home_of}
-use Rattle.segment_plan.specs.Sound.{IsPlan}
-use Rattle.segment_plan.specs.declared.plan.Scenario.{Scenario}
+use Rattle.run_record.specs.of_segment_plan.Sound.{IsPlan}
+use Rattle.run_record.specs.of_segment_plan.declared.plan.Scenario.{Scenario}
 use Rattle.gateway_run.specs.Account.{IsFree, Judges, Judges.ignored as is_ignored, Judges.refused as is_refused, Judges.too_many, Judges.queues, Owing, waits_at}
 use Rattle.gateway_run.specs.Rooms.{begun_of, grams_of, owed_for, waiting_of}
 use Rattle.gateway_run.specs.Replies.{AllDesk, AllGot, Answers, Fares, Fares.waits, GivesAll, Got, Got.ignored, Got.queued, Got.refused, IsFor, IsHeard, IsUndone}

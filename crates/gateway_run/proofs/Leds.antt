@@ -5,20 +5,20 @@ use Rattle.std.specs.Prelude.{All, slice_get}
 use Rattle.std.proofs.lemmas.Bool.{OnFalse_at, OnFalse_from}
 use Rattle.std.proofs.lemmas.List.{map-append}
 use Rattle.std.proofs.lemmas.List.Elements.{All-weaker}
-use Rattle.run_record.specs.of_served_places.of_life_runs.Served.{Serves}
-use Rattle.master_node.specs.of_life_runs.First.{lens_of}
-use Rattle.master_node.specs.of_life_runs.Led.{Exchanged, gives_up_at}
-use Rattle.run_book.specs.declared.book.Book.{Book}
-use Rattle.run_book.specs.declared.book.GramIn.{GramIn}
-use Rattle.run_book.specs.declared.book.SentFrame.{SentFrame}
+use Rattle.run_record.specs.of_life_runs.Served.{Serves}
+use Rattle.run_record.specs.of_life_runs.First.{lens_of}
+use Rattle.run_record.specs.of_life_runs.Led.{Exchanged, gives_up_at}
+use Rattle.run_record.specs.of_run_book.declared.book.Book.{Book}
+use Rattle.run_record.specs.of_run_book.declared.book.GramIn.{GramIn}
+use Rattle.run_record.specs.of_run_book.declared.book.SentFrame.{SentFrame}
 use Rattle.run_record.specs.Led.{exchanged}
 use Rattle.run_record.specs.Served as Led
 use Rattle.run_record.specs.Served.{ServingLives}
 use Rattle.run_record.specs.Session.{SessionState, IsDone, has_live}
 use Rattle.run_record.specs.of_run_notes.Notes.{stations_of}
 use Rattle.run_record.specs.of_run_notes.Slaves.{home_of}
-use Rattle.segment_plan.specs.Sound.{IsPlan}
-use Rattle.segment_plan.specs.declared.plan.Scenario.{Scenario}
+use Rattle.run_record.specs.of_segment_plan.Sound.{IsPlan}
+use Rattle.run_record.specs.of_segment_plan.declared.plan.Scenario.{Scenario}
 use Rattle.gateway_run.specs.Account.{Owing, Course, Course.begins, Course.hears, Course.steps, Judges, Judges.ignored as is_ignored, Judges.refused as is_refused, Judges.too_many, Judges.queues}
 use Rattle.gateway_run.specs.Desk.{SameLive, StaysBusy}
 use Rattle.gateway_run.specs.Serving.{IsOn, LivesUnless}

@@ -1,4 +1,5 @@
-pub use Rattle.master_node.proofs as of_master_node
+pub use Rattle.run_record.proofs.of_life_runs as of_life_runs
+pub use Rattle.run_record.proofs as of_run_record
 pub mod Accounts
 pub mod Answering
 pub mod Befores

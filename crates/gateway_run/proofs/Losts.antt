@@ -5,21 +5,21 @@ use Rattle.std.proofs.lemmas.List.Elements.{All-weaker}
 use Rattle.run_record.proofs.of_served_places.Behind.{Goes, behind_stays, lost_goes, unpassed_behind}
 use Rattle.run_record.proofs.of_served_places.Hears.{told_none}
 use Rattle.run_record.specs.of_served_places.Rows.{Stays, passed_rows, passings, told_besides}
-use Rattle.run_record.specs.of_served_places.of_life_runs.Served.{Serves, ServedTurn, TellsSo, gives_it, served_behind}
-use Rattle.run_record.specs.of_served_places.of_life_runs.Told.{Passed, replies_in, told_on}
-use Rattle.mailbox_mail.specs.Mail.{error_of}
-use Rattle.master_node.specs.Serving.{serves_of}
-use Rattle.master_node.specs.Wants.{gave_of}
-use Rattle.master_node.specs.declared.event.Event.{Event}
-use Rattle.master_node.specs.declared.event.Event.TheVariants as events
-use Rattle.master_node.specs.of_frame_view.View.{Lens}
-use Rattle.master_node.specs.of_frame_view.Shares.{AllBoth}
-use Rattle.master_node.specs.of_life_model.Lives.{Stand}
-use Rattle.master_node.specs.of_life_runs.of_link_mails.Body.{Body}
-use Rattle.master_node.specs.of_master_tour.Made.{is_in}
-use Rattle.master_node.specs.of_segment_model.Ends.{Passing}
-use Rattle.master_node.specs.of_segment_ring.declared.wire.Fate.TheVariants.{Lost}
-use Rattle.run_book.specs.declared.book.GramIn.{GramIn}
+use Rattle.run_record.specs.of_life_runs.Served.{Serves, ServedTurn, TellsSo, gives_it, served_behind}
+use Rattle.run_record.specs.of_life_runs.Told.{Passed, replies_in, told_on}
+use Rattle.gateway_core.specs.of_mailbox_mail.Mail.{error_of}
+use Rattle.run_record.specs.of_master_node.Serving.{serves_of}
+use Rattle.run_record.specs.of_master_node.Wants.{gave_of}
+use Rattle.run_record.specs.of_master_node.declared.event.Event.{Event}
+use Rattle.run_record.specs.of_master_node.declared.event.Event.TheVariants as events
+use Rattle.run_record.specs.of_frame_view.View.{Lens}
+use Rattle.run_record.specs.of_frame_view.Shares.{AllBoth}
+use Rattle.run_record.specs.of_life_model.Lives.{Stand}
+use Rattle.run_record.specs.of_link_mails.Body.{Body}
+use Rattle.run_record.specs.of_master_tour.Made.{is_in}
+use Rattle.run_record.specs.of_segment_model.Ends.{Passing}
+use Rattle.run_record.specs.of_segment_ring.declared.wire.Fate.TheVariants.{Lost}
+use Rattle.run_record.specs.of_run_book.declared.book.GramIn.{GramIn}
 use Rattle.gateway_run.specs.Account.{Owing, elsewhere, left_by_all, owing}
 use Rattle.gateway_run.specs.Rooms.{AreFiled, begun_of, grams_of, owed_for, waiting_of}
 use Rattle.gateway_run.specs.Replies.{Fares, IsDesk, IsFor, IsOurs, keyed_in}

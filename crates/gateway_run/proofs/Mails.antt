@@ -2,34 +2,34 @@
 use Rattle.std.proofs.Common.{◌≡◌, ◌<◌, ◌≤◌, ◌+◌, ◌-◌, ◌%◌, ℕ, zero, suc, Bool, true, false, Option, Some, List, [], ◌∷◌, ◌++◌, length, length-append, map, refl, sym, ap, ◌∙◌, subst, arith, append_assoc, append-nil}
 use Rattle.std.specs.Prelude.{if◌then◌else◌, slice_get, ⊤}
 use Rattle.std.proofs.lemmas.List.{length-map}
-use Rattle.master_node.proofs.Handeds.{comes_own}
-use Rattle.master_node.specs.Begins.{begun_of}
-use Rattle.master_node.specs.Events.{oldest_in, oldest_of}
-use Rattle.master_node.specs.Serving.{run_lead, run_turn}
-use Rattle.master_node.specs.of_datagrams.Datagram as Raw
-use Rattle.master_node.specs.of_frame_view.View.{Lens}
-use Rattle.master_node.specs.of_frame_view.Shares.{AllBoth}
-use Rattle.master_node.specs.of_frame_view.of_exchange_model.Rows.{Row, begun}
-use Rattle.master_node.specs.of_life_runs.First.{leads_from, lens_of}
-use Rattle.master_node.specs.of_life_runs.Led.{Exchanged, gives_up_at}
-use Rattle.master_node.specs.of_life_runs.of_link_mails.Body.{Body}
-use Rattle.master_node.specs.of_life_runs.of_segment_plan.declared.service.Service as Plan
-use Rattle.master_node.specs.of_master_duty.Reply.{Reply}
-use Rattle.master_node.specs.of_master_duty.of_state_model.Stated.{Service}
-use Rattle.master_node.specs.of_master_hand.Spoken.{Asked}
-use Rattle.run_book.specs.declared.book.GramIn.{GramIn}
-use Rattle.run_book.specs.declared.book.SlaveBook.{SlaveBook}
+use Rattle.run_record.proofs.of_master_node.Handeds.{comes_own}
+use Rattle.run_record.specs.of_master_node.Begins.{begun_of}
+use Rattle.run_record.specs.of_master_node.Events.{oldest_in, oldest_of}
+use Rattle.run_record.specs.of_master_node.Serving.{run_lead, run_turn}
+use Rattle.run_record.specs.of_datagrams.Datagram as Raw
+use Rattle.run_record.specs.of_frame_view.View.{Lens}
+use Rattle.run_record.specs.of_frame_view.Shares.{AllBoth}
+use Rattle.run_record.specs.of_exchange_model.Rows.{Row, begun}
+use Rattle.run_record.specs.of_life_runs.First.{leads_from, lens_of}
+use Rattle.run_record.specs.of_life_runs.Led.{Exchanged, gives_up_at}
+use Rattle.run_record.specs.of_link_mails.Body.{Body}
+use Rattle.run_record.specs.of_segment_plan.declared.service.Service as Plan
+use Rattle.run_record.specs.of_master_duty.Reply.{Reply}
+use Rattle.run_record.specs.of_state_model.Stated.{Service}
+use Rattle.run_record.specs.of_master_hand.Spoken.{Asked}
+use Rattle.run_record.specs.of_run_book.declared.book.GramIn.{GramIn}
+use Rattle.run_record.specs.of_run_book.declared.book.SlaveBook.{SlaveBook}
 use Rattle.run_record.specs.Mails.{mail_begun, served_mails}
 use Rattle.run_record.specs.Served.{ServeTo}
 use Rattle.run_record.specs.of_run_notes.Packets.{AreMails, begun_in, mail_row, mails_at, rows_with}
 use Rattle.run_record.specs.of_run_notes.Reports.{IsBooked}
-use Rattle.segment_plan.specs.declared.plan.Scenario.{Scenario}
-use Rattle.segment_plan.specs.declared.slave.SlaveSpec.{SlaveSpec}
+use Rattle.run_record.specs.of_segment_plan.declared.plan.Scenario.{Scenario}
+use Rattle.run_record.specs.of_segment_plan.declared.slave.SlaveSpec.{SlaveSpec}
 use Rattle.run_record.proofs.of_served_places.Behind.{behind_stays}
 use Rattle.run_record.proofs.of_served_places.Next.{next_stays}
 use Rattle.run_record.specs.of_served_places.Rows.{Stays, passed_rows, row_begun}
-use Rattle.run_record.specs.of_served_places.of_life_runs.Served.{AllServedTurn, IsServedLed, IsServedTurn, Keyed, Serves, ServedComes, ServedTurn, all_serve, asked_at, gives_it, served_behind}
-use Rattle.run_record.specs.of_served_places.of_life_runs.Told.{Passed}
+use Rattle.run_record.specs.of_life_runs.Served.{AllServedTurn, IsServedLed, IsServedTurn, Keyed, Serves, ServedComes, ServedTurn, all_serve, asked_at, gives_it, served_behind}
+use Rattle.run_record.specs.of_life_runs.Told.{Passed}
 use Rattle.gateway_run.specs.Mails.{AreLate, HasMails, IsLateRow, IsRowOf}
 use Rattle.gateway_run.specs.Replies.{AllDesk, IsLate}
 use Rattle.gateway_run.specs.declared.desk.Request.{Request}

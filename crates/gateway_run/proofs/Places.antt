@@ -2,10 +2,10 @@
 use Rattle.std.proofs.Common.{◌≡◌, ℕ, List, [], ◌∷◌, ◌++◌, Bool, true, false, refl, sym, ap, ◌∙◌, subst, eq-eqb, eqb-true, append-nil}
 use Rattle.std.specs.Prelude.{◌≢◌, ◌==◌, cond, if◌then◌else◌, All}
 use Rattle.std.proofs.lemmas.List.Elements.{All-nil, All-head, All-tail, All-cons}
-use Rattle.master_node.specs.Listing.{told_in}
-use Rattle.master_node.specs.of_master_tour.Made.{is_in}
-use Rattle.master_node.specs.of_master_tour.Orders.{AreOnce}
-use Rattle.master_node.specs.declared.event.Event.{Event}
+use Rattle.run_record.specs.of_master_node.Listing.{told_in}
+use Rattle.run_record.specs.of_master_tour.Made.{is_in}
+use Rattle.run_record.specs.of_master_tour.Orders.{AreOnce}
+use Rattle.run_record.specs.of_master_node.declared.event.Event.{Event}
 use Rattle.gateway_run.specs.Account.{is_of, left_by_all}
 use Rattle.gateway_run.specs.Rooms.{given_by, requests_of}
 use Rattle.gateway_run.specs.declared.desk.Request.{Request}

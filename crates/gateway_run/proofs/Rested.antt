@@ -2,14 +2,14 @@
 use Rattle.std.proofs.Common.{◌≡◌, inl, inr, ℕ, true, List, [], ◌∷◌, map, length, sym, subst}
 use Rattle.std.specs.Prelude.{All}
 use Rattle.std.proofs.lemmas.List.Elements.{All-cons, All-head, All-nil, All-tail}
-use Rattle.master_node.specs.Happened.{events_of}
-use Rattle.master_node.specs.Serving.{run_lead}
-use Rattle.master_node.specs.Wants.{AllCounted, IsServedOut}
-use Rattle.master_node.specs.of_frame_view.View.{Lens}
-use Rattle.master_node.specs.of_frame_view.Shares.{AllBoth}
-use Rattle.master_node.specs.of_life_runs.First.{lens_of}
-use Rattle.run_book.specs.declared.book.Book.{Book}
-use Rattle.run_book.specs.declared.book.SlaveBook.{SlaveBook}
+use Rattle.run_record.specs.of_master_node.Happened.{events_of}
+use Rattle.run_record.specs.of_master_node.Serving.{run_lead}
+use Rattle.run_record.specs.of_master_node.Wants.{AllCounted, IsServedOut}
+use Rattle.run_record.specs.of_frame_view.View.{Lens}
+use Rattle.run_record.specs.of_frame_view.Shares.{AllBoth}
+use Rattle.run_record.specs.of_life_runs.First.{lens_of}
+use Rattle.run_record.specs.of_run_book.declared.book.Book.{Book}
+use Rattle.run_record.specs.of_run_book.declared.book.SlaveBook.{SlaveBook}
 use Rattle.run_record.proofs.Ends.{rest_so, served_left}
 use Rattle.run_record.proofs.Lefts.{all_over}
 use Rattle.run_record.proofs.NoPackets.{none_left}
@@ -21,8 +21,8 @@ use Rattle.run_record.specs.Served.{Serving, ServingRests}
 use Rattle.run_record.specs.Session.{SessionState, are_at_rest, session_rows}
 use Rattle.run_record.specs.Written.{WereServedDue}
 use Rattle.run_record.specs.of_run_notes.Switched.{SameSwitch}
-use Rattle.segment_plan.specs.declared.plan.Scenario.{Scenario}
-use Rattle.run_record.specs.of_served_places.of_life_runs.Served.{Serves}
+use Rattle.run_record.specs.of_segment_plan.declared.plan.Scenario.{Scenario}
+use Rattle.run_record.specs.of_life_runs.Served.{Serves}
 use Rattle.gateway_run.specs.Done.{ServedRestAll, ServedRestsSo}
 use Rattle.gateway_run.specs.Serving.{LivesOn}
 

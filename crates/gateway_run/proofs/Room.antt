@@ -3,7 +3,7 @@ use Rattle.std.proofs.Common.{◌≡◌, ◌<◌, ◌≤◌, ℕ, ◌&&◌, Bool
 use Rattle.std.proofs.lemmas.Bool.{leb-true, leb-false}
 use Rattle.std.specs.Prelude.{Option, Some, None, IfSome, IsTrue, nat_le, vec_len}
 use Rattle.run_record.specs.Session.{budget_or}
-use Rattle.run_book.specs.declared.book.Book.{Book}
+use Rattle.run_record.specs.of_run_book.declared.book.Book.{Book}
 use Rattle.gateway_run.specs.Serving.{can_hear}
 use Rattle.gateway_run.specs.declared.desk.Desk.{Desk}
 use Rattle.gateway_run.specs.declared.turn.Serving.{Serving}

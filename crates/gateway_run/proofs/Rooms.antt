@@ -2,7 +2,7 @@
 use Rattle.std.proofs.Common.{◌≡◌, ℕ, List, [], ◌∷◌, ◌++◌, map, Bool, true, false, refl, sym, ap, ◌∙◌, eq-eqb, eqb-true}
 use Rattle.std.specs.Prelude.{◌≢◌, ◌==◌, ◌&&◌, not, cond, filter, find, slice_index_or, Some, All}
 use Rattle.std.proofs.lemmas.List.Elements.{All-head, All-tail, filter-append}
-use Rattle.mailbox_mail.specs.declared.mail.Mail.{Mail}
+use Rattle.gateway_core.specs.of_mailbox_mail.declared.mail.Mail.{Mail}
 use Rattle.gateway_run.specs.Account.{Owing, owing, begun_first, elsewhere, has_key, is_elsewhere, is_of, is_other, others, waits_at}
 use Rattle.gateway_run.specs.Rooms.{has_begun, owed_for, requests_of}
 use Rattle.gateway_run.specs.declared.desk.Request.{Request}

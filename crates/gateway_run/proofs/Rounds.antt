@@ -5,24 +5,24 @@ use Rattle.std.proofs.lemmas.List.Elements.{All-filter, filter-append, filter_pa
 use Rattle.gateway_core.specs.Framing.{request_in}
 use Rattle.run_record.proofs.of_served_places.Hears.{behind_heard, behind_over}
 use Rattle.run_record.specs.of_served_places.Rows.{AreAll, HearsNoMore, passed_rows, told_besides}
-use Rattle.run_record.specs.of_served_places.of_life_runs.Served.{Serves, ServedTurn, IsServedTurn, TellsSo, accepted_by, gives_it, served_behind}
-use Rattle.run_record.specs.of_served_places.of_life_runs.Told.{Passed, TellsOwn, replies_in}
-use Rattle.mailbox_mail.specs.declared.mail.Mail.{Mail}
-use Rattle.master_node.specs.Events.{begun_told}
-use Rattle.master_node.specs.Serving.{serves_of}
-use Rattle.master_node.specs.Wants.{gave_of}
-use Rattle.master_node.specs.declared.event.Event.{Event}
-use Rattle.master_node.specs.Listing.{told_in}
-use Rattle.master_node.specs.of_datagrams.Datagram as Raw
-use Rattle.master_node.specs.of_frame_view.View.{Lens}
-use Rattle.master_node.specs.of_life_model.Lives.{Stand}
-use Rattle.master_node.specs.of_life_runs.Led.{Exchanged}
-use Rattle.master_node.specs.of_master_tour.Made.{is_in}
-use Rattle.master_node.specs.of_master_tour.Orders.{AreOnce}
-use Rattle.master_node.specs.of_segment_model.Ends.{Passing}
-use Rattle.master_node.specs.of_segment_ring.declared.wire.Fate.{Fate}
-use Rattle.master_node.specs.of_segment_ring.declared.wire.Fate.TheVariants.{Pass, Lost}
-use Rattle.run_book.specs.declared.book.GramIn.{GramIn}
+use Rattle.run_record.specs.of_life_runs.Served.{Serves, ServedTurn, IsServedTurn, TellsSo, accepted_by, gives_it, served_behind}
+use Rattle.run_record.specs.of_life_runs.Told.{Passed, TellsOwn, replies_in}
+use Rattle.gateway_core.specs.of_mailbox_mail.declared.mail.Mail.{Mail}
+use Rattle.run_record.specs.of_master_node.Events.{begun_told}
+use Rattle.run_record.specs.of_master_node.Serving.{serves_of}
+use Rattle.run_record.specs.of_master_node.Wants.{gave_of}
+use Rattle.run_record.specs.of_master_node.declared.event.Event.{Event}
+use Rattle.run_record.specs.of_master_node.Listing.{told_in}
+use Rattle.run_record.specs.of_datagrams.Datagram as Raw
+use Rattle.run_record.specs.of_frame_view.View.{Lens}
+use Rattle.run_record.specs.of_life_model.Lives.{Stand}
+use Rattle.run_record.specs.of_life_runs.Led.{Exchanged}
+use Rattle.run_record.specs.of_master_tour.Made.{is_in}
+use Rattle.run_record.specs.of_master_tour.Orders.{AreOnce}
+use Rattle.run_record.specs.of_segment_model.Ends.{Passing}
+use Rattle.run_record.specs.of_segment_ring.declared.wire.Fate.{Fate}
+use Rattle.run_record.specs.of_segment_ring.declared.wire.Fate.TheVariants.{Pass, Lost}
+use Rattle.run_record.specs.of_run_book.declared.book.GramIn.{GramIn}
 use Rattle.gateway_run.specs.Account.{Owing, is_of, left_by_all, owed_by, owed_by_all, waits_at}
 use Rattle.gateway_run.specs.Desk.{AreApart}
 use Rattle.gateway_run.specs.Rooms.{AreFiled, begun_of, done_by, done_by_all, only, owed_for, requests_of, waiting_of}

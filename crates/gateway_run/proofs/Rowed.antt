@@ -1,14 +1,14 @@
 -- What each datagram got, by lives over which just these events came at the switch, with these numbers.
 use Rattle.std.proofs.Common.{◌≡◌, ℕ, Option, List, [], ◌∷◌, ◌++◌}
-use Rattle.master_node.specs.Happened.{events_of}
-use Rattle.master_node.specs.of_life_runs.Led.{Exchanged}
-use Rattle.run_book.specs.declared.book.GramIn.{GramIn}
+use Rattle.run_record.specs.of_master_node.Happened.{events_of}
+use Rattle.run_record.specs.of_life_runs.Led.{Exchanged}
+use Rattle.run_record.specs.of_run_book.declared.book.GramIn.{GramIn}
 use Rattle.run_record.specs.Served.{ServeTo}
 use Rattle.run_record.specs.of_packets_heard.Servings.{ServedNumbered}
 use Rattle.run_record.specs.Session.{SessionState}
 use Rattle.run_record.specs.of_eoe_switch.declared.switching.SwitchEvent.{SwitchEvent}
-use Rattle.segment_plan.specs.declared.plan.Scenario.{Scenario}
-use Rattle.run_record.specs.of_served_places.of_life_runs.Served.{IsServedLed, Serves}
+use Rattle.run_record.specs.of_segment_plan.declared.plan.Scenario.{Scenario}
+use Rattle.run_record.specs.of_life_runs.Served.{IsServedLed, Serves}
 use Rattle.gateway_run.specs.Account.{Owing}
 use Rattle.gateway_run.specs.Replies.{Answers}
 use Rattle.gateway_run.specs.declared.desk.Request.{Request}

@@ -4,39 +4,39 @@ use Rattle.std.specs.Prelude.{◌≢◌, ◌==◌, cond, filter, find, if◌then
 use Rattle.std.proofs.lemmas.Bool.{leb-true}
 use Rattle.std.proofs.lemmas.List.Elements.{All-nil, All-append, All-cons, All-filter, All-head, All-map, All-tail, All-weaker}
 use Rattle.run_record.proofs.of_served_places.Held.{all_has}
-use Rattle.run_record.proofs.of_served_places.of_life_runs.Tells.{HasPassed}
-use Rattle.run_record.proofs.of_served_places.of_life_runs.Telling.{serves_tell}
+use Rattle.run_record.proofs.of_life_runs.Tells.{HasPassed}
+use Rattle.run_record.proofs.of_life_runs.Telling.{serves_tell}
 use Rattle.run_record.specs.of_served_places.Rows.{ToldAll}
-use Rattle.run_record.specs.of_served_places.of_life_runs.Served.{Serves, ServedTurn, TellsSo}
-use Rattle.run_record.specs.of_served_places.of_life_runs.Told.{Passed}
-use Rattle.mailbox_mail.specs.Mail.{error_of}
-use Rattle.mailbox_mail.specs.declared.mail.Mail.{Mail}
-use Rattle.master_node.specs.Begins.{begun_of as began_of}
-use Rattle.master_node.specs.Events.{oldest_in}
-use Rattle.master_node.specs.Gateways.{is_gateway}
-use Rattle.master_node.specs.Listing.{number_at, told_in}
-use Rattle.master_node.specs.Named.{IsHanded, is_left}
-use Rattle.master_node.specs.Origins.{forwards_at}
-use Rattle.master_node.specs.Serving.{IsServed, run_lead, run_turn}
-use Rattle.master_node.specs.declared.event.Event.{Event}
-use Rattle.master_node.specs.declared.event.Event.TheVariants as events
-use Rattle.master_node.specs.declared.post.Post.{Post}
-use Rattle.master_node.specs.declared.post.Work.{Work}
-use Rattle.master_node.specs.of_frame_view.View.{Lens}
-use Rattle.master_node.specs.of_frame_view.Shares.{AllBoth, AllThree}
-use Rattle.master_node.specs.of_life_model.Lives.{Stand}
-use Rattle.master_node.specs.of_life_runs.First.{first_leads, lens_of}
-use Rattle.master_node.specs.of_life_runs.Led.{Exchanged, gives_up_at}
-use Rattle.master_node.specs.of_master_hand.declared.hand.InHand.{InHand}
-use Rattle.master_node.specs.of_master_side.declared.hand.Hand.{Ghosts}
-use Rattle.master_node.specs.of_master_tour.Made.{is_in}
-use Rattle.master_node.specs.of_master_tour.declared.stop.Stop.{Stop}
-use Rattle.master_node.specs.of_segment_model.Ends.{Passing}
-use Rattle.run_book.specs.declared.book.GramIn.{GramIn}
-use Rattle.master_node.specs.Happened.{events_of as switch_events}
+use Rattle.run_record.specs.of_life_runs.Served.{Serves, ServedTurn, TellsSo}
+use Rattle.run_record.specs.of_life_runs.Told.{Passed}
+use Rattle.gateway_core.specs.of_mailbox_mail.Mail.{error_of}
+use Rattle.gateway_core.specs.of_mailbox_mail.declared.mail.Mail.{Mail}
+use Rattle.run_record.specs.of_master_node.Begins.{begun_of as began_of}
+use Rattle.run_record.specs.of_master_node.Events.{oldest_in}
+use Rattle.run_record.specs.of_master_node.Gateways.{is_gateway}
+use Rattle.run_record.specs.of_master_node.Listing.{number_at, told_in}
+use Rattle.run_record.specs.of_master_node.Named.{IsHanded, is_left}
+use Rattle.run_record.specs.of_master_node.Origins.{forwards_at}
+use Rattle.run_record.specs.of_master_node.Serving.{IsServed, run_lead, run_turn}
+use Rattle.run_record.specs.of_master_node.declared.event.Event.{Event}
+use Rattle.run_record.specs.of_master_node.declared.event.Event.TheVariants as events
+use Rattle.run_record.specs.of_master_node.declared.post.Post.{Post}
+use Rattle.run_record.specs.of_master_node.declared.post.Work.{Work}
+use Rattle.run_record.specs.of_frame_view.View.{Lens}
+use Rattle.run_record.specs.of_frame_view.Shares.{AllBoth, AllThree}
+use Rattle.run_record.specs.of_life_model.Lives.{Stand}
+use Rattle.run_record.specs.of_life_runs.First.{first_leads, lens_of}
+use Rattle.run_record.specs.of_life_runs.Led.{Exchanged, gives_up_at}
+use Rattle.run_record.specs.of_master_hand.declared.hand.InHand.{InHand}
+use Rattle.run_record.specs.of_master_side.declared.hand.Hand.{Ghosts}
+use Rattle.run_record.specs.of_master_tour.Made.{is_in}
+use Rattle.run_record.specs.of_master_tour.declared.stop.Stop.{Stop}
+use Rattle.run_record.specs.of_segment_model.Ends.{Passing}
+use Rattle.run_record.specs.of_run_book.declared.book.GramIn.{GramIn}
+use Rattle.run_record.specs.of_master_node.Happened.{events_of as switch_events}
 use Rattle.run_record.specs.Served.{ServesOn, told_behind}
 use Rattle.run_record.specs.Session.{FrameEvents, SessionState, numbers_over}
-use Rattle.segment_plan.specs.declared.plan.Scenario.{Scenario}
+use Rattle.run_record.specs.of_segment_plan.declared.plan.Scenario.{Scenario}
 use Rattle.gateway_run.specs.Account.{Owing, has_key, is_other, left_by, left_by_all, owed_by, owed_by_all, owed_to, owing, replied, waits_at}
 use Rattle.gateway_run.specs.Events.{events_of}
 use Rattle.gateway_run.specs.Rooms.{AreFiled, done_by, done_by_all, grams_of, owed_for}

@@ -6,17 +6,17 @@ use Rattle.std.proofs.lemmas.List.Elements.{All-nil, All-head, All-push, All-tai
 use Rattle.gateway_core.specs.Framing.{request_in}
 use Rattle.gateway_core.specs.Gateway.{is_passed, judged_at, place_from, unfinished_at}
 use Rattle.gateway_core.specs.declared.asker.Asker.{Asker}
-use Rattle.run_record.specs.of_served_places.of_life_runs.Served.{Serves, served_behind}
-use Rattle.mailbox_mail.specs.Mail.{error_of}
-use Rattle.mailbox_mail.specs.declared.mail.Mail.{Mail}
-use Rattle.master_node.specs.Serving.{run_lead}
-use Rattle.master_node.specs.Wants.{gave_of}
-use Rattle.master_node.specs.of_frame_view.Shares.{AllBoth}
-use Rattle.master_node.specs.of_life_runs.First.{lens_of}
-use Rattle.master_node.specs.of_life_runs.Led.{gives_up_at}
-use Rattle.run_book.specs.declared.book.GramIn.{GramIn}
-use Rattle.run_book.specs.declared.book.SentFrame.{SentFrame}
-use Rattle.run_book.specs.declared.book.SlaveBook.{SlaveBook}
+use Rattle.run_record.specs.of_life_runs.Served.{Serves, served_behind}
+use Rattle.gateway_core.specs.of_mailbox_mail.Mail.{error_of}
+use Rattle.gateway_core.specs.of_mailbox_mail.declared.mail.Mail.{Mail}
+use Rattle.run_record.specs.of_master_node.Serving.{run_lead}
+use Rattle.run_record.specs.of_master_node.Wants.{gave_of}
+use Rattle.run_record.specs.of_frame_view.Shares.{AllBoth}
+use Rattle.run_record.specs.of_life_runs.First.{lens_of}
+use Rattle.run_record.specs.of_life_runs.Led.{gives_up_at}
+use Rattle.run_record.specs.of_run_book.declared.book.GramIn.{GramIn}
+use Rattle.run_record.specs.of_run_book.declared.book.SentFrame.{SentFrame}
+use Rattle.run_record.specs.of_run_book.declared.book.SlaveBook.{SlaveBook}
 use Rattle.run_record.specs.Led.{exchanged}
 use Rattle.run_record.specs.Served.{Serving}
 use Rattle.run_record.specs.Session.{SessionState, session_rows}
@@ -25,13 +25,13 @@ use Rattle.run_record.specs.of_run_notes.Slaves.{gaves_noted, home_of, slave_row
 use Rattle.run_record.specs.of_run_notes.declared.notes.Notes.{Notes}
 use Rattle.run_record.proofs.Noted.{GivesOne}
 use Rattle.run_record.proofs.ServedGaves.{all_give}
-use Rattle.segment_plan.specs.Sound.{IsPlan}
-use Rattle.segment_plan.specs.declared.plan.Scenario.{Scenario}
-use Rattle.master_node.specs.of_segment_ring.declared.wire.Fate.{Fate}
-use Rattle.master_node.specs.of_segment_ring.declared.wire.Fate.TheVariants as Fates
+use Rattle.run_record.specs.of_segment_plan.Sound.{IsPlan}
+use Rattle.run_record.specs.of_segment_plan.declared.plan.Scenario.{Scenario}
+use Rattle.run_record.specs.of_segment_ring.declared.wire.Fate.{Fate}
+use Rattle.run_record.specs.of_segment_ring.declared.wire.Fate.TheVariants as Fates
 use Rattle.slab.specs.Slab.{Slab}
-use Rattle.run_book.specs.of_slave_node.Node.{Node}
-use Rattle.run_book.specs.of_slave_server.declared.server.SlaveServer.{SlaveServer}
+use Rattle.run_record.specs.of_slave_node.Node.{Node}
+use Rattle.run_record.specs.of_slave_server.declared.server.SlaveServer.{SlaveServer}
 use Rattle.gateway_run.specs.Account.{Owing, Course, Course.begins, Course.hears, Course.steps, Judges, Judges.ignored as is_ignored, Judges.refused as is_refused, Judges.too_many, Judges.queues}
 use Rattle.gateway_run.specs.Events.{events_of}
 use Rattle.gateway_run.specs.Rooms.{owed_for}

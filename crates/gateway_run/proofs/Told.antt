@@ -1,11 +1,11 @@
 -- What is told to a desk.
 use Rattle.std.proofs.Common.{◌≡◌, ℕ, List, [], ◌∷◌, ◌++◌, Bool, true, false, refl, sym, ap, ◌∙◌, subst, append_assoc, append-nil}
 use Rattle.std.specs.Prelude.{cond, find, Option, Some, None}
-use Rattle.ec_outside.specs.Port.{HeardGram}
-use Rattle.mailbox_mail.specs.Mail.{error_of}
-use Rattle.mailbox_mail.specs.declared.mail.Mail.{Mail}
-use Rattle.master_node.specs.declared.event.Event.{Event}
-use Rattle.run_book.specs.declared.book.GramOut.{GramOut}
+use Rattle.gateway_core.specs.of_ec_outside.Port.{HeardGram}
+use Rattle.gateway_core.specs.of_mailbox_mail.Mail.{error_of}
+use Rattle.gateway_core.specs.of_mailbox_mail.declared.mail.Mail.{Mail}
+use Rattle.run_record.specs.of_master_node.declared.event.Event.{Event}
+use Rattle.run_record.specs.of_run_book.declared.book.GramOut.{GramOut}
 use Rattle.gateway_run.specs.Account.{Owing, owing, has_key, is_of, others, elsewhere, cut_off, owed_to, replied, left_by, owed_by, left_by_all, owed_by_all}
 use Rattle.gateway_run.specs.Desk.{IsSound, Owes, IsTold, Tells, cut_one}
 use Rattle.gateway_run.specs.declared.desk.Desk.{Desk}

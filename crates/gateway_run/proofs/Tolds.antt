@@ -3,42 +3,42 @@ use Rattle.std.proofs.Common.{◌≡◌, ◌≤◌, ℕ, zero, suc, Bool, true, 
 use Rattle.std.specs.Prelude.{◌&&◌, cond, nat_lt, if◌then◌else◌, is_some, filter, slice_get, Ok, Err}
 use Rattle.std.proofs.lemmas.Bool.{le-ltb, lt-ltb}
 use Rattle.run_record.proofs.of_served_places.Unread.{unread_accepted, unread_passing}
-use Rattle.run_record.specs.of_served_places.of_life_runs.Served.{Serves, ServedTurn, IsServedTurn, gives_it, served_behind}
-use Rattle.run_record.specs.of_served_places.of_life_runs.Told.{Passed, replies_in}
-use Rattle.master_node.proofs.Counts.{lost_gave}
-use Rattle.master_node.specs.Begins.{begun_of as began_of}
-use Rattle.master_node.specs.Besides.{given_told}
-use Rattle.master_node.specs.Events.{begun_told, origin_for}
-use Rattle.master_node.specs.Gateways.{done_told, gateway_of, is_gateway, life_told, lives_told, replies_told}
-use Rattle.master_node.specs.Lifetold.{lost_told, told_at}
-use Rattle.master_node.specs.Listing.{told_in}
-use Rattle.master_node.specs.Named.{is_left}
-use Rattle.master_node.specs.Serving.{run_turn}
-use Rattle.master_node.specs.declared.event.Event.{Event}
-use Rattle.master_node.specs.declared.event.Event.TheVariants as events
-use Rattle.master_node.specs.declared.event.Origin.{Origin}
-use Rattle.master_node.specs.of_datagrams.Datagram as Raw
-use Rattle.master_node.specs.of_datagrams.Frame.{IsFrame, chained}
-use Rattle.master_node.specs.of_frame_view.Seen.{seen}
-use Rattle.master_node.specs.of_frame_view.View.{Lens}
-use Rattle.master_node.specs.of_frame_view.Shares.{given_where}
-use Rattle.master_node.specs.of_frame_view.of_exchange_model.Exchange.{Speech}
-use Rattle.master_node.specs.of_life_model.Lives.{Life, Spot, Stand, gives_up, life_lost}
-use Rattle.master_node.specs.of_life_runs.Led.{Exchanged, speech_at}
-use Rattle.master_node.specs.of_life_runs.of_link_mails.Body.{Body}
-use Rattle.master_node.specs.of_master_duty.Reply.{Reply}
-use Rattle.master_node.specs.of_master_duty.of_state_model.Stated.{Service}
-use Rattle.master_node.specs.of_master_hand.Spoken.{Asked, acknowledged, is_followed, is_passed}
-use Rattle.master_node.specs.of_master_side.Passing.{news_lost}
-use Rattle.master_node.specs.of_master_tour.Brings.{accepted_in}
-use Rattle.master_node.specs.of_master_tour.Made.{is_in}
-use Rattle.master_node.specs.of_master_tour.Stands.{is_open, is_opening, turned_by}
-use Rattle.master_node.specs.of_segment_model.Ends.{Passing}
-use Rattle.master_node.specs.of_segment_model.Record.{News}
-use Rattle.master_node.specs.of_segment_model.Returned.{Returns}
-use Rattle.master_node.specs.of_segment_model.Slaves.{Datagram}
-use Rattle.master_node.specs.of_segment_ring.declared.wire.Fate.{Fate}
-use Rattle.master_node.specs.of_segment_ring.declared.wire.Fate.TheVariants.{Pass, Lost}
+use Rattle.run_record.specs.of_life_runs.Served.{Serves, ServedTurn, IsServedTurn, gives_it, served_behind}
+use Rattle.run_record.specs.of_life_runs.Told.{Passed, replies_in}
+use Rattle.run_record.proofs.of_master_node.Counts.{lost_gave}
+use Rattle.run_record.specs.of_master_node.Begins.{begun_of as began_of}
+use Rattle.run_record.specs.of_master_node.Besides.{given_told}
+use Rattle.run_record.specs.of_master_node.Events.{begun_told, origin_for}
+use Rattle.run_record.specs.of_master_node.Gateways.{done_told, gateway_of, is_gateway, life_told, lives_told, replies_told}
+use Rattle.run_record.specs.of_master_node.Lifetold.{lost_told, told_at}
+use Rattle.run_record.specs.of_master_node.Listing.{told_in}
+use Rattle.run_record.specs.of_master_node.Named.{is_left}
+use Rattle.run_record.specs.of_master_node.Serving.{run_turn}
+use Rattle.run_record.specs.of_master_node.declared.event.Event.{Event}
+use Rattle.run_record.specs.of_master_node.declared.event.Event.TheVariants as events
+use Rattle.run_record.specs.of_master_node.declared.event.Origin.{Origin}
+use Rattle.run_record.specs.of_datagrams.Datagram as Raw
+use Rattle.run_record.specs.of_datagrams.Frame.{IsFrame, chained}
+use Rattle.run_record.specs.of_frame_view.Seen.{seen}
+use Rattle.run_record.specs.of_frame_view.View.{Lens}
+use Rattle.run_record.specs.of_frame_view.Shares.{given_where}
+use Rattle.run_record.specs.of_exchange_model.Exchange.{Speech}
+use Rattle.run_record.specs.of_life_model.Lives.{Life, Spot, Stand, gives_up, life_lost}
+use Rattle.run_record.specs.of_life_runs.Led.{Exchanged, speech_at}
+use Rattle.run_record.specs.of_link_mails.Body.{Body}
+use Rattle.run_record.specs.of_master_duty.Reply.{Reply}
+use Rattle.run_record.specs.of_state_model.Stated.{Service}
+use Rattle.run_record.specs.of_master_hand.Spoken.{Asked, acknowledged, is_followed, is_passed}
+use Rattle.run_record.specs.of_master_side.Passing.{news_lost}
+use Rattle.run_record.specs.of_master_tour.Brings.{accepted_in}
+use Rattle.run_record.specs.of_master_tour.Made.{is_in}
+use Rattle.run_record.specs.of_master_tour.Stands.{is_open, is_opening, turned_by}
+use Rattle.run_record.specs.of_segment_model.Ends.{Passing}
+use Rattle.run_record.specs.of_segment_model.Record.{News}
+use Rattle.run_record.specs.of_segment_model.Returned.{Returns}
+use Rattle.run_record.specs.of_segment_model.Slaves.{Datagram}
+use Rattle.run_record.specs.of_segment_ring.declared.wire.Fate.{Fate}
+use Rattle.run_record.specs.of_segment_ring.declared.wire.Fate.TheVariants.{Pass, Lost}
 use Rattle.run_record.specs.Served.{told_behind}
 use Rattle.gateway_run.specs.Account.{left_by, left_by_all, owed_by, owed_by_all}
 use Rattle.gateway_run.specs.Rooms.{done_by, done_by_all, given_by}

@@ -6,43 +6,43 @@ use Rattle.gateway_core.specs.Framing.{request_in}
 use Rattle.run_record.proofs.of_served_places.All.{goes_told, same_stand, turn_held}
 use Rattle.run_record.proofs.of_served_places.Held.{next_has}
 use Rattle.run_record.proofs.of_served_places.Next.{next_free, next_passing}
-use Rattle.run_record.proofs.of_served_places.of_life_runs.Tells.{HasPassed}
+use Rattle.run_record.proofs.of_life_runs.Tells.{HasPassed}
 use Rattle.run_record.specs.of_served_places.Rows.{AreAll, HearsNoMore, IsHeld, StandsTold, ToldAll}
-use Rattle.run_record.specs.of_served_places.of_life_runs.Served.{AllServedTurn, IsServedTurn, Keyed, ServedComes, Serves, ServedTurn, TellsSo, gives_it}
-use Rattle.run_record.specs.of_served_places.of_life_runs.Told.{Passed, replies_in, told_on}
-use Rattle.mailbox_mail.specs.declared.mail.Mail.{Mail}
-use Rattle.master_node.proofs.Counts.{lost_gave}
-use Rattle.master_node.proofs.Handeds.{comes_own}
-use Rattle.master_node.specs.Begins.{begun_of as began_of}
-use Rattle.master_node.specs.Events.{begun_told, oldest_in, served_tells}
-use Rattle.master_node.specs.Listing.{number_at, told_in}
-use Rattle.master_node.specs.Serving.{run_lead, run_turn, serves_of}
-use Rattle.master_node.specs.Shows.{is_carried}
-use Rattle.master_node.specs.Wants.{gave_of}
-use Rattle.master_node.specs.declared.event.Event.{Event}
-use Rattle.master_node.specs.declared.event.Event.TheVariants as events
-use Rattle.run_record.specs.of_served_places.of_life_runs.Lives.{LifeKept}
-use Rattle.master_node.specs.of_datagrams.Datagram as Raw
-use Rattle.master_node.specs.of_datagrams.Frame.{IsFrame, chained}
-use Rattle.master_node.specs.of_frame_view.Seen.{seen}
-use Rattle.master_node.specs.of_frame_view.View.{Lens}
-use Rattle.master_node.specs.of_frame_view.Shares.{AllBoth, given_where}
-use Rattle.master_node.specs.of_life_model.Lives.{Life, Stand, life_lost}
-use Rattle.master_node.specs.of_life_runs.Led.{speech_at}
-use Rattle.master_node.specs.of_life_runs.of_link_mails.Body.{Body}
-use Rattle.master_node.specs.of_life_runs.of_segment_plan.declared.service.Service as Plan
-use Rattle.master_node.specs.of_master_duty.of_state_model.Stated.{Service}
-use Rattle.master_node.specs.of_master_duty.Reply.{Reply}
-use Rattle.master_node.specs.of_master_hand.Spoken.{Asked, acknowledged, is_followed, is_passed}
-use Rattle.master_node.specs.of_master_side.Passing.{news_back, news_lost, passing_behind}
-use Rattle.master_node.specs.of_master_tour.Brings.{accepted_in}
-use Rattle.master_node.specs.of_master_tour.Goes.{holds_at}
-use Rattle.master_node.specs.of_master_tour.Made.{is_in}
-use Rattle.master_node.specs.of_segment_model.Ends.{Passing}
-use Rattle.master_node.specs.of_segment_model.Returned.{Returns}
-use Rattle.master_node.specs.of_segment_ring.declared.wire.Fate.{Fate}
-use Rattle.master_node.specs.of_segment_ring.declared.wire.Fate.TheVariants.{Pass, Lost}
-use Rattle.run_book.specs.declared.book.GramIn.{GramIn}
+use Rattle.run_record.specs.of_life_runs.Served.{AllServedTurn, IsServedTurn, Keyed, ServedComes, Serves, ServedTurn, TellsSo, gives_it}
+use Rattle.run_record.specs.of_life_runs.Told.{Passed, replies_in, told_on}
+use Rattle.gateway_core.specs.of_mailbox_mail.declared.mail.Mail.{Mail}
+use Rattle.run_record.proofs.of_master_node.Counts.{lost_gave}
+use Rattle.run_record.proofs.of_master_node.Handeds.{comes_own}
+use Rattle.run_record.specs.of_master_node.Begins.{begun_of as began_of}
+use Rattle.run_record.specs.of_master_node.Events.{begun_told, oldest_in, served_tells}
+use Rattle.run_record.specs.of_master_node.Listing.{number_at, told_in}
+use Rattle.run_record.specs.of_master_node.Serving.{run_lead, run_turn, serves_of}
+use Rattle.run_record.specs.of_master_node.Shows.{is_carried}
+use Rattle.run_record.specs.of_master_node.Wants.{gave_of}
+use Rattle.run_record.specs.of_master_node.declared.event.Event.{Event}
+use Rattle.run_record.specs.of_master_node.declared.event.Event.TheVariants as events
+use Rattle.run_record.specs.of_life_runs.Lives.{LifeKept}
+use Rattle.run_record.specs.of_datagrams.Datagram as Raw
+use Rattle.run_record.specs.of_datagrams.Frame.{IsFrame, chained}
+use Rattle.run_record.specs.of_frame_view.Seen.{seen}
+use Rattle.run_record.specs.of_frame_view.View.{Lens}
+use Rattle.run_record.specs.of_frame_view.Shares.{AllBoth, given_where}
+use Rattle.run_record.specs.of_life_model.Lives.{Life, Stand, life_lost}
+use Rattle.run_record.specs.of_life_runs.Led.{speech_at}
+use Rattle.run_record.specs.of_link_mails.Body.{Body}
+use Rattle.run_record.specs.of_segment_plan.declared.service.Service as Plan
+use Rattle.run_record.specs.of_state_model.Stated.{Service}
+use Rattle.run_record.specs.of_master_duty.Reply.{Reply}
+use Rattle.run_record.specs.of_master_hand.Spoken.{Asked, acknowledged, is_followed, is_passed}
+use Rattle.run_record.specs.of_master_side.Passing.{news_back, news_lost, passing_behind}
+use Rattle.run_record.specs.of_master_tour.Brings.{accepted_in}
+use Rattle.run_record.specs.of_master_tour.Goes.{holds_at}
+use Rattle.run_record.specs.of_master_tour.Made.{is_in}
+use Rattle.run_record.specs.of_segment_model.Ends.{Passing}
+use Rattle.run_record.specs.of_segment_model.Returned.{Returns}
+use Rattle.run_record.specs.of_segment_ring.declared.wire.Fate.{Fate}
+use Rattle.run_record.specs.of_segment_ring.declared.wire.Fate.TheVariants.{Pass, Lost}
+use Rattle.run_record.specs.of_run_book.declared.book.GramIn.{GramIn}
 use Rattle.run_record.proofs.Noted.{next_gives, pass_gives}
 use Rattle.gateway_run.specs.Account.{Owing, left_by_all, owed_by_all}
 use Rattle.gateway_run.specs.Desk.{AreApart}

@@ -2,12 +2,12 @@
 use Rattle.std.proofs.Common.{◌≡◌, ℕ, List, [], ◌∷◌, ◌++◌, map, Bool, true, false, refl, sym, ap, ◌∙◌, subst, append_assoc}
 use Rattle.std.specs.Prelude.{◌≢◌, cond, filter, find, Some, All, ⊤}
 use Rattle.std.proofs.lemmas.List.Elements.{All-head, All-tail, All-filter}
-use Rattle.mailbox_mail.specs.Mail.{error_of}
-use Rattle.mailbox_mail.specs.declared.mail.Mail.{Mail}
-use Rattle.master_node.specs.declared.event.Event.{Event}
-use Rattle.master_node.specs.declared.event.Event.TheVariants as events
-use Rattle.master_node.specs.declared.event.Origin.{Origin}
-use Rattle.master_node.specs.declared.event.Origin.TheVariants as origins
+use Rattle.gateway_core.specs.of_mailbox_mail.Mail.{error_of}
+use Rattle.gateway_core.specs.of_mailbox_mail.declared.mail.Mail.{Mail}
+use Rattle.run_record.specs.of_master_node.declared.event.Event.{Event}
+use Rattle.run_record.specs.of_master_node.declared.event.Event.TheVariants as events
+use Rattle.run_record.specs.of_master_node.declared.event.Origin.{Origin}
+use Rattle.run_record.specs.of_master_node.declared.event.Origin.TheVariants as origins
 use Rattle.gateway_run.specs.Account.{owing, cut_off, elsewhere, has_key, is_elsewhere, is_of, is_other, left_by, left_by_all, owed_by, owed_by_all, owed_to, replied, waits_at}
 use Rattle.gateway_run.specs.Desk.{AreUnlike}
 use Rattle.gateway_run.specs.Rooms.{done_by, given_by, grams_of, only, owed_for, requests_of}

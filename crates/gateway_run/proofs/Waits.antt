@@ -1,10 +1,10 @@
 -- That a serving waits before its frames.
 use Rattle.std.proofs.Common.{◌≡◌, ◌∙◌, ℕ, ◌&&◌, List, length, Bool, true, false, not, nat_lt, ◌↔◌, refl, ap, sym, inl, ltb-false, arith}
 use Rattle.std.specs.Prelude.{IsTrue, vec_len}
-use Rattle.segment_plan.specs.declared.plan.Scenario.{Scenario}
-use Rattle.run_book.specs.declared.book.Book.{Book}
-use Rattle.run_book.specs.declared.book.GramIn.{GramIn}
-use Rattle.run_book.specs.declared.book.SentFrame.{SentFrame}
+use Rattle.run_record.specs.of_segment_plan.declared.plan.Scenario.{Scenario}
+use Rattle.run_record.specs.of_run_book.declared.book.Book.{Book}
+use Rattle.run_record.specs.of_run_book.declared.book.GramIn.{GramIn}
+use Rattle.run_record.specs.of_run_book.declared.book.SentFrame.{SentFrame}
 use Rattle.run_record.specs.Session.{SessionState}
 use Rattle.gateway_run.specs.Account.{Course, Owing, Waited}
 use Rattle.gateway_run.specs.Goes.{MaySend}

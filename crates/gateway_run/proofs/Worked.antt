@@ -3,16 +3,16 @@ use Rattle.std.proofs.Common.{◌≡◌, ◌<◌, ◌≤◌, ◌⊎◌, ℕ, tru
 use Rattle.std.specs.Prelude.{Option, Some, None, Ok, slice_index_or}
 use Rattle.std.proofs.lemmas.List.Elements.{All-cons, All-nil}
 use Rattle.std.proofs.lemmas.List.Quantifiers.{Any-push}
-use Rattle.run_record.specs.of_served_places.of_life_runs.Served.{Serves}
-use Rattle.mailbox_mail.specs.Mail.{error_of}
-use Rattle.mailbox_mail.specs.declared.mail.Kind.TheVariants.{SoE}
-use Rattle.mailbox_mail.specs.declared.mail.Mail.{Mail}
+use Rattle.run_record.specs.of_life_runs.Served.{Serves}
+use Rattle.gateway_core.specs.of_mailbox_mail.Mail.{error_of}
+use Rattle.gateway_core.specs.of_mailbox_mail.declared.mail.Kind.TheVariants.{SoE}
+use Rattle.gateway_core.specs.of_mailbox_mail.declared.mail.Mail.{Mail}
 use Rattle.gateway_core.specs.declared.framing.GatewayFault.TheVariants as faults
-use Rattle.master_node.specs.of_frame_view.of_exchange_model.Rows.{Row}
-use Rattle.master_node.specs.of_life_runs.of_link_mails.Body.{Body}
-use Rattle.master_node.specs.of_master_duty.Reply.{Reply}
-use Rattle.master_node.specs.of_master_hand.Spoken.{Asked, passed}
-use Rattle.run_book.specs.declared.book.GramIn.{GramIn}
+use Rattle.run_record.specs.of_exchange_model.Rows.{Row}
+use Rattle.run_record.specs.of_link_mails.Body.{Body}
+use Rattle.run_record.specs.of_master_duty.Reply.{Reply}
+use Rattle.run_record.specs.of_master_hand.Spoken.{Asked, passed}
+use Rattle.run_record.specs.of_run_book.declared.book.GramIn.{GramIn}
 use Rattle.gateway_run.specs.Account.{Owing}
 use Rattle.gateway_run.specs.Replies.{AllGot, Fares.dropped, Fares.replies, Fares.waits, Got.ignored, Got.queued, Got.refused}
 use Rattle.gateway_run.specs.Since.{GaveSince, NoneSince, SparedBetween}

@@ -1,20 +1,20 @@
 -- What a serving owes its peers, by what it hears and what its session tells.
 use Rattle.std.specs.Prelude.{◌≡◌, ◌≢◌, ◌<◌, ◌≤◌, ◌+◌, ◌⊎◌, ℕ, ◌==◌, ◌&&◌, Bool, true, false, not, if◌then◌else◌, List, [], ◌∷◌, ◌++◌, length, map, filter, find, slice_get, All, Any, Option, Some, None, Ok, Err}
 use Rattle.slab.specs.Slab.{Slab}
-use Rattle.ec_outside.specs.Port.{HeardGram}
-use Rattle.mailbox_mail.specs.Mail.{error_of}
-use Rattle.mailbox_mail.specs.declared.mail.Mail.{Mail}
+use Rattle.gateway_core.specs.of_ec_outside.Port.{HeardGram}
+use Rattle.gateway_core.specs.of_mailbox_mail.Mail.{error_of}
+use Rattle.gateway_core.specs.of_mailbox_mail.declared.mail.Mail.{Mail}
 use Rattle.gateway_core.specs.Framing.{request_in, gram_text}
 use Rattle.gateway_core.specs.Gateway.{judged}
 use Rattle.gateway_core.specs.declared.asker.Asker.{Asker}
 use Rattle.gateway_core.specs.declared.framing.GatewayFault.{GatewayFault}
-use Rattle.master_node.specs.declared.event.Event.{Event}
-use Rattle.master_node.specs.declared.event.Event.TheVariants as events
-use Rattle.master_node.specs.declared.event.Origin.TheVariants as origins
-use Rattle.segment_plan.specs.declared.plan.Scenario.{Scenario}
-use Rattle.run_book.specs.declared.book.GramIn.{GramIn}
-use Rattle.run_book.specs.declared.book.GramOut.{GramOut}
-use Rattle.run_book.specs.declared.book.SentFrame.{SentFrame}
+use Rattle.run_record.specs.of_master_node.declared.event.Event.{Event}
+use Rattle.run_record.specs.of_master_node.declared.event.Event.TheVariants as events
+use Rattle.run_record.specs.of_master_node.declared.event.Origin.TheVariants as origins
+use Rattle.run_record.specs.of_segment_plan.declared.plan.Scenario.{Scenario}
+use Rattle.run_record.specs.of_run_book.declared.book.GramIn.{GramIn}
+use Rattle.run_record.specs.of_run_book.declared.book.GramOut.{GramOut}
+use Rattle.run_record.specs.of_run_book.declared.book.SentFrame.{SentFrame}
 use Rattle.run_record.specs.of_run_notes.Notes.{stations_of}
 use Rattle.run_record.specs.Replay.{behind, IsRecorded}
 use Rattle.gateway_run.specs.Events.{events_of}

@@ -1,18 +1,18 @@
 -- What a serving still owes its peers.
 use Rattle.std.specs.Prelude.{◌≡◌, ◌≢◌, ◌<◌, ◌≤◌, ◌+◌, ℕ, true, false, if◌then◌else◌, List, [], ◌∷◌, ◌++◌, length, map, slice_get, Option, Some, None, Ok, All}
 use Rattle.slab.specs.Slab.{Slab, get, slab_len}
-use Rattle.ec_outside.specs.Port.{HeardGram}
-use Rattle.mailbox_mail.specs.Mail.{error_of}
-use Rattle.mailbox_mail.specs.declared.mail.Mail.{Mail}
+use Rattle.gateway_core.specs.of_ec_outside.Port.{HeardGram}
+use Rattle.gateway_core.specs.of_mailbox_mail.Mail.{error_of}
+use Rattle.gateway_core.specs.of_mailbox_mail.declared.mail.Mail.{Mail}
 use Rattle.gateway_core.specs.Framing.{request_in}
 use Rattle.gateway_core.specs.declared.asker.Asker.{Asker}
-use Rattle.master_node.specs.declared.event.Event.{Event}
+use Rattle.run_record.specs.of_master_node.declared.event.Event.{Event}
 use Rattle.run_record.specs.Served.{ServingAsks}
 use Rattle.run_record.specs.Session.{SessionState, Asks, IsDone, has_live}
-use Rattle.ec_outside.specs.declared.port.Peer.{Peer}
-use Rattle.run_book.specs.declared.book.Book.{Book}
-use Rattle.run_book.specs.declared.book.GramIn.{GramIn}
-use Rattle.run_book.specs.declared.book.GramOut.{GramOut}
+use Rattle.gateway_core.specs.of_ec_outside.declared.port.Peer.{Peer}
+use Rattle.run_record.specs.of_run_book.declared.book.Book.{Book}
+use Rattle.run_record.specs.of_run_book.declared.book.GramIn.{GramIn}
+use Rattle.run_record.specs.of_run_book.declared.book.GramOut.{GramOut}
 use Rattle.gateway_run.specs.Account.{Owing, Judges, AreSpelled, IsFree, WasHeardAt, owing, left_by_all, owed_by_all}
 use Rattle.gateway_run.specs.Heard.{heard_as, IsOwed, IsRightly}
 use Rattle.gateway_run.specs.declared.desk.Request.{Request}

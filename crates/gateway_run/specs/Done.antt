@@ -1,25 +1,25 @@
 -- WHERE A SERVING LEAVES NOTHING each datagram that was queued at a slave is done, or was ended by a give-up of that slave; and each slave rests.
 use Rattle.std.specs.Prelude.{◌≡◌, ◌⊎◌, ℕ, suc, Bool, true, false, Some, List, [], ◌∷◌, map, slice_get, ⊤}
-use Rattle.mailbox_mail.specs.Mail.{error_of}
-use Rattle.mailbox_mail.specs.declared.mail.Mail.{Mail}
+use Rattle.gateway_core.specs.of_mailbox_mail.Mail.{error_of}
+use Rattle.gateway_core.specs.of_mailbox_mail.declared.mail.Mail.{Mail}
 use Rattle.run_record.specs.of_served_places.Rows.{AreAll}
-use Rattle.run_record.specs.of_served_places.of_life_runs.Served.{Serves}
-use Rattle.master_node.specs.Serving.{run_lead}
-use Rattle.master_node.specs.of_frame_view.Shares.{AllBoth}
-use Rattle.master_node.specs.of_life_runs.First.{lens_of}
-use Rattle.master_node.specs.of_master_tour.Made.{is_in}
-use Rattle.master_node.specs.Wants.{IsMailless, gave_of}
-use Rattle.master_node.specs.of_frame_view.View.{Lens}
-use Rattle.master_node.specs.of_life_model.Lives.{Stand}
-use Rattle.master_node.specs.of_life_runs.of_link_mails.Body.{Body}
-use Rattle.run_book.specs.declared.book.Book.{Book}
-use Rattle.run_book.specs.declared.book.GramIn.{GramIn}
-use Rattle.run_book.specs.declared.book.SlaveBook.{SlaveBook}
-use Rattle.run_book.specs.of_slave_server.Serving.{next_mail}
-use Rattle.run_book.specs.of_slave_node.Node.{is_settled}
+use Rattle.run_record.specs.of_life_runs.Served.{Serves}
+use Rattle.run_record.specs.of_master_node.Serving.{run_lead}
+use Rattle.run_record.specs.of_frame_view.Shares.{AllBoth}
+use Rattle.run_record.specs.of_life_runs.First.{lens_of}
+use Rattle.run_record.specs.of_master_tour.Made.{is_in}
+use Rattle.run_record.specs.of_master_node.Wants.{IsMailless, gave_of}
+use Rattle.run_record.specs.of_frame_view.View.{Lens}
+use Rattle.run_record.specs.of_life_model.Lives.{Stand}
+use Rattle.run_record.specs.of_link_mails.Body.{Body}
+use Rattle.run_record.specs.of_run_book.declared.book.Book.{Book}
+use Rattle.run_record.specs.of_run_book.declared.book.GramIn.{GramIn}
+use Rattle.run_record.specs.of_run_book.declared.book.SlaveBook.{SlaveBook}
+use Rattle.run_record.specs.of_slave_server.Serving.{next_mail}
+use Rattle.run_record.specs.of_slave_node.Node.{is_settled}
 pub use Rattle.run_record.specs.Led.{LeavesNone}
 use Rattle.run_record.specs.Led.{LeavesNoPacket}
-use Rattle.segment_plan.specs.declared.plan.Scenario.{Scenario}
+use Rattle.run_record.specs.of_segment_plan.declared.plan.Scenario.{Scenario}
 use Rattle.gateway_run.specs.Account.{Owing}
 use Rattle.gateway_run.specs.Replies.{HasRow, mails_told}
 use Rattle.gateway_run.specs.Rooms.{owed_for}

@@ -1,12 +1,12 @@
 -- WHAT A PART OF A TURN LEAVES: a serving again, whatever its plan is, how many datagrams it is to hear and what its port told first.
 use Rattle.std.specs.Prelude.{◌≡◌, ◌<◌, ℕ, Bool, List, [], length, Option, Result, IfOk}
-use Rattle.ec_outside.specs.Port.{HeardGram}
-use Rattle.ec_outside.specs.declared.port.Heard.{Heard}
-use Rattle.ec_outside.specs.declared.port.SentGram.{SentGram}
-use Rattle.segment_plan.specs.declared.plan.Scenario.{Scenario}
-use Rattle.run_book.specs.declared.book.Book.{Book}
-use Rattle.run_book.specs.declared.book.Ending.{Ending}
-use Rattle.run_book.specs.declared.book.Ending.TheVariants as endings
+use Rattle.gateway_core.specs.of_ec_outside.Port.{HeardGram}
+use Rattle.gateway_core.specs.of_ec_outside.declared.port.Heard.{Heard}
+use Rattle.gateway_core.specs.of_ec_outside.declared.port.SentGram.{SentGram}
+use Rattle.run_record.specs.of_segment_plan.declared.plan.Scenario.{Scenario}
+use Rattle.run_record.specs.of_run_book.declared.book.Book.{Book}
+use Rattle.run_record.specs.of_run_book.declared.book.Ending.{Ending}
+use Rattle.run_record.specs.of_run_book.declared.book.Ending.TheVariants as endings
 use Rattle.gateway_run.specs.Account.{MayGo}
 use Rattle.gateway_run.specs.Serving.{Told, told, Listens, Goes, GoesHearing, IsHearing, IsServing, LivesOn, LivesUnless, EmptyWhere}
 use Rattle.gateway_run.specs.declared.stop.Stop.{Stop}

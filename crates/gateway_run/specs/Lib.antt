@@ -1,3 +1,8 @@
+pub use Rattle.gateway_core.specs as of_gateway_core
+pub use Rattle.gateway_core.specs.of_mailbox_mail as of_mailbox_mail
+pub use Rattle.run_record.specs.of_run_book as of_run_book
+pub use Rattle.run_record.specs.of_run_notes as of_run_notes
+pub use Rattle.run_record.specs as of_run_record
 pub mod Stops
 pub mod Events
 pub mod Heard

@@ -1,15 +1,15 @@
 -- THE ROWS OF MAILS in the book of a serving, beside those that its slaves' lives have.
 use Rattle.std.specs.Prelude.{◌≡◌, ◌≤◌, ◌%◌, ℕ, Some, List, slice_get}
-use Rattle.master_node.specs.of_frame_view.Shares.{AllBoth}
-use Rattle.master_node.specs.of_frame_view.of_exchange_model.Rows.{Row}
-use Rattle.master_node.specs.of_life_runs.of_link_mails.Body.{Body}
-use Rattle.master_node.specs.of_master_duty.Reply.{Reply}
-use Rattle.master_node.specs.of_master_hand.Spoken.{Asked, passed}
-use Rattle.run_book.specs.declared.book.GramIn.{GramIn}
-use Rattle.run_book.specs.declared.book.SlaveBook.{SlaveBook}
+use Rattle.run_record.specs.of_frame_view.Shares.{AllBoth}
+use Rattle.run_record.specs.of_exchange_model.Rows.{Row}
+use Rattle.run_record.specs.of_link_mails.Body.{Body}
+use Rattle.run_record.specs.of_master_duty.Reply.{Reply}
+use Rattle.run_record.specs.of_master_hand.Spoken.{Asked, passed}
+use Rattle.run_record.specs.of_run_book.declared.book.GramIn.{GramIn}
+use Rattle.run_record.specs.of_run_book.declared.book.SlaveBook.{SlaveBook}
 use Rattle.run_record.specs.of_run_notes.Packets.{mail_row, rows_with}
 use Rattle.run_record.specs.of_served_places.Rows.{passed_rows}
-use Rattle.run_record.specs.of_served_places.of_life_runs.Served.{Keyed, Serves}
+use Rattle.run_record.specs.of_life_runs.Served.{Keyed, Serves}
 
 -- A ROW OF THE BOOK IS THAT OF A LIFE: it began before the same frame, and its mail is the one with its number among all that were asked; the count has 32 bits
 pub record IsRowOf (asked : List Keyed) (row : ℕ × ℕ) (r : Row Body Asked Reply) : Type 0 where

@@ -1,29 +1,29 @@
 -- WHAT EACH DATAGRAM OF A SERVING GOT, by the lives of the slaves: nothing, one error, or the first of the replies of its own row, and all of them where that is
 -- done.
 use Rattle.std.specs.Prelude.{◌≡◌, ◌≢◌, ◌<◌, ◌≤◌, ◌⊎◌, ℕ, suc, Bool, true, false, Option, Some, None, List, [], ◌∷◌, ◌++◌, length, map, slice_get, All, Ok, Err, ⊤}
-use Rattle.master_node.specs.of_frame_view.of_exchange_model.Exchange.{plain}
-use Rattle.master_node.specs.Wants.{gave_of}
-use Rattle.master_node.specs.of_frame_view.of_exchange_model.Rows.{Row}
+use Rattle.run_record.specs.of_exchange_model.Exchange.{plain}
+use Rattle.run_record.specs.of_master_node.Wants.{gave_of}
+use Rattle.run_record.specs.of_exchange_model.Rows.{Row}
 use Rattle.gateway_core.specs.Framing.{request_in}
 use Rattle.gateway_core.specs.declared.framing.GatewayFault.{GatewayFault}
 use Rattle.run_record.specs.of_served_places.Rows.{AreAll, HearsNoMore, ToldAll, passed_rows, passings, replies_of}
-use Rattle.run_record.specs.of_served_places.of_life_runs.Served.{IsServedFrame, Keyed, ServedTurn, Serves}
-use Rattle.run_record.specs.of_served_places.of_life_runs.Told.{Passed}
-use Rattle.mailbox_mail.specs.Mail.{error_of}
-use Rattle.mailbox_mail.specs.declared.mail.Mail.{Mail}
-use Rattle.master_node.specs.of_frame_view.Shares.{AllBoth}
-use Rattle.master_node.specs.of_life_runs.First.{lens_of}
-use Rattle.master_node.specs.of_life_runs.Led.{Exchanged}
-use Rattle.master_node.specs.of_life_runs.of_link_mails.Body.{Body}
-use Rattle.master_node.specs.of_master_duty.Reply.{Reply}
-use Rattle.master_node.specs.of_master_hand.Spoken.{Asked, emission, passed}
-use Rattle.master_node.specs.of_master_tour.Made.{is_in}
-use Rattle.master_node.specs.of_segment_model.Ends.{Passing}
-use Rattle.run_book.specs.declared.book.GramIn.{GramIn}
-use Rattle.run_book.specs.declared.book.SentFrame.{SentFrame}
+use Rattle.run_record.specs.of_life_runs.Served.{IsServedFrame, Keyed, ServedTurn, Serves}
+use Rattle.run_record.specs.of_life_runs.Told.{Passed}
+use Rattle.gateway_core.specs.of_mailbox_mail.Mail.{error_of}
+use Rattle.gateway_core.specs.of_mailbox_mail.declared.mail.Mail.{Mail}
+use Rattle.run_record.specs.of_frame_view.Shares.{AllBoth}
+use Rattle.run_record.specs.of_life_runs.First.{lens_of}
+use Rattle.run_record.specs.of_life_runs.Led.{Exchanged}
+use Rattle.run_record.specs.of_link_mails.Body.{Body}
+use Rattle.run_record.specs.of_master_duty.Reply.{Reply}
+use Rattle.run_record.specs.of_master_hand.Spoken.{Asked, emission, passed}
+use Rattle.run_record.specs.of_master_tour.Made.{is_in}
+use Rattle.run_record.specs.of_segment_model.Ends.{Passing}
+use Rattle.run_record.specs.of_run_book.declared.book.GramIn.{GramIn}
+use Rattle.run_record.specs.of_run_book.declared.book.SentFrame.{SentFrame}
 use Rattle.run_record.specs.Served.{ServeTo, Serving}
 use Rattle.run_record.specs.Session.{SessionState}
-use Rattle.segment_plan.specs.declared.plan.Scenario.{Scenario}
+use Rattle.run_record.specs.of_segment_plan.declared.plan.Scenario.{Scenario}
 use Rattle.gateway_run.specs.Account.{Course, Course.begins, Course.hears, Course.steps, Owing}
 use Rattle.gateway_run.specs.Desk.{AreApart}
 use Rattle.gateway_run.specs.Events.{events_of}

@@ -1,8 +1,8 @@
 -- WHAT A DESK HAS OF ONE SLAVE: the requests whose mails wait for it, and the one whose mail is in its hand; and what was owed by one datagram.
 use Rattle.std.specs.Prelude.{◌<◌, ℕ, ◌==◌, ◌&&◌, Bool, List, [], ◌∷◌, ◌++◌, map, filter, All}
-use Rattle.mailbox_mail.specs.declared.mail.Mail.{Mail}
-use Rattle.master_node.specs.declared.event.Event.{Event}
-use Rattle.master_node.specs.declared.event.Event.TheVariants as events
+use Rattle.gateway_core.specs.of_mailbox_mail.declared.mail.Mail.{Mail}
+use Rattle.run_record.specs.of_master_node.declared.event.Event.{Event}
+use Rattle.run_record.specs.of_master_node.declared.event.Event.TheVariants as events
 use Rattle.gateway_run.specs.Account.{Owing, has_key, is_of, left_by, waits_at}
 use Rattle.gateway_run.specs.Desk.{AreUnlike}
 use Rattle.gateway_run.specs.declared.desk.Request.{Request}

@@ -1,18 +1,18 @@
 -- What a serving leaves in its book.
 use Rattle.std.specs.Prelude.{◌≡◌, ◌≢◌, ◌⊎◌, ℕ, ◌≤◌, Bool, Option, true, List, [], ◌++◌, length, map, slice_get, All, Some}
-use Rattle.ec_outside.specs.Faults.{Rose}
-use Rattle.ec_outside.specs.Port.{HeardGram}
-use Rattle.ec_outside.specs.declared.port.SentGram.{SentGram}
-use Rattle.segment_plan.specs.declared.plan.Scenario.{Scenario}
-use Rattle.run_book.specs.declared.book.Book.{Book}
-use Rattle.run_book.specs.declared.book.Ending.{Ending}
-use Rattle.run_book.specs.declared.book.Ending.TheVariants as endings
-use Rattle.run_book.specs.declared.book.GramIn.{GramIn}
-use Rattle.run_book.specs.declared.book.GramOut.{GramOut}
-use Rattle.master_node.specs.Ports.{ports_behind, ports_of}
-use Rattle.master_node.specs.Serving.{run_lead}
-use Rattle.master_node.specs.of_frame_view.Shares.{AllBoth}
-use Rattle.master_node.specs.of_life_runs.First.{lens_of}
+use Rattle.gateway_core.specs.of_ec_outside.Faults.{Rose}
+use Rattle.gateway_core.specs.of_ec_outside.Port.{HeardGram}
+use Rattle.gateway_core.specs.of_ec_outside.declared.port.SentGram.{SentGram}
+use Rattle.run_record.specs.of_segment_plan.declared.plan.Scenario.{Scenario}
+use Rattle.run_record.specs.of_run_book.declared.book.Book.{Book}
+use Rattle.run_record.specs.of_run_book.declared.book.Ending.{Ending}
+use Rattle.run_record.specs.of_run_book.declared.book.Ending.TheVariants as endings
+use Rattle.run_record.specs.of_run_book.declared.book.GramIn.{GramIn}
+use Rattle.run_record.specs.of_run_book.declared.book.GramOut.{GramOut}
+use Rattle.run_record.specs.of_master_node.Ports.{ports_behind, ports_of}
+use Rattle.run_record.specs.of_master_node.Serving.{run_lead}
+use Rattle.run_record.specs.of_frame_view.Shares.{AllBoth}
+use Rattle.run_record.specs.of_life_runs.First.{lens_of}
 use Rattle.run_record.specs.Mails.{served_mails, served_overs}
 use Rattle.run_record.specs.AcceptedMails.{AllNoted}
 use Rattle.run_record.specs.Led.{LeavesNoPacket, LeavesNone, exchanged}

@@ -1,14 +1,14 @@
 -- A serving between its turns.
 use Rattle.std.specs.Bool.{OnTrue, OnFalse}
 use Rattle.std.specs.Prelude.{◌≡◌, ℕ, ◌+◌, ◌-◌, ◌<◌, ◌≤◌, ◌&&◌, ◌||◌, Bool, true, not, nat_lt, if◌then◌else◌, List, [], ◌∷◌, ◌++◌, length, map, All, Option, Result, Ok, Err}
-use Rattle.ec_outside.specs.Faults.{Rose}
-use Rattle.ec_outside.specs.Port.{HeardGram, Hears, has_ended}
-use Rattle.ec_outside.specs.declared.port.Heard.{Heard}
-use Rattle.run_book.specs.declared.book.GramOut.{GramOut}
-use Rattle.ec_outside.specs.declared.port.SentGram.{SentGram}
-use Rattle.segment_plan.specs.Sound.{IsPlan}
-use Rattle.segment_plan.specs.declared.plan.Scenario.{Scenario}
-use Rattle.run_book.specs.declared.book.Book.{Book}
+use Rattle.gateway_core.specs.of_ec_outside.Faults.{Rose}
+use Rattle.gateway_core.specs.of_ec_outside.Port.{HeardGram, Hears, has_ended}
+use Rattle.gateway_core.specs.of_ec_outside.declared.port.Heard.{Heard}
+use Rattle.run_record.specs.of_run_book.declared.book.GramOut.{GramOut}
+use Rattle.gateway_core.specs.of_ec_outside.declared.port.SentGram.{SentGram}
+use Rattle.run_record.specs.of_segment_plan.Sound.{IsPlan}
+use Rattle.run_record.specs.of_segment_plan.declared.plan.Scenario.{Scenario}
+use Rattle.run_record.specs.of_run_book.declared.book.Book.{Book}
 use Rattle.run_record.specs.Session.{SessionState, IsDone, budget_of, has_live}
 use Rattle.run_record.specs.of_run_notes.Slaves.{home_of}
 use Rattle.run_record.specs.Ran.{HasSent, IsUnderway}

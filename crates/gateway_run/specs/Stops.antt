@@ -1,6 +1,6 @@
 -- Why a serving stops.
-use Rattle.ec_outside.specs.declared.port.PortErr.{PortErr}
-use Rattle.ec_outside.specs.declared.port.PortErr.TheVariants as errors
+use Rattle.gateway_core.specs.of_ec_outside.declared.port.PortErr.{PortErr}
+use Rattle.gateway_core.specs.of_ec_outside.declared.port.PortErr.TheVariants as errors
 use Rattle.gateway_run.specs.declared.stop.Stop.{Stop}
 use Rattle.gateway_run.specs.declared.stop.Stop.TheVariants as stops
 

@@ -1,19 +1,19 @@
 ghost use Rattle.std.specs.Prelude.{◌≡◌, ◌<◌, ◌≤◌, ◌++◌, ◌↔◌, [], List, length, find, IfSome, IfNone, IfOk, OnOk, Contains, IsTrue, option_to_list, vec_len};
 ghost use Rattle.std.specs.Option.{option_copied};
-ghost use Rattle.ec_outside.specs.Port.{HeardGram};
-ghost use Rattle.master_node.specs.declared.event.Event.TheVariants as events;
+ghost use Rattle.gateway_core.specs.of_ec_outside.Port.{HeardGram};
+ghost use Rattle.run_record.specs.of_master_node.declared.event.Event.TheVariants as events;
 ghost use Rattle.gateway_run.specs.Events.{events_of};
 ghost use Rattle.gateway_run.specs.Account.{has_key, is_of, others, elsewhere, begun_first, cut_off, replied, left_by, owed_by};
 ghost use Rattle.gateway_run.specs.Heard.{IsJudged};
 ghost use Rattle.gateway_run.specs.Desk.{HasNone, IsOpen, IsSound, HearsNow, HearsSoundly, StaysSound, AsksMails, SameLan, SameLive, StaysBusy, Tells, NotesAll, cut_one, Answers, PassesSoundly, PassesSo, IsTakenSo, Takes, TakesSoundly};
 
-use ec_fields::{NoMemory, Octets};
-use ec_outside::{Gram, Peer};
+use gateway_core::ec_fields::{NoMemory, Octets};
+use gateway_core::ec_outside::{Gram, Peer};
+use gateway_core::mailbox_mail::{Mail, error_mail};
 use gateway_core::{Asked, Gateway};
-use mailbox_mail::{Mail, error_mail};
-use master_node::{Event, Origin};
-use run_book::{Book, GramIn, GramOut};
 use run_record::Session;
+use run_record::master_node::{Event, Origin};
+use run_record::run_book::{Book, GramIn, GramOut};
 use std::alloc::Global;
 use std::collections::VecDeque;
 

@@ -1,7 +1,7 @@
 ghost use Rattle.std.specs.Prelude.{◌≡◌, ◌≢◌, ◌<◌, [], true, false, IfOk, OnOk};
-ghost use Rattle.segment_plan.specs.Sound.{IsPlan};
-ghost use Rattle.run_book.specs.Book.{IsNew};
-ghost use Rattle.run_book.specs.declared.book.Ending.TheVariants as endings;
+ghost use Rattle.run_record.specs.of_segment_plan.Sound.{IsPlan};
+ghost use Rattle.run_record.specs.of_run_book.Book.{IsNew};
+ghost use Rattle.run_record.specs.of_run_book.declared.book.Ending.TheVariants as endings;
 ghost use Rattle.run_record.specs.Served.{ServingRests};
 ghost use Rattle.run_record.specs.Session.{session_rows, are_at_rest};
 ghost use Rattle.run_record.specs.Ran.{HasSent, EndsSo};
@@ -11,11 +11,11 @@ ghost use Rattle.gateway_run.specs.Served.{IsServedOver};
 
 use crate::stop::Stop;
 use crate::turn::Serving;
-use ec_fields::NoMemory;
-use ec_outside::Port;
-use run_book::{Book, Ending};
+use gateway_core::ec_fields::NoMemory;
+use gateway_core::ec_outside::Port;
 use run_record::Session;
-use segment_plan::Scenario;
+use run_record::run_book::{Book, Ending};
+use run_record::segment_plan::Scenario;
 use std::alloc::Global;
 
 // How a serving ends at which nothing is left to do.

@@ -1,9 +1,9 @@
 ghost use Rattle.std.specs.Prelude.{◌≡◌, ◌≢◌, ◌<◌, ◌≤◌, [], true, false, IfOk, OnOk};
 ghost use Rattle.std.specs.Bool.{OnTrue, OnFalse};
-ghost use Rattle.ec_outside.specs.declared.port.Heard.TheVariants as heards;
-ghost use Rattle.master_node.specs.Happened.{HasHappened};
-ghost use Rattle.master_node.specs.Ports.{ports_of};
-ghost use Rattle.segment_plan.specs.Sound.{IsPlan};
+ghost use Rattle.gateway_core.specs.of_ec_outside.declared.port.Heard.TheVariants as heards;
+ghost use Rattle.run_record.specs.of_master_node.Happened.{HasHappened};
+ghost use Rattle.run_record.specs.of_master_node.Ports.{ports_of};
+ghost use Rattle.run_record.specs.of_segment_plan.Sound.{IsPlan};
 ghost use Rattle.run_record.specs.Served.{ServingBegins};
 ghost use Rattle.run_record.specs.Session.{first_session};
 ghost use Rattle.gateway_run.specs.Desk.{HasNone, SameLive, StaysBusy};
@@ -12,11 +12,11 @@ ghost use Rattle.gateway_run.specs.Serving.{told, SendsOne, LivesUnless, EmptyWh
 
 use crate::desk::Desk;
 use crate::stop::Stop;
-use ec_fields::NoMemory;
-use ec_outside::{Gram, Heard, Port};
-use run_book::{Book, GramOut};
+use gateway_core::ec_fields::NoMemory;
+use gateway_core::ec_outside::{Gram, Heard, Port};
 use run_record::Session;
-use segment_plan::Scenario;
+use run_record::run_book::{Book, GramOut};
+use run_record::segment_plan::Scenario;
 use std::alloc::Global;
 
 /// A serving of a plan.

@@ -1,8 +1,8 @@
 -- How a port that listens asked its link.
 use Rattle.std.proofs.Common.{◌≡◌, ◌∙◌, ap, ℕ, suc, ◌+◌, ◌≤◌, Bool, Option, None, Some, Result, arith}
-use Rattle.ec_outside.specs.Calls.{one_more}
-use Rattle.ec_outside.specs.declared.port.Heard.{Heard}
-use Rattle.ec_outside.specs.declared.port.PortErr.{PortErr}
+use Rattle.ec_links.specs.of_ec_outside.Calls.{one_more}
+use Rattle.ec_links.specs.of_ec_outside.declared.port.Heard.{Heard}
+use Rattle.ec_links.specs.of_ec_outside.declared.port.PortErr.{PortErr}
 use Rattle.ec_links.specs.Link.{asked_more, is_quiet}
 use Rattle.ec_links.specs.declared.link.Asked.{Asked}
 use Rattle.gateway_stream.specs.Hearing.{AsksLink, TurnsTo}

@@ -3,11 +3,11 @@ use Rattle.std.proofs.Common.{◌≡◌, ◌∙◌, ap, sym, refl, ℕ, inl, inr
 use Rattle.std.proofs.lemmas.List.{map-append}
 use Rattle.std.proofs.lemmas.Slice.Eq.{bytes_eq-Decides}
 use Rattle.std.specs.Str.{bytes_eq}
-use Rattle.ec_outside.specs.Port.{HeardGram, Hears}
-use Rattle.ec_outside.specs.declared.port.Heard.TheVariants.{From, Quiet, Ended}
-use Rattle.ec_outside.specs.declared.port.Peer.{Peer}
-use Rattle.ec_outside.specs.declared.port.Heard.{Heard}
-use Rattle.ec_outside.specs.declared.port.PortErr.{PortErr}
+use Rattle.ec_links.specs.of_ec_outside.Port.{HeardGram, Hears}
+use Rattle.ec_links.specs.of_ec_outside.declared.port.Heard.TheVariants.{From, Quiet, Ended}
+use Rattle.ec_links.specs.of_ec_outside.declared.port.Peer.{Peer}
+use Rattle.ec_links.specs.of_ec_outside.declared.port.Heard.{Heard}
+use Rattle.ec_links.specs.of_ec_outside.declared.port.PortErr.{PortErr}
 use Rattle.ec_links.specs.Link.{Gives, GivesPiece}
 use Rattle.ec_links.specs.declared.link.LinkErr.{LinkErr}
 use Rattle.ec_links.specs.declared.link.Piece.{Piece}

@@ -4,11 +4,11 @@ use Rattle.std.proofs.Math.Seq.{take-length}
 use Rattle.std.proofs.lemmas.List.{map-append, length-append, take-append-drop, take-append-le}
 use Rattle.std.proofs.lemmas.Slice.Eq.{bytes_eq-Decides}
 use Rattle.std.specs.Str.{bytes_eq}
-use Rattle.ec_outside.specs.Port.{Sends}
-use Rattle.ec_outside.specs.declared.port.Peer.{Peer}
-use Rattle.ec_outside.specs.declared.port.PortErr.{PortErr}
-use Rattle.ec_outside.specs.declared.port.PortErr.TheVariants as errors
-use Rattle.ec_outside.specs.declared.port.SentGram.{SentGram}
+use Rattle.ec_links.specs.of_ec_outside.Port.{Sends}
+use Rattle.ec_links.specs.of_ec_outside.declared.port.Peer.{Peer}
+use Rattle.ec_links.specs.of_ec_outside.declared.port.PortErr.{PortErr}
+use Rattle.ec_links.specs.of_ec_outside.declared.port.PortErr.TheVariants as errors
+use Rattle.ec_links.specs.of_ec_outside.declared.port.SentGram.{SentGram}
 use Rattle.ec_links.specs.Link.{told_more, PutsPrefix}
 use Rattle.gateway_stream.specs.Cutting.{Cut, is_header, whole_of, is_whole, is_request, cut_off, requests_of, behind_of}
 use Rattle.gateway_stream.specs.Hearing.{PutsBytes}

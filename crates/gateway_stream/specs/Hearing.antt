@@ -1,11 +1,11 @@
 -- What a port hears on a stream of octets.
 use Rattle.std.specs.Prelude.{◌≡◌, ℕ, ◌+◌, ◌≤◌, ◌⊎◌, ◌&&◌, Bool, true, false, not, if◌then◌else◌, List, map, Option, Some, None, Result, Ok, Err, is_none}
 use Rattle.std.specs.Str.{bytes_eq}
-use Rattle.ec_outside.specs.Port.{HeardGram}
-use Rattle.ec_outside.specs.declared.port.Heard.{Heard}
-use Rattle.ec_outside.specs.declared.port.Heard.TheVariants.{Quiet}
-use Rattle.ec_outside.specs.declared.port.PortErr.{PortErr}
-use Rattle.ec_outside.specs.declared.port.PortErr.TheVariants as port_errors
+use Rattle.ec_links.specs.of_ec_outside.Port.{HeardGram}
+use Rattle.ec_links.specs.of_ec_outside.declared.port.Heard.{Heard}
+use Rattle.ec_links.specs.of_ec_outside.declared.port.Heard.TheVariants.{Quiet}
+use Rattle.ec_links.specs.of_ec_outside.declared.port.PortErr.{PortErr}
+use Rattle.ec_links.specs.of_ec_outside.declared.port.PortErr.TheVariants as port_errors
 use Rattle.ec_links.specs.declared.link.Asked.{Asked}
 use Rattle.ec_links.specs.declared.link.LinkErr.{LinkErr}
 use Rattle.ec_links.specs.declared.link.LinkErr.TheVariants as link_errors

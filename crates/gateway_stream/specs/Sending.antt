@@ -1,9 +1,9 @@
 -- What a port sends on a stream of octets.
 use Rattle.std.specs.Prelude.{◌≡◌, ◌≢◌, ℕ, ◌≤◌, ◌&&◌, Bool, true, false, if◌then◌else◌, List, [], ◌∷◌, ◌++◌, length, take, map, Option, Some, None, Result, Err}
 use Rattle.std.specs.Str.{bytes_eq}
-use Rattle.ec_outside.specs.declared.port.PortErr.{PortErr}
-use Rattle.ec_outside.specs.declared.port.PortErr.TheVariants as errors
-use Rattle.ec_outside.specs.declared.port.SentGram.{SentGram}
+use Rattle.ec_links.specs.of_ec_outside.declared.port.PortErr.{PortErr}
+use Rattle.ec_links.specs.of_ec_outside.declared.port.PortErr.TheVariants as errors
+use Rattle.ec_links.specs.of_ec_outside.declared.port.SentGram.{SentGram}
 use Rattle.gateway_stream.specs.Cutting.{is_request, requests_of, behind_of}
 
 -- a datagram to the one peer of a stream, 127.0.0.1

@@ -1,13 +1,13 @@
 ghost use Rattle.std.specs.Prelude.{◌≡◌, ◌<◌, ◌≤◌, ◌||◌, [], true, false, length, Some, None, Ok, Err, IsTrue, IfOk, IfSome};
-ghost use Rattle.ec_outside.specs.Faults.{Rose};
-ghost use Rattle.ec_outside.specs.Port.{Hears, IsBlank, Sends, has_ended};
+ghost use Rattle.ec_links.specs.of_ec_outside.Faults.{Rose};
+ghost use Rattle.ec_links.specs.of_ec_outside.Port.{Hears, IsBlank, Sends, has_ended};
 ghost use Rattle.gateway_stream.specs.Cutting.{is_whole};
 ghost use Rattle.gateway_stream.specs.Hearing.{heard_of, is_broken, answer_of, error_of, AsksLink, PutsBytes, TurnsTo};
 
 use crate::cutting::missing;
-use ec_fields::refill;
+use ec_links::ec_fields::refill;
+use ec_links::ec_outside::{Gram, Heard, Peer, Port, PortErr};
 use ec_links::{Link, LinkErr, Piece};
-use ec_outside::{Gram, Heard, Peer, Port, PortErr};
 
 /// The peer of a stream, whose address is the loopback's, 127.0.0.1.
 pub(crate) const PEER: Peer = Peer {

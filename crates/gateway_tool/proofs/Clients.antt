@@ -3,31 +3,31 @@ use Rattle.std.proofs.Common.{◌≡◌, ℕ, ◌+◌, ◌<◌, ◌≤◌, List,
 use Rattle.std.specs.Prelude.{is_some, if◌then◌else◌, zero, suc}
 use Rattle.std.proofs.lemmas.List.{length-map}
 use Rattle.std.specs.Bool.{OnTrue}
-use Rattle.mailbox_mail.specs.declared.mail.Mail.{Mail}
-use Rattle.mailbox_mail.specs.declared.outcome.Took.{Took}
-use Rattle.exchange_model.specs.Areas.{Areas}
-use Rattle.exchange_model.specs.Dialogue.{Turn, next, again, stop, chosen, turn_at, said}
-use Rattle.protocol_models.specs.CoeMails as CoeMails
-use Rattle.protocol_models.specs.CoeOctets.{coe_mail_heard, coe_mail_written}
-use Rattle.protocol_models.specs.CoeClient as CoeClient
-use Rattle.protocol_models.specs.CoeModel as CoeModel
+use Rattle.gateway_core.specs.of_mailbox_mail.declared.mail.Mail.{Mail}
+use Rattle.gateway_core.specs.of_mailbox_mail.declared.outcome.Took.{Took}
+use Rattle.foe_client.specs.of_exchange_model.Areas.{Areas}
+use Rattle.foe_client.specs.of_exchange_model.Dialogue.{Turn, next, again, stop, chosen, turn_at, said}
+use Rattle.foe_client.specs.of_protocol_models.CoeMails as CoeMails
+use Rattle.foe_client.specs.of_protocol_models.CoeOctets.{coe_mail_heard, coe_mail_written}
+use Rattle.foe_client.specs.of_protocol_models.CoeClient as CoeClient
+use Rattle.foe_client.specs.of_protocol_models.CoeModel as CoeModel
 use Rattle.coe_client.specs.Talk as CoeTalk
 use Rattle.coe_client.specs.Hear as CoeHear
 use Rattle.coe_client.specs.Send as CoeSend
 use Rattle.coe_client.specs.declared.state.Awaits as CoeAwaits
 use Rattle.coe_client.specs.declared.state.Task.{Task}
 use Rattle.coe_client.specs.declared.state.Unsent as CoeUnsent
-use Rattle.protocol_models.specs.FoeMails as FoeMails
-use Rattle.protocol_models.specs.FoeOctets.{foe_mail_heard, foe_mail_written}
-use Rattle.protocol_models.specs.FoeMeaning as FoeMeaning
-use Rattle.protocol_models.specs.FoeClient as FoeClient
-use Rattle.protocol_models.specs.FoeModel as FoeModel
+use Rattle.foe_client.specs.of_protocol_models.FoeMails as FoeMails
+use Rattle.foe_client.specs.of_protocol_models.FoeOctets.{foe_mail_heard, foe_mail_written}
+use Rattle.foe_client.specs.of_protocol_models.FoeMeaning as FoeMeaning
+use Rattle.foe_client.specs.of_protocol_models.FoeClient as FoeClient
+use Rattle.foe_client.specs.of_protocol_models.FoeModel as FoeModel
 use Rattle.foe_client.specs.Talk as FoeTalk
 use Rattle.foe_client.specs.Hear as FoeHear
 use Rattle.foe_client.specs.Send as FoeSend
 use Rattle.foe_client.specs.declared.state.Awaits as FoeAwaits
 use Rattle.foe_client.specs.declared.state.Unsent as FoeUnsent
-use Rattle.object_dictionary.specs.declared.service.SdoService.{SdoService}
+use Rattle.coe_client.specs.of_object_dictionary.declared.service.SdoService.{SdoService}
 use Rattle.segment_plan.specs.declared.service.Service.{Service}
 use Rattle.gateway_tool.specs.Rule.{IsForm, planned, ends}
 use Rattle.gateway_tool.specs.Client.{left, awaits, Begins, SendsNext, Takes}

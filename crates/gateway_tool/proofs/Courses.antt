@@ -1,7 +1,7 @@
 -- How a talk goes on where the port fails.
 use Rattle.std.proofs.Common.{◌≡◌, Bool, true, false, Ok, Err, refl, sym, ap, ◌∙◌, subst, inl, inr}
 use Rattle.std.specs.Prelude.{Result}
-use Rattle.ec_outside.specs.declared.port.PortErr.{PortErr}
+use Rattle.gateway_core.specs.of_ec_outside.declared.port.PortErr.{PortErr}
 use Rattle.gateway_tool.specs.Rule.{Call}
 use Rattle.gateway_tool.specs.Told.{Told}
 use Rattle.gateway_tool.specs.Talk.{Lacks, SendsSo, HasHeard, WaitsSo, EndsSo, GoesSo}

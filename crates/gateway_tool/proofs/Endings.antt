@@ -1,9 +1,9 @@
 -- How a call ended, by what its talk keeps.
 use Rattle.std.proofs.Common.{◌≡◌, ℕ, ◌≤◌, List, [], ◌∷◌, ◌++◌, Bool, true, false, Some, None, Ok, Err, refl, sym, ap, ◌∙◌, subst, length, arith, inl, inr}
 use Rattle.std.specs.Prelude.{◌⊎◌, ◌||◌, nat_le, Result}
-use Rattle.ec_outside.specs.Faults.{Rose}
-use Rattle.ec_outside.specs.declared.port.PortErr.{PortErr}
-use Rattle.mailbox_mail.specs.declared.mail.Mail.{Mail}
+use Rattle.gateway_core.specs.of_ec_outside.Faults.{Rose}
+use Rattle.gateway_core.specs.of_ec_outside.declared.port.PortErr.{PortErr}
+use Rattle.gateway_core.specs.of_mailbox_mail.declared.mail.Mail.{Mail}
 use Rattle.gateway_tool.specs.declared.reply.Reply.{Reply}
 use Rattle.gateway_tool.specs.Rule.{IsForm, Call, Standing, said, hears_all, is_spent, at_first, grams_of}
 use Rattle.gateway_tool.specs.Told.{Told, Adds}

@@ -3,14 +3,14 @@ use Rattle.std.proofs.Common.{◌≡◌, ℕ, ◌-◌, ◌<◌, ◌≤◌, List,
 use Rattle.std.specs.Prelude.{zero, suc, Result, ◌==◌}
 use Rattle.std.proofs.lemmas.Bool.Decides.{nat_tests}
 use Rattle.std.proofs.lemmas.List.{append_assoc, length-drop, take-append-drop, take_all}
-use Rattle.mailbox_mail.specs.Mail.{IsMail, mail_text, mail_read}
-use Rattle.mailbox_mail.proofs.Laws.{read-found}
-use Rattle.mailbox_mail.specs.declared.mail.Mail.{Mail}
-use Rattle.mailbox_mail.specs.declared.mail.MailFault.{MailFault}
+use Rattle.gateway_core.specs.of_mailbox_mail.Mail.{IsMail, mail_text, mail_read}
+use Rattle.gateway_core.proofs.of_mailbox_mail.Laws.{read-found}
+use Rattle.gateway_core.specs.of_mailbox_mail.declared.mail.Mail.{Mail}
+use Rattle.gateway_core.specs.of_mailbox_mail.declared.mail.MailFault.{MailFault}
 use Rattle.gateway_core.specs.Framing.{request_in, request_of, length_read, type_in, length_in, octets_in}
 use Rattle.gateway_core.specs.declared.framing.GatewayFault.{GatewayFault}
 use Rattle.gateway_core.specs.declared.framing.GatewayFault.TheVariants as faults
-use Rattle.ec_fields.proofs.Cells.{AreOctets, AreOctets-drop}
+use Rattle.coe_client.proofs.of_ec_fields.Cells.{AreOctets, AreOctets-drop}
 use Rattle.gateway_tool.specs.Rule.{mail_in}
 
 -- what is read

@@ -4,11 +4,11 @@ use Rattle.std.specs.Prelude.{◌||◌, not, is_some, nat_le}
 use Rattle.std.proofs.lemmas.List.{append_assoc}
 use Rattle.std.proofs.lemmas.Bool.{and_parts, and_from}
 use Rattle.std.proofs.lemmas.Bool.Decides.{nat_tests}
-use Rattle.ec_outside.specs.Port.{HeardGram}
-use Rattle.mailbox_mail.specs.Mail.{error_of}
-use Rattle.mailbox_mail.specs.declared.mail.Mail.{Mail}
-use Rattle.mailbox_mail.specs.declared.outcome.ReplyKind.{ReplyKind}
-use Rattle.mailbox_mail.specs.declared.outcome.Took.{Took}
+use Rattle.gateway_core.specs.of_ec_outside.Port.{HeardGram}
+use Rattle.gateway_core.specs.of_mailbox_mail.Mail.{error_of}
+use Rattle.gateway_core.specs.of_mailbox_mail.declared.mail.Mail.{Mail}
+use Rattle.gateway_core.specs.of_mailbox_mail.declared.outcome.ReplyKind.{ReplyKind}
+use Rattle.gateway_core.specs.of_mailbox_mail.declared.outcome.Took.{Took}
 use Rattle.link_model.specs.Counters.{counter_of}
 use Rattle.gateway_core.specs.Framing.{request_in}
 use Rattle.gateway_tool.specs.Rule.{Call, Standing, planned, ends, said, replied, is_next, mail_in, mail_to, hears_mail, hears, hears_all, is_spent, is_open, are_awaited, at_first, passed_over, with_mail}

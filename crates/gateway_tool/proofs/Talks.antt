@@ -2,13 +2,13 @@
 use Rattle.std.proofs.Common.{◌≡◌, ℕ, ◌+◌, ◌<◌, ◌≤◌, List, [], ◌∷◌, ◌++◌, true, false, Option, Some, None, Ok, Err, refl, sym, ap, ◌∙◌, subst, length, arith, inl, inr, length-append, append-nil}
 use Rattle.std.specs.Prelude.{suc, Result, ◌⊎◌}
 use Rattle.std.proofs.lemmas.List.{append_assoc}
-use Rattle.ec_outside.specs.Faults.{Rose}
-use Rattle.ec_outside.specs.Port.{Sends}
-use Rattle.ec_outside.specs.declared.port.Peer.{Peer}
-use Rattle.ec_outside.specs.declared.port.PortErr.{PortErr}
-use Rattle.ec_outside.specs.declared.port.SentGram.{SentGram}
-use Rattle.mailbox_mail.specs.declared.mail.Mail.{Mail}
-use Rattle.mailbox_mail.specs.declared.mail.Kind.{Kind}
+use Rattle.gateway_core.specs.of_ec_outside.Faults.{Rose}
+use Rattle.gateway_core.specs.of_ec_outside.Port.{Sends}
+use Rattle.gateway_core.specs.of_ec_outside.declared.port.Peer.{Peer}
+use Rattle.gateway_core.specs.of_ec_outside.declared.port.PortErr.{PortErr}
+use Rattle.gateway_core.specs.of_ec_outside.declared.port.SentGram.{SentGram}
+use Rattle.gateway_core.specs.of_mailbox_mail.declared.mail.Mail.{Mail}
+use Rattle.gateway_core.specs.of_mailbox_mail.declared.mail.Kind.{Kind}
 use Rattle.link_model.specs.Counters.{counter_of, next_counter}
 use Rattle.link_model.proofs.Lists.{counter_of-push}
 use Rattle.gateway_core.specs.Framing.{gram_text}

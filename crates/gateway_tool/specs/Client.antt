@@ -1,15 +1,15 @@
 -- What a client has to say and to hear, as mails.
 use Rattle.std.specs.Prelude.{◌≡◌, ℕ, true, is_some, List, [], ◌∷◌, map, Option, None}
-pub use Rattle.mailbox_mail.specs.Bodies.{mail_with}
-use Rattle.mailbox_mail.specs.Mail.{error_of}
-use Rattle.mailbox_mail.specs.declared.mail.Mail.{Mail}
-use Rattle.mailbox_mail.specs.declared.mail.Kind.{Kind}
-use Rattle.mailbox_mail.specs.declared.outcome.ReplyKind.{ReplyKind}
-use Rattle.mailbox_mail.specs.declared.outcome.Took.{Took}
-use Rattle.exchange_model.specs.Areas.{Areas}
-use Rattle.protocol_models.specs.CoeOctets.{coe_mail_heard, coe_mail_written}
+pub use Rattle.gateway_core.specs.of_mailbox_mail.Bodies.{mail_with}
+use Rattle.gateway_core.specs.of_mailbox_mail.Mail.{error_of}
+use Rattle.gateway_core.specs.of_mailbox_mail.declared.mail.Mail.{Mail}
+use Rattle.gateway_core.specs.of_mailbox_mail.declared.mail.Kind.{Kind}
+use Rattle.gateway_core.specs.of_mailbox_mail.declared.outcome.ReplyKind.{ReplyKind}
+use Rattle.gateway_core.specs.of_mailbox_mail.declared.outcome.Took.{Took}
+use Rattle.foe_client.specs.of_exchange_model.Areas.{Areas}
+use Rattle.foe_client.specs.of_protocol_models.CoeOctets.{coe_mail_heard, coe_mail_written}
 use Rattle.coe_client.specs.Talk as CoeTalk
-use Rattle.protocol_models.specs.FoeOctets.{foe_mail_heard, foe_mail_written}
+use Rattle.foe_client.specs.of_protocol_models.FoeOctets.{foe_mail_heard, foe_mail_written}
 use Rattle.foe_client.specs.Talk as FoeTalk
 use Rattle.segment_plan.specs.declared.service.Service.{Service}
 use Rattle.gateway_tool.specs.Rule.{planned, ends}

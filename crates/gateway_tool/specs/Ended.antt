@@ -1,7 +1,7 @@
 -- How a call ends.
 use Rattle.std.specs.Prelude.{◌≡◌, ◌≤◌, ◌⊎◌, true, false, List, [], ◌∷◌, length, Some, None}
-use Rattle.ec_outside.specs.Faults.{Rose}
-use Rattle.ec_outside.specs.Port.{HeardGram}
+use Rattle.gateway_core.specs.of_ec_outside.Faults.{Rose}
+use Rattle.gateway_core.specs.of_ec_outside.Port.{HeardGram}
 use Rattle.gateway_tool.specs.declared.reply.Reply.{Reply}
 use Rattle.gateway_tool.specs.Rule.{Call, Standing, at_first, said, replied, is_spent, hears_all, are_awaited, grams_of}
 use Rattle.gateway_tool.specs.Told.{Told, Adds}

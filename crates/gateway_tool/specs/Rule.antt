@@ -1,22 +1,22 @@
 -- The rule by which a service goes over a gateway: which of the datagrams heard are taken, and which mails are sent for them.
 use Rattle.std.specs.Prelude.{ℕ, suc, ◌≤◌, ◌==◌, ◌&&◌, ◌||◌, not, nat_le, Bool, true, is_some, if◌then◌else◌, List, [], ◌∷◌, ◌++◌, map, length, Option, Some, None, Result, Ok, Err}
-use Rattle.ec_outside.specs.Port.{HeardGram}
-use Rattle.ec_outside.specs.declared.port.Peer.{Peer}
-use Rattle.ec_outside.specs.declared.port.SentGram.{SentGram}
-use Rattle.mailbox_mail.specs.Mail.{error_of}
-use Rattle.mailbox_mail.specs.declared.mail.Mail.{Mail}
-use Rattle.mailbox_mail.specs.declared.outcome.ReplyKind.{ReplyKind}
+use Rattle.gateway_core.specs.of_ec_outside.Port.{HeardGram}
+use Rattle.gateway_core.specs.of_ec_outside.declared.port.Peer.{Peer}
+use Rattle.gateway_core.specs.of_ec_outside.declared.port.SentGram.{SentGram}
+use Rattle.gateway_core.specs.of_mailbox_mail.Mail.{error_of}
+use Rattle.gateway_core.specs.of_mailbox_mail.declared.mail.Mail.{Mail}
+use Rattle.gateway_core.specs.of_mailbox_mail.declared.outcome.ReplyKind.{ReplyKind}
 use Rattle.link_model.specs.Counters.{counter_of}
-use Rattle.exchange_model.specs.Areas.{Areas}
-use Rattle.protocol_models.specs.CoeOctets.{coe_mail_heard, coe_mail_written}
-use Rattle.protocol_models.specs.CoeModel as CoeModel
-use Rattle.protocol_models.specs.CoeClient as CoeClient
+use Rattle.foe_client.specs.of_exchange_model.Areas.{Areas}
+use Rattle.foe_client.specs.of_protocol_models.CoeOctets.{coe_mail_heard, coe_mail_written}
+use Rattle.foe_client.specs.of_protocol_models.CoeModel as CoeModel
+use Rattle.foe_client.specs.of_protocol_models.CoeClient as CoeClient
 use Rattle.coe_client.specs.Talk.{service_view}
-use Rattle.protocol_models.specs.FoeOctets.{foe_mail_heard, foe_mail_written}
-use Rattle.protocol_models.specs.FoeMeaning.{read, write}
-use Rattle.protocol_models.specs.FoeModel as FoeModel
-use Rattle.protocol_models.specs.FoeClient as FoeClient
-use Rattle.object_dictionary.specs.declared.service.SdoService.{SdoService}
+use Rattle.foe_client.specs.of_protocol_models.FoeOctets.{foe_mail_heard, foe_mail_written}
+use Rattle.foe_client.specs.of_protocol_models.FoeMeaning.{read, write}
+use Rattle.foe_client.specs.of_protocol_models.FoeModel as FoeModel
+use Rattle.foe_client.specs.of_protocol_models.FoeClient as FoeClient
+use Rattle.coe_client.specs.of_object_dictionary.declared.service.SdoService.{SdoService}
 use Rattle.segment_plan.specs.Sound.{IsSdo, IsName}
 use Rattle.segment_plan.specs.declared.service.Service.{Service}
 use Rattle.gateway_core.specs.Framing.{request_in, gram_text}

@@ -1,12 +1,12 @@
 -- A call under way.
 use Rattle.std.specs.Prelude.{◌≡◌, ◌≤◌, ◌⊎◌, ℕ, ◌+◌, ◌-◌, ◌*◌, ◌||◌, nat_le, is_some, Bool, true, false, List, [], ◌∷◌, ◌++◌, length, Option, Some, None, Result, Ok, Err}
-use Rattle.ec_outside.specs.Faults.{Rose}
-use Rattle.ec_outside.specs.Port.{HeardGram}
-use Rattle.ec_outside.specs.declared.port.Peer.{Peer}
-use Rattle.ec_outside.specs.declared.port.PortErr.{PortErr}
+use Rattle.gateway_core.specs.of_ec_outside.Faults.{Rose}
+use Rattle.gateway_core.specs.of_ec_outside.Port.{HeardGram}
+use Rattle.gateway_core.specs.of_ec_outside.declared.port.Peer.{Peer}
+use Rattle.gateway_core.specs.of_ec_outside.declared.port.PortErr.{PortErr}
 use Rattle.gateway_core.specs.Framing.{request_in}
-use Rattle.mailbox_mail.specs.declared.mail.Mail.{Mail}
-use Rattle.mailbox_mail.specs.declared.outcome.Took.{Took}
+use Rattle.gateway_core.specs.of_mailbox_mail.declared.mail.Mail.{Mail}
+use Rattle.gateway_core.specs.of_mailbox_mail.declared.outcome.Took.{Took}
 use Rattle.link_model.specs.Counters.{counter_of}
 use Rattle.gateway_tool.specs.Rule.{Call, Standing, planned, ends, mail_in, mail_to, at_first, hears_all, are_awaited, gram_of, grams_of}
 use Rattle.gateway_tool.specs.Told.{Told, Adds}

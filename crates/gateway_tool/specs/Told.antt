@@ -1,7 +1,7 @@
 -- What a port tells.
 use Rattle.std.specs.Prelude.{◌≡◌, ℕ, Bool, List, ◌++◌, Option, Some, None}
-use Rattle.ec_outside.specs.Port.{HeardGram}
-use Rattle.ec_outside.specs.declared.port.SentGram.{SentGram}
+use Rattle.gateway_core.specs.of_ec_outside.Port.{HeardGram}
+use Rattle.gateway_core.specs.of_ec_outside.declared.port.SentGram.{SentGram}
 
 -- the datagrams heard and sent so far, where they are told, whether the port ended, and its faults
 pub record Told : Type 0 where

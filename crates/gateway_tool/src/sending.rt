@@ -1,5 +1,5 @@
 ghost use Rattle.std.specs.Prelude.{◌≡◌, ◌≤◌, List, [], None, length, IfOk};
-ghost use Rattle.mailbox_mail.specs.declared.mail.Mail.{Mail as AMail};
+ghost use Rattle.gateway_core.specs.of_mailbox_mail.declared.mail.Mail.{Mail as AMail};
 ghost use Rattle.gateway_tool.specs.Rule.{IsForm, Call, Standing, at_first};
 ghost use Rattle.gateway_tool.specs.Told.{Told, told};
 ghost use Rattle.gateway_tool.specs.Client.{left, awaits};
@@ -9,9 +9,9 @@ use crate::client::Client;
 use crate::gram::write_gram;
 use crate::talk::Talk;
 use arrayvec::ArrayVec;
-use ec_fields::NoMemory;
-use ec_outside::{Gram, Peer, Port, PortErr};
-use mailbox_mail::{Mail, next_counter};
+use gateway_core::ec_fields::NoMemory;
+use gateway_core::ec_outside::{Gram, Peer, Port, PortErr};
+use gateway_core::mailbox_mail::{Mail, next_counter};
 use segment_plan::Service;
 use std::alloc::Global;
 

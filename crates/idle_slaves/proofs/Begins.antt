@@ -2,27 +2,27 @@
 use Rattle.std.proofs.Common.{◌≡◌, ℕ, Bool, true, false, Option, Some, None, refl, sym, ap, ◌∙◌, subst, arith, if◌then◌else◌, inl, inr}
 use Rattle.idle_slaves.specs.Eager.{Remembered}
 use Rattle.idle_slaves.specs.Standing.{Steps, Standing}
-use Rattle.exchange_model.specs.Exchange.{Speech}
-use Rattle.frame_view.specs.View.{Lens}
+use Rattle.plan_ring.specs.of_exchange_model.Exchange.{Speech}
+use Rattle.plan_ring.specs.of_frame_view.View.{Lens}
 use Rattle.idle_slaves.specs.Visited.{IsFor, is_boxed}
 use Rattle.idle_slaves.specs.Waiting.{Wanted}
-use Rattle.life_model.specs.Repairs.{way_of, stand_way, half_way}
-use Rattle.life_model.specs.Lives.{Life, Spot, Stand, returns_to_init}
-use Rattle.link_mails.specs.Body.{Body}
-use Rattle.link_model.specs.Link.{Halves}
-use Rattle.link_model.specs.Master.{InState}
-use Rattle.master_duty.specs.Reply.{Reply}
+use Rattle.plan_ring.specs.of_life_model.Repairs.{way_of, stand_way, half_way}
+use Rattle.plan_ring.specs.of_life_model.Lives.{Life, Spot, Stand, returns_to_init}
+use Rattle.plan_ring.specs.of_link_mails.Body.{Body}
+use Rattle.plan_ring.specs.of_link_model.Link.{Halves}
+use Rattle.plan_ring.specs.of_link_model.Master.{InState}
+use Rattle.plan_ring.specs.of_master_duty.Reply.{Reply}
 use Rattle.plan_ring.specs.of_master_hand.Spoken.{Asked}
 use Rattle.plan_ring.specs.PlanMet.{slave_at}
 use Rattle.plan_ring.specs.of_run_frames.Clocks.{duty_reopens, goes_to_init}
 use Rattle.plan_ring.specs.of_run_frames.Goes.{HandAt}
 use Rattle.plan_ring.specs.of_run_frames.Waits.{new_waits}
-use Rattle.segment_model.specs.Slaves.{serving}
-use Rattle.segment_plan.specs.declared.service.Service as Plan
-use Rattle.segment_plan.specs.declared.slave.SlaveSpec.{SlaveSpec}
+use Rattle.plan_ring.specs.of_segment_model.Slaves.{serving}
+use Rattle.plan_ring.specs.of_segment_plan.declared.service.Service as Plan
+use Rattle.plan_ring.specs.of_segment_plan.declared.slave.SlaveSpec.{SlaveSpec}
 use Rattle.plan_ring.specs.of_slave_server.Serving.{Serving}
-use Rattle.slave_node.specs.Node.{Node}
-use Rattle.state_model.specs.Accounts.{Duty, Stage}
+use Rattle.plan_ring.specs.of_slave_node.Node.{Node}
+use Rattle.plan_ring.specs.of_state_model.Accounts.{Duty, Stage}
 use Rattle.idle_slaves.proofs.Fits.{IsFit, exchange_at, table_at}
 
 clear_way : (state : InState) → half_way 1 1 state ≡ None → state ≡ InState.Clear

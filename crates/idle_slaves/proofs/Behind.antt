@@ -1,20 +1,20 @@
 -- A life behind a frame that came back, for its hand, its halves and its row.
 use Rattle.std.proofs.Common.{◌≡◌, ℕ, ◌==◌, Bool, true, false, Option, Some, None, List, [], ◌∷◌, ◌++◌, length, refl, sym, ap, ◌∙◌, subst, if◌then◌else◌, append-nil, eq-eqb, inl, inr}
 use Rattle.std.specs.Prelude.{◌&&◌, not, option_map, drop}
-use Rattle.exchange_model.specs.Exchange.{Speech, plain}
-use Rattle.exchange_model.specs.Rows.{Row, left, row_heard, answer_after}
-use Rattle.slave_model.specs.Moments.{NowAnswered}
+use Rattle.plan_ring.specs.of_exchange_model.Exchange.{Speech, plain}
+use Rattle.plan_ring.specs.of_exchange_model.Rows.{Row, left, row_heard, answer_after}
+use Rattle.plan_ring.specs.of_slave_model.Moments.{NowAnswered}
 use Rattle.idle_slaves.specs.Visited.{IsFor}
 use Rattle.idle_slaves.specs.Waiting.{Wanted}
 use Rattle.idle_slaves.proofs.Returning.{reopens_era}
-use Rattle.life_model.specs.Lives.{Life, Era, Spot, Stand, life_back, era_back, reopens, reopens_at}
-use Rattle.life_model.specs.Own.{own}
-use Rattle.link_model.specs.Frames.{halves_after, halves_answered, halves_accept, all_accepted}
-use Rattle.segment_model.specs.Ends.{Passing}
-use Rattle.segment_model.specs.Record.{News, is_for}
-use Rattle.segment_model.specs.Seats.{side_back}
-use Rattle.segment_model.specs.Slaves.{Datagram, Found, grams}
-use Rattle.state_model.specs.Accounts.{Duty, account_back, account_met, account_by, access_done}
+use Rattle.plan_ring.specs.of_life_model.Lives.{Life, Era, Spot, Stand, life_back, era_back, reopens, reopens_at}
+use Rattle.plan_ring.specs.of_life_model.Own.{own}
+use Rattle.plan_ring.specs.of_link_model.Frames.{halves_after, halves_answered, halves_accept, all_accepted}
+use Rattle.plan_ring.specs.of_segment_model.Ends.{Passing}
+use Rattle.plan_ring.specs.of_segment_model.Record.{News, is_for}
+use Rattle.plan_ring.specs.of_segment_model.Seats.{side_back}
+use Rattle.plan_ring.specs.of_segment_model.Slaves.{Datagram, Found, grams}
+use Rattle.plan_ring.specs.of_state_model.Accounts.{Duty, account_back, account_met, account_by, access_done}
 
 module _ {M Q R : Type 0} (x : Speech M Q R) (acknowledged : Q → Bool) (more : M → Bool) (passed : Q → Bool) (frame : ℕ) (spot : Spot) (ns : List (News M)) (back : List (Datagram M)) (came : Option (Bool × Option Found)) (l : Life M Q R) (stands : l.stand ≡ Stand.Open) where
   abbrev pub behind : Life M Q R

@@ -1,17 +1,17 @@
 -- What comes into hand of an open slave, for its halves and its row.
 use Rattle.std.proofs.Common.{◌≡◌, ℕ, Bool, true, false, Option, Some, None, List, [], ◌∷◌, ◌++◌, refl, ap, ◌∙◌, if◌then◌else◌}
 use Rattle.std.specs.Prelude.{◌&&◌, option_map}
-use Rattle.exchange_model.specs.Exchange.{Speech}
-use Rattle.exchange_model.specs.Rows.{Row, begun, left, row_told}
+use Rattle.plan_ring.specs.of_exchange_model.Exchange.{Speech}
+use Rattle.plan_ring.specs.of_exchange_model.Rows.{Row, begun, left, row_told}
 use Rattle.idle_slaves.specs.Visited.{HasRow}
-use Rattle.life_model.specs.Lives.{Life, Stand, life_next, granted, passing_begins}
-use Rattle.link_model.specs.Mails.{LinkMail}
-use Rattle.link_model.specs.Slave.{Node}
+use Rattle.plan_ring.specs.of_life_model.Lives.{Life, Stand, life_next, granted, passing_begins}
+use Rattle.plan_ring.specs.of_link_model.Mails.{LinkMail}
+use Rattle.plan_ring.specs.of_link_model.Slave.{Node}
 use Rattle.plan_ring.proofs.of_run_frames.Access.{begins_same, holds_same}
-use Rattle.segment_model.specs.Ends.{Passing}
-use Rattle.segment_model.specs.Seats.{Side, Choice, side_begins, side_holds, side_next, next_mail, first_left, is_over}
-use Rattle.state_model.specs.Stated.{Service}
-use Rattle.state_model.specs.Accounts.{Account, Duty, Pick, mails_begin, mails_choice, account_begins, account_next}
+use Rattle.plan_ring.specs.of_segment_model.Ends.{Passing}
+use Rattle.plan_ring.specs.of_segment_model.Seats.{Side, Choice, side_begins, side_holds, side_next, next_mail, first_left, is_over}
+use Rattle.plan_ring.specs.of_state_model.Stated.{Service}
+use Rattle.plan_ring.specs.of_state_model.Accounts.{Account, Duty, Pick, mails_begin, mails_choice, account_begins, account_next}
 
 module _ {M Q R : Type 0} (x : Speech M Q R) (frame : ℕ) where
   -- the inward half stays

@@ -1,18 +1,18 @@
 -- What comes into hand with a visit, by its master's choice.
 use Rattle.std.proofs.Common.{◌≡◌, ◌⊎◌, ◌≤◌, ℕ, Bool, true, false, Option, Some, None, List, [], ◌∷◌, ◌++◌, refl, sym, ap, ◌∙◌, subst, if◌then◌else◌, inl, inr}
 use Rattle.std.specs.Prelude.{◌&&◌, length, nat_lt}
-use Rattle.exchange_model.specs.Exchange.{Speech}
-use Rattle.exchange_model.specs.Rows.{Row, begun, left}
-use Rattle.life_model.specs.Lives.{Life, Stand, life_next, granted, passing_begins}
-use Rattle.link_model.specs.Link.{Halves, Link, held_after}
-use Rattle.link_model.specs.Mails.{LinkMail}
-use Rattle.link_model.specs.Master.{out_hold}
-use Rattle.link_model.specs.Slave.{Node, Server}
+use Rattle.plan_ring.specs.of_exchange_model.Exchange.{Speech}
+use Rattle.plan_ring.specs.of_exchange_model.Rows.{Row, begun, left}
+use Rattle.plan_ring.specs.of_life_model.Lives.{Life, Stand, life_next, granted, passing_begins}
+use Rattle.plan_ring.specs.of_link_model.Link.{Halves, Link, held_after}
+use Rattle.plan_ring.specs.of_link_model.Mails.{LinkMail}
+use Rattle.plan_ring.specs.of_link_model.Master.{out_hold}
+use Rattle.plan_ring.specs.of_link_model.Slave.{Node, Server}
 use Rattle.plan_ring.specs.of_run_frames.Waits.{Waits}
-use Rattle.segment_model.specs.Ends.{Passing}
-use Rattle.segment_model.specs.Seats.{Side, Choice, side_begins, side_holds, side_next, next_mail, first_left, is_over, is_none_left}
-use Rattle.state_model.specs.Stated.{Service}
-use Rattle.state_model.specs.Accounts.{Account, Duty, Pick, Stage, account_begins, mails_begin, mails_choice, is_free, is_acknowledged, starts, state_begins}
+use Rattle.plan_ring.specs.of_segment_model.Ends.{Passing}
+use Rattle.plan_ring.specs.of_segment_model.Seats.{Side, Choice, side_begins, side_holds, side_next, next_mail, first_left, is_over, is_none_left}
+use Rattle.plan_ring.specs.of_state_model.Stated.{Service}
+use Rattle.plan_ring.specs.of_state_model.Accounts.{Account, Duty, Pick, Stage, account_begins, mails_begin, mails_choice, is_free, is_acknowledged, starts, state_begins}
 use Rattle.idle_slaves.specs.Waiting.{Wanted, Memory, Coming}
 use Rattle.idle_slaves.specs.Visited.{IsFor, IsUnpaused, Waiting, Chosen, is_boxed, is_served, memory_next}
 

@@ -1,26 +1,26 @@
 -- A session of slaves: of each that answers the state service in hand and the registers are come to by events.
 use Rattle.std.proofs.Common.{◌≡◌, ℕ, Bool, true, false, Option, Some, None, List, [], ◌∷◌, ◌++◌, length, refl, sym, ap, subst, if◌then◌else◌}
 use Rattle.std.specs.Prelude.{⊤, ◌&&◌}
-use Rattle.exchange_model.specs.Exchange.{Exchange}
+use Rattle.plan_ring.specs.of_exchange_model.Exchange.{Exchange}
 use Rattle.idle_slaves.specs.Going.{IsCome}
 use Rattle.idle_slaves.specs.Phases.{idle_states}
-use Rattle.life_model.specs.Eras.{EraIs, era_frames, planned}
-use Rattle.life_model.specs.Lives.{Spot, Era}
-use Rattle.link_model.specs.Mails.{LinkMail}
-use Rattle.link_model.specs.Segment.{RingFate}
-use Rattle.segment_model.specs.Laws.{EachSeat}
-use Rattle.segment_model.specs.Record.{Frame, News}
-use Rattle.segment_model.specs.Seats.{Side, Seat, Planned, IsFrame, ring_of, sides_of, seat_next, seats_next, seat_back, seats_after, seats_back, seats_lost, side_lost, seat_steps, new_seats}
-use Rattle.segment_model.specs.Slaves.{Processor, Datagram, Registers, Ring, Slave, slave_after, frame_after, ring_back}
-use Rattle.state_model.specs.Stated.{Stated, Service}
-use Rattle.state_model.specs.States as States
-use Rattle.state_model.specs.States.{Table, Phase}
-use Rattle.state_model.proofs.Carries.{carry_place}
-use Rattle.state_model.proofs.Rings.{SamePlace, same_place, place_on}
-use Rattle.state_model.proofs.Served.{Served}
-use Rattle.state_model.proofs.Walks.{EachOne, IsPlaced, AllApart, SeatMet, seats_apart, all_apart, all_reach, each_map, each_next, each_back, each_lost, each_steps}
-use Rattle.state_model.specs.Accounts.{Account, Duty, Stage, Pick, mails_choice, account_begins, account_next, account_back, is_free, is_acknowledged, state_begins}
-use Rattle.state_model.specs.Tasks.{Answers, IsBrought, CarriesWords, AllBrought, TaskTurn, TaskSession, AreServed, MayRun, IsTasked, IsTaskPlan, mails_choices, accounts_next, accounts_after, happens, run, new_accounts, new_tasks}
+use Rattle.plan_ring.specs.of_life_model.Eras.{EraIs, era_frames, planned}
+use Rattle.plan_ring.specs.of_life_model.Lives.{Spot, Era}
+use Rattle.plan_ring.specs.of_link_model.Mails.{LinkMail}
+use Rattle.plan_ring.specs.of_link_model.Segment.{RingFate}
+use Rattle.plan_ring.specs.of_segment_model.Laws.{EachSeat}
+use Rattle.plan_ring.specs.of_segment_model.Record.{Frame, News}
+use Rattle.plan_ring.specs.of_segment_model.Seats.{Side, Seat, Planned, IsFrame, ring_of, sides_of, seat_next, seats_next, seat_back, seats_after, seats_back, seats_lost, side_lost, seat_steps, new_seats}
+use Rattle.plan_ring.specs.of_segment_model.Slaves.{Processor, Datagram, Registers, Ring, Slave, slave_after, frame_after, ring_back}
+use Rattle.plan_ring.specs.of_state_model.Stated.{Stated, Service}
+use Rattle.plan_ring.specs.of_state_model.States as States
+use Rattle.plan_ring.specs.of_state_model.States.{Table, Phase}
+use Rattle.plan_ring.proofs.of_state_model.Carries.{carry_place}
+use Rattle.plan_ring.proofs.of_state_model.Rings.{SamePlace, same_place, place_on}
+use Rattle.plan_ring.proofs.of_state_model.Served.{Served}
+use Rattle.plan_ring.proofs.of_state_model.Walks.{EachOne, IsPlaced, AllApart, SeatMet, seats_apart, all_apart, all_reach, each_map, each_next, each_back, each_lost, each_steps}
+use Rattle.plan_ring.specs.of_state_model.Accounts.{Account, Duty, Stage, Pick, mails_choice, account_begins, account_next, account_back, is_free, is_acknowledged, state_begins}
+use Rattle.plan_ring.specs.of_state_model.Tasks.{Answers, IsBrought, CarriesWords, AllBrought, TaskTurn, TaskSession, AreServed, MayRun, IsTasked, IsTaskPlan, mails_choices, accounts_next, accounts_after, happens, run, new_accounts, new_tasks}
 use Rattle.idle_slaves.proofs.Events.{ComesTo, FitsStage, Fits, new_come, same_come, step_come, begun_come, wrote_come, lost_come, looked_come}
 
 -- a service in hand before a frame: it was, or came into hand and drains

@@ -1,23 +1,23 @@
 -- By a master's rule at a visit: where a state service might begin behind a write in vain, none is left.
 use Rattle.std.proofs.Common.{◌≡◌, ℕ, ◌&&◌, Bool, true, false, Option, Some, None, List, [], ◌∷◌, length, length-append, refl, sym, ap, ◌∙◌, subst, arith, if◌then◌else◌}
-use Rattle.slave_model.specs.Moments.{IsFree, HeldStill, NowAnswered}
-use Rattle.slave_model.proofs.Laws.{answered, begun}
-use Rattle.slave_model.proofs.Ready.{ready}
-use Rattle.exchange_model.specs.Exchange.{Exchange, Speech, IsLawful}
-use Rattle.exchange_model.specs.Rows.{Row, ends_unheard, left}
+use Rattle.plan_ring.specs.of_slave_model.Moments.{IsFree, HeldStill, NowAnswered}
+use Rattle.plan_ring.proofs.of_slave_model.Laws.{answered, begun}
+use Rattle.plan_ring.proofs.of_slave_model.Ready.{ready}
+use Rattle.plan_ring.specs.of_exchange_model.Exchange.{Exchange, Speech, IsLawful}
+use Rattle.plan_ring.specs.of_exchange_model.Rows.{Row, ends_unheard, left}
 use Rattle.idle_slaves.specs.Held.{Took}
-use Rattle.life_model.specs.Eras.{EraIs}
-use Rattle.life_model.specs.Lives.{Spot, Era, era_next, granted, passing_begins}
+use Rattle.plan_ring.specs.of_life_model.Eras.{EraIs}
+use Rattle.plan_ring.specs.of_life_model.Lives.{Spot, Era, era_next, granted, passing_begins}
 use Rattle.plan_ring.specs.Alike.{Alike, RowIs}
 use Rattle.plan_ring.proofs.Alike.{unheard_same}
 use Rattle.plan_ring.proofs.NamedAlike.{left_same, in_hand}
-use Rattle.segment_model.specs.Ends.{Passing}
-use Rattle.segment_model.specs.Record.{Frame}
-use Rattle.segment_model.specs.Seats.{Side, side_back, side_next}
-use Rattle.segment_model.specs.Slaves.{Datagram, Processor, Registers, Slave}
-use Rattle.state_model.specs.Stated.{Stated, IsStated, Service}
-use Rattle.state_model.specs.States.{Table}
-use Rattle.state_model.specs.Accounts.{Account, Duty, Pick, account_begins, is_free, is_acknowledged, mails_begin, starts, state_begins}
+use Rattle.plan_ring.specs.of_segment_model.Ends.{Passing}
+use Rattle.plan_ring.specs.of_segment_model.Record.{Frame}
+use Rattle.plan_ring.specs.of_segment_model.Seats.{Side, side_back, side_next}
+use Rattle.plan_ring.specs.of_segment_model.Slaves.{Datagram, Processor, Registers, Slave}
+use Rattle.plan_ring.specs.of_state_model.Stated.{Stated, IsStated, Service}
+use Rattle.plan_ring.specs.of_state_model.States.{Table}
+use Rattle.plan_ring.specs.of_state_model.Accounts.{Account, Duty, Pick, account_begins, is_free, is_acknowledged, mails_begin, starts, state_begins}
 
 granted_none : {Q : Type 0} (passing : Option Passing) (pick : Pick Q) → pick.begin ≡ None → (granted passing pick).begin ≡ None
 granted_none None pick none = none

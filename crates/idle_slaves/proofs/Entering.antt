@@ -9,7 +9,7 @@ use Rattle.plan_ring.specs.of_run_frames.Led.{behind_back, still_led, waits_led}
 use Rattle.plan_ring.specs.of_run_frames.Runs.{Progress}
 use Rattle.plan_ring.specs.of_run_frames.Toured.{IsToured}
 use Rattle.plan_ring.specs.of_run_frames.Waits.{Waits, all_anew}
-use Rattle.segment_plan.specs.declared.plan.Scenario.{Scenario}
+use Rattle.plan_ring.specs.of_segment_plan.declared.plan.Scenario.{Scenario}
 use Rattle.idle_slaves.proofs.Lists.{Slave, still_same}
 use Rattle.idle_slaves.specs.Entered.{EagerBut, host_frames, Entered}
 

@@ -1,12 +1,12 @@
 -- A state service in hand and its slave's registers, event by event.
 use Rattle.std.proofs.Common.{◌≡◌, ℕ, Bool, true, false, Option, Some, None, List, [], ◌∷◌, ◌++◌, refl, sym, ap, ◌∙◌, subst, if◌then◌else◌}
 use Rattle.idle_slaves.specs.Phases.{idle_states}
-use Rattle.link_model.specs.Link.{Fate, is_met}
-use Rattle.segment_model.specs.Record.{News}
-use Rattle.segment_model.specs.Slaves.{Registers}
-use Rattle.state_model.specs.States.{Table, Phase, Hand, States, Event, Turn, happens, run, begins, writes, looks, returned, turned, shown, reads, word_of, word_met, phase_behind, phase_written, carry}
-use Rattle.state_model.specs.Accounts.{Account, Duty, Stage, account_by, turn_progress}
-use Rattle.state_model.proofs.Served.{duty_of}
+use Rattle.plan_ring.specs.of_link_model.Link.{Fate, is_met}
+use Rattle.plan_ring.specs.of_segment_model.Record.{News}
+use Rattle.plan_ring.specs.of_segment_model.Slaves.{Registers}
+use Rattle.plan_ring.specs.of_state_model.States.{Table, Phase, Hand, States, Event, Turn, happens, run, begins, writes, looks, returned, turned, shown, reads, word_of, word_met, phase_behind, phase_written, carry}
+use Rattle.plan_ring.specs.of_state_model.Accounts.{Account, Duty, Stage, account_by, turn_progress}
+use Rattle.plan_ring.proofs.of_state_model.Served.{duty_of}
 
 run_more : {M R : Type 0} (table : Table) (w : States M R) (es : List Event) (e : Event) → run table w (es ++ e ∷ []) ≡ happens table (run table w es) e
 run_more table w [] e = refl

@@ -2,21 +2,21 @@
 use Rattle.std.proofs.Common.{◌≡◌, ℕ, Bool, true, false, is_some, Option, Some, None, List, [], ◌∷◌, refl, sym, ap, ◌∙◌, subst, arith, if◌then◌else◌, inl, inr}
 use Rattle.idle_slaves.specs.Visited.{IsFor, Waiting, visit_for}
 use Rattle.idle_slaves.specs.Waiting.{Wanted, Memory, IsWaiting}
-use Rattle.life_model.specs.Visits.{Visit}
-use Rattle.life_model.specs.Lives.{Life}
-use Rattle.link_mails.specs.Body.{Body}
-use Rattle.link_model.specs.Frames.{Ask, node_meets}
-use Rattle.link_model.specs.Link.{Halves, Event, happens, written, write_counter}
-use Rattle.link_model.specs.Mails.{LinkMail}
-use Rattle.link_model.specs.Slave.{Node, Server, processor_step}
-use Rattle.master_duty.specs.Reply.{Reply}
+use Rattle.plan_ring.specs.of_life_model.Visits.{Visit}
+use Rattle.plan_ring.specs.of_life_model.Lives.{Life}
+use Rattle.plan_ring.specs.of_link_mails.Body.{Body}
+use Rattle.plan_ring.specs.of_link_model.Frames.{Ask, node_meets}
+use Rattle.plan_ring.specs.of_link_model.Link.{Halves, Event, happens, written, write_counter}
+use Rattle.plan_ring.specs.of_link_model.Mails.{LinkMail}
+use Rattle.plan_ring.specs.of_link_model.Slave.{Node, Server, processor_step}
+use Rattle.plan_ring.specs.of_master_duty.Reply.{Reply}
 use Rattle.plan_ring.specs.of_master_hand.Spoken.{Asked}
 use Rattle.plan_ring.specs.of_run_frames.Waits.{Waits}
-use Rattle.segment_model.specs.Ends.{Passing}
-use Rattle.segment_model.specs.Slaves.{Datagram, Serving, Slave, Registers, slave_after, slave_meets, registers_met}
-use Rattle.state_model.specs.States.{Table, carry, word_carried, decided}
+use Rattle.plan_ring.specs.of_segment_model.Ends.{Passing}
+use Rattle.plan_ring.specs.of_segment_model.Slaves.{Datagram, Serving, Slave, Registers, slave_after, slave_meets, registers_met}
+use Rattle.plan_ring.specs.of_state_model.States.{Table, carry, word_carried, decided}
 use Rattle.idle_slaves.specs.Steps.{NotGone}
-use Rattle.state_model.specs.Accounts.{Duty, Stage}
+use Rattle.plan_ring.specs.of_state_model.Accounts.{Duty, Stage}
 use Rattle.idle_slaves.specs.Eager.{AsksVisit, AsksStage, AsksFor, IsDraining}
 use Rattle.idle_slaves.specs.Standing.{Steps, Unvisited}
 

@@ -3,39 +3,39 @@ use Rattle.std.specs.Prelude.{◌≡◌, ◌≢◌, ◌⊎◌, ℕ, Bool, true, 
 use Rattle.idle_slaves.specs.Eager.{Remembered, NoneLeft, MayBegin, IsEager, RemembersOn}
 use Rattle.idle_slaves.specs.EagerFrames.{One, TellsBy}
 use Rattle.idle_slaves.specs.Standing.{IsDone}
-use Rattle.exchange_model.specs.Exchange.{Exchange, Speech}
-use Rattle.exchange_model.specs.Rows.{Row, left}
-use Rattle.frame_view.specs.View.{Lens}
-use Rattle.slave_model.specs.Moments.{NowAnswered}
+use Rattle.plan_ring.specs.of_exchange_model.Exchange.{Exchange, Speech}
+use Rattle.plan_ring.specs.of_exchange_model.Rows.{Row, left}
+use Rattle.plan_ring.specs.of_frame_view.View.{Lens}
+use Rattle.plan_ring.specs.of_slave_model.Moments.{NowAnswered}
 use Rattle.idle_slaves.specs.Going.{IsCome}
 use Rattle.idle_slaves.specs.Links.{HasLink}
 use Rattle.idle_slaves.specs.Visited.{LifeSpent}
-use Rattle.life_model.specs.Gains.{gains}
-use Rattle.life_model.specs.Lives.{Era, Life, Spot, Stand, life_next}
-use Rattle.life_model.specs.Own.{own}
+use Rattle.plan_ring.specs.of_life_model.Gains.{gains}
+use Rattle.plan_ring.specs.of_life_model.Lives.{Era, Life, Spot, Stand, life_next}
+use Rattle.plan_ring.specs.of_life_model.Own.{own}
 use Rattle.plan_ring.specs.of_life_runs.Led.{Leads, Took, speech_at, is_passed}
-use Rattle.link_mails.specs.Body.{Body}
-use Rattle.master_duty.specs.Reply.{Reply}
+use Rattle.plan_ring.specs.of_link_mails.Body.{Body}
+use Rattle.plan_ring.specs.of_master_duty.Reply.{Reply}
 use Rattle.plan_ring.specs.of_master_hand.Spoken.{Asked, acknowledged, is_followed}
 use Rattle.plan_ring.specs.PlanMet.{slave_at, IsMet}
 use Rattle.plan_ring.specs.Asked.{asked}
 use Rattle.plan_ring.specs.of_run_frames.Clocks.{Clocked}
 use Rattle.plan_ring.specs.of_run_frames.Goes.{Under, back_life}
 use Rattle.plan_ring.specs.of_run_frames.Waits.{Waits}
-use Rattle.segment_model.specs.Slaves.{Datagram, serving}
-use Rattle.segment_plan.specs.declared.service.Service as Plan
-use Rattle.segment_plan.specs.declared.slave.SlaveSpec.{SlaveSpec}
-use Rattle.slave_lives.specs.Lived.{table_of}
-use Rattle.slave_parts.specs.Parts.{Core, Server}
-use Rattle.slave_parts.specs.of_protocol_models.Network.{Station}
+use Rattle.plan_ring.specs.of_segment_model.Slaves.{Datagram, serving}
+use Rattle.plan_ring.specs.of_segment_plan.declared.service.Service as Plan
+use Rattle.plan_ring.specs.of_segment_plan.declared.slave.SlaveSpec.{SlaveSpec}
+use Rattle.plan_ring.specs.of_slave_lives.Lived.{table_of}
+use Rattle.plan_ring.specs.of_slave_parts.Parts.{Core, Server}
+use Rattle.plan_ring.specs.of_protocol_models.Network.{Station}
 use Rattle.plan_ring.specs.of_slave_server.Serving.{Serving}
 use Rattle.plan_ring.specs.of_slave_server.Spec.{profile_of}
-use Rattle.slave_node.specs.Node.{Node}
-use Rattle.state_model.specs.Families.{InState}
-use Rattle.state_model.specs.Stated.{Service}
-use Rattle.state_model.specs.States.{Table, Phase}
+use Rattle.plan_ring.specs.of_slave_node.Node.{Node}
+use Rattle.plan_ring.specs.of_state_model.Families.{InState}
+use Rattle.plan_ring.specs.of_state_model.Stated.{Service}
+use Rattle.plan_ring.specs.of_state_model.States.{Table, Phase}
 use Rattle.idle_slaves.specs.Steps.{StepsAlone}
-use Rattle.state_model.specs.Accounts.{Duty, Pick, Stage}
+use Rattle.plan_ring.specs.of_state_model.Accounts.{Duty, Pick, Stage}
 use Rattle.idle_slaves.specs.WaitEager.{IsResting}
 
 abbrev pub Slave : Type 0

@@ -1,19 +1,19 @@
 -- The frame for one slave: its datagram, and the slave behind it and its step.
 use Rattle.std.proofs.Common.{◌≡◌, ℕ, suc, ◌%◌, ◌==◌, Bool, true, false, None, List, [], ◌∷◌, ap, ◌∙◌, if◌then◌else◌}
-use Rattle.exchange_model.specs.Exchange.{Exchange, Speech}
+use Rattle.plan_ring.specs.of_exchange_model.Exchange.{Exchange, Speech}
 use Rattle.idle_slaves.specs.Frames.{node_on}
 use Rattle.idle_slaves.specs.Going.{registers_on}
-use Rattle.life_model.specs.Lives.{Life, Spot}
-use Rattle.life_model.specs.Own.{own}
-use Rattle.link_mails.specs.Body.{Body}
-use Rattle.link_model.specs.Slave.{Server, processor_step}
-use Rattle.master_duty.specs.Reply.{Reply}
+use Rattle.plan_ring.specs.of_life_model.Lives.{Life, Spot}
+use Rattle.plan_ring.specs.of_life_model.Own.{own}
+use Rattle.plan_ring.specs.of_link_mails.Body.{Body}
+use Rattle.plan_ring.specs.of_link_model.Slave.{Server, processor_step}
+use Rattle.plan_ring.specs.of_master_duty.Reply.{Reply}
 use Rattle.plan_ring.specs.of_master_hand.Spoken.{Asked}
 use Rattle.plan_ring.specs.of_run_frames.Clocks.{Clocked}
 use Rattle.plan_ring.specs.of_run_frames.Goes.{Under, back_life}
 use Rattle.plan_ring.specs.of_run_frames.Waits.{Waits, waits_on}
-use Rattle.segment_model.specs.Slaves.{Datagram, Serving, Slave, Processor, Registers, serving, slave_after, slave_steps, frame_after}
-use Rattle.state_model.specs.States.{Table, carry}
+use Rattle.plan_ring.specs.of_segment_model.Slaves.{Datagram, Serving, Slave, Processor, Registers, serving, slave_after, slave_steps, frame_after}
+use Rattle.plan_ring.specs.of_state_model.States.{Table, carry}
 use Rattle.idle_slaves.specs.Steps.{NotGone}
 use Rattle.idle_slaves.specs.EagerFrames.{One, FrameAs}
 use Rattle.idle_slaves.proofs.Choices.{stand_next, inn_next}

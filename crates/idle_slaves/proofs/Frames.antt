@@ -1,15 +1,15 @@
 -- A slave that waits, frame by frame of a run.
 use Rattle.std.proofs.Common.{◌≡◌, ◌≤◌, ℕ, suc, ◌%◌, ◌==◌, Bool, true, false, if◌then◌else◌, List, refl, sym, ap, ◌∙◌, subst, arith}
 use Rattle.std.specs.Prelude.{◌&&◌}
-use Rattle.exchange_model.specs.Exchange.{Speech}
-use Rattle.life_model.specs.Gains.{gains}
-use Rattle.life_model.proofs.Gaining.{next_same}
-use Rattle.life_model.specs.Lives.{Life, Spot, Stand, life_back}
-use Rattle.link_model.specs.Slave.{Node, Server, processor_step}
+use Rattle.plan_ring.specs.of_exchange_model.Exchange.{Speech}
+use Rattle.plan_ring.specs.of_life_model.Gains.{gains}
+use Rattle.plan_ring.proofs.of_life_model.Gaining.{next_same}
+use Rattle.plan_ring.specs.of_life_model.Lives.{Life, Spot, Stand, life_back}
+use Rattle.plan_ring.specs.of_link_model.Slave.{Node, Server, processor_step}
 use Rattle.plan_ring.specs.of_run_frames.Clocks.{Clocked}
 use Rattle.plan_ring.specs.of_run_frames.Goes.{Under, back_life}
 use Rattle.plan_ring.specs.of_run_frames.Waits.{Waits, waits_on}
-use Rattle.segment_model.specs.Slaves.{Datagram}
+use Rattle.plan_ring.specs.of_segment_model.Slaves.{Datagram}
 use Rattle.idle_slaves.specs.Frames.{InVain, node_on, memory_on}
 use Rattle.idle_slaves.specs.Visited.{Waiting, Chosen, IsStill, LifeSpent, life_visit, memory_of}
 use Rattle.idle_slaves.specs.Waiting.{Memory, memory_behind, tried}

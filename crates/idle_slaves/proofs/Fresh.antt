@@ -1,25 +1,25 @@
 -- A slave that was not visited since something was gained, by a frame without a visit: what came into hand came into hand then.
 use Rattle.std.proofs.Common.{◌≡◌, ℕ, suc, ◌%◌, ◌==◌, Bool, true, false, List, [], refl, sym, ap, ◌∙◌, subst, arith, if◌then◌else◌}
 use Rattle.std.specs.Prelude.{◌&&◌}
-use Rattle.exchange_model.specs.Exchange.{Exchange, Speech}
+use Rattle.plan_ring.specs.of_exchange_model.Exchange.{Exchange, Speech}
 use Rattle.idle_slaves.specs.Frames.{node_on}
 use Rattle.idle_slaves.specs.Visited.{IsFor, Waiting, Chosen}
 use Rattle.idle_slaves.specs.Waiting.{Memory, IsWaiting, link_by, wanted_by}
 use Rattle.idle_slaves.proofs.Choosing.{chosen}
 use Rattle.idle_slaves.proofs.Waiting.{Holds, Comes, holds, comes}
-use Rattle.life_model.specs.Lives.{Life, Spot, Stand}
-use Rattle.life_model.specs.Own.{own}
-use Rattle.link_mails.specs.Body.{Body}
-use Rattle.link_model.specs.Link.{Link}
-use Rattle.link_model.specs.Master.{InHalf}
-use Rattle.link_model.specs.Slave.{Server, processor_step}
-use Rattle.master_duty.specs.Reply.{Reply}
+use Rattle.plan_ring.specs.of_life_model.Lives.{Life, Spot, Stand}
+use Rattle.plan_ring.specs.of_life_model.Own.{own}
+use Rattle.plan_ring.specs.of_link_mails.Body.{Body}
+use Rattle.plan_ring.specs.of_link_model.Link.{Link}
+use Rattle.plan_ring.specs.of_link_model.Master.{InHalf}
+use Rattle.plan_ring.specs.of_link_model.Slave.{Server, processor_step}
+use Rattle.plan_ring.specs.of_master_duty.Reply.{Reply}
 use Rattle.plan_ring.specs.of_master_hand.Spoken.{Asked}
 use Rattle.plan_ring.specs.of_run_frames.Clocks.{Clocked}
 use Rattle.plan_ring.specs.of_run_frames.Goes.{Under, back_life}
 use Rattle.plan_ring.specs.of_run_frames.Waits.{Waits, new_waits, waits_on}
-use Rattle.segment_model.specs.Slaves.{Datagram, Serving, Slave, Processor, serving, slave_after}
-use Rattle.state_model.specs.States.{Table}
+use Rattle.plan_ring.specs.of_segment_model.Slaves.{Datagram, Serving, Slave, Processor, serving, slave_after}
+use Rattle.plan_ring.specs.of_state_model.States.{Table}
 use Rattle.idle_slaves.specs.Steps.{NotGone}
 use Rattle.idle_slaves.specs.EagerFrames.{FrameAs}
 use Rattle.idle_slaves.specs.Standing.{Steps, Unvisited}

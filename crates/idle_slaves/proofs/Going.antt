@@ -1,21 +1,21 @@
 -- A state service goes on by each visit behind a step, so none is counted in vain.
 use Rattle.std.proofs.Common.{◌≡◌, ◌≤◌, ℕ, suc, ◌%◌, ◌==◌, Bool, true, false, Option, Some, None, List, [], ◌∷◌, ◌++◌, refl, sym, ap, ◌∙◌, subst, arith, if◌then◌else◌, ◌⊎◌, inl, inr}
 use Rattle.std.specs.Prelude.{◌&&◌, not}
-use Rattle.exchange_model.specs.Exchange.{Speech}
-use Rattle.life_model.specs.Gains.{gains, phase_gains, stage_gains, progress_gains}
-use Rattle.life_model.proofs.Gaining.{next_same, state_gains}
-use Rattle.life_model.specs.Lives.{Era, Life, Spot, Stand, life_next, life_back, era_back, reopens, reopens_at, reopening, opens_state, returns_to_init, granted}
-use Rattle.life_model.specs.Own.{own}
+use Rattle.plan_ring.specs.of_exchange_model.Exchange.{Speech}
+use Rattle.plan_ring.specs.of_life_model.Gains.{gains, phase_gains, stage_gains, progress_gains}
+use Rattle.plan_ring.proofs.of_life_model.Gaining.{next_same, state_gains}
+use Rattle.plan_ring.specs.of_life_model.Lives.{Era, Life, Spot, Stand, life_next, life_back, era_back, reopens, reopens_at, reopening, opens_state, returns_to_init, granted}
+use Rattle.plan_ring.specs.of_life_model.Own.{own}
 use Rattle.plan_ring.specs.of_run_frames.Clocks.{Clocked}
 use Rattle.plan_ring.specs.of_run_frames.Goes.{Under, back_life}
 use Rattle.plan_ring.specs.of_run_frames.Waits.{Waits, waits_on}
-use Rattle.segment_model.specs.Ends.{Outcome}
-use Rattle.segment_model.specs.Record.{News}
-use Rattle.segment_model.specs.Seats.{Side}
-use Rattle.segment_model.specs.Slaves.{Registers, Datagram, Access, Found}
-use Rattle.state_model.specs.Stated.{Service}
-use Rattle.state_model.specs.States.{Table, Phase, States, Event, Turn, happens, reads, shown, run, carry, phase_written}
-use Rattle.state_model.specs.Accounts.{Account, Duty, Stage, Pick, Progress, account_begins, account_back, account_met, account_by, access_done, phase_access, turn_progress}
+use Rattle.plan_ring.specs.of_segment_model.Ends.{Outcome}
+use Rattle.plan_ring.specs.of_segment_model.Record.{News}
+use Rattle.plan_ring.specs.of_segment_model.Seats.{Side}
+use Rattle.plan_ring.specs.of_segment_model.Slaves.{Registers, Datagram, Access, Found}
+use Rattle.plan_ring.specs.of_state_model.Stated.{Service}
+use Rattle.plan_ring.specs.of_state_model.States.{Table, Phase, States, Event, Turn, happens, reads, shown, run, carry, phase_written}
+use Rattle.plan_ring.specs.of_state_model.Accounts.{Account, Duty, Stage, Pick, Progress, account_begins, account_back, account_met, account_by, access_done, phase_access, turn_progress}
 use Rattle.idle_slaves.specs.Going.{IsCome, Going, AccessCame, AccessVain, registers_on}
 use Rattle.idle_slaves.specs.Phases.{IsSeen, HandSeen, TakesOn, idle_states}
 use Rattle.idle_slaves.proofs.Phases.{behind_step, takes_on}

@@ -1,29 +1,29 @@
 -- A slave of which a state service goes on, by a frame that came back and gained nothing of it.
 use Rattle.std.proofs.Common.{◌≡◌, ◌≤◌, ℕ, suc, Bool, true, false, Option, Some, List, [], ◌∷◌, ◌++◌, refl, sym, ap, ◌∙◌, subst, arith, if◌then◌else◌, eq-eqb}
-use Rattle.exchange_model.specs.Exchange.{Exchange, Speech}
+use Rattle.plan_ring.specs.of_exchange_model.Exchange.{Exchange, Speech}
 use Rattle.idle_slaves.specs.Going.{Going, AccessVain, registers_on}
 use Rattle.idle_slaves.specs.Visited.{memory_of}
 use Rattle.idle_slaves.proofs.Going.{goes_so}
-use Rattle.life_model.specs.Gains.{gains, phase_gains, stage_gains, progress_gains}
-use Rattle.life_model.proofs.Gaining.{next_same, state_gains}
-use Rattle.life_model.specs.Lives.{Life, Spot, Stand, life_back}
-use Rattle.life_model.specs.Own.{own}
-use Rattle.link_mails.specs.Body.{Body}
-use Rattle.link_model.specs.Frames.{Ask, node_meets, halves_answered, halves_accept, all_accepted}
-use Rattle.link_model.specs.Link.{Halves}
-use Rattle.link_model.specs.Master.{InState, InHalf}
-use Rattle.link_model.specs.Slave.{Server}
-use Rattle.master_duty.specs.Reply.{Reply}
+use Rattle.plan_ring.specs.of_life_model.Gains.{gains, phase_gains, stage_gains, progress_gains}
+use Rattle.plan_ring.proofs.of_life_model.Gaining.{next_same, state_gains}
+use Rattle.plan_ring.specs.of_life_model.Lives.{Life, Spot, Stand, life_back}
+use Rattle.plan_ring.specs.of_life_model.Own.{own}
+use Rattle.plan_ring.specs.of_link_mails.Body.{Body}
+use Rattle.plan_ring.specs.of_link_model.Frames.{Ask, node_meets, halves_answered, halves_accept, all_accepted}
+use Rattle.plan_ring.specs.of_link_model.Link.{Halves}
+use Rattle.plan_ring.specs.of_link_model.Master.{InState, InHalf}
+use Rattle.plan_ring.specs.of_link_model.Slave.{Server}
+use Rattle.plan_ring.specs.of_master_duty.Reply.{Reply}
 use Rattle.plan_ring.specs.of_master_hand.Spoken.{Asked}
 use Rattle.plan_ring.specs.of_run_frames.Clocks.{Clocked}
 use Rattle.plan_ring.specs.of_run_frames.Goes.{Under, back_life}
 use Rattle.plan_ring.specs.of_run_frames.Orders.{is_live}
 use Rattle.plan_ring.specs.of_run_frames.Waits.{Waits, waits_on}
-use Rattle.segment_model.specs.Slaves.{Datagram, Found, Serving, Slave, Processor, grams, serving, slave_after, registers_met}
-use Rattle.segment_plan.specs.declared.service.Service as Plan
-use Rattle.state_model.specs.Stated.{Service}
-use Rattle.state_model.specs.States.{Table, Phase, reads, phase_written}
-use Rattle.state_model.specs.Accounts.{Stage, Progress, phase_access, access_done}
+use Rattle.plan_ring.specs.of_segment_model.Slaves.{Datagram, Found, Serving, Slave, Processor, grams, serving, slave_after, registers_met}
+use Rattle.plan_ring.specs.of_segment_plan.declared.service.Service as Plan
+use Rattle.plan_ring.specs.of_state_model.Stated.{Service}
+use Rattle.plan_ring.specs.of_state_model.States.{Table, Phase, reads, phase_written}
+use Rattle.plan_ring.specs.of_state_model.Accounts.{Stage, Progress, phase_access, access_done}
 use Rattle.idle_slaves.specs.Eager.{Remembered, AsksStage, AsksFor, EachAsksFor, IsClear, IsEager}
 use Rattle.idle_slaves.specs.EagerFrames.{One, FrameAs}
 use Rattle.idle_slaves.specs.Standing.{Standing}

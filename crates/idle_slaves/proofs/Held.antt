@@ -1,30 +1,30 @@
 -- Behind a write in vain.
 use Rattle.std.proofs.Common.{◌≡◌, ◌≤◌, ℕ, ◌==◌, Bool, true, false, is_some, Option, Some, None, List, [], ◌∷◌, ◌++◌, refl, sym, ap, ◌∙◌, subst, arith, if◌then◌else◌, inl, inr, length, length-append}
-use Rattle.slave_model.specs.Moments.{IsFree, HeldStill}
-use Rattle.slave_model.proofs.Laws.{state}
-use Rattle.exchange_model.specs.Exchange.{Speech}
+use Rattle.plan_ring.specs.of_slave_model.Moments.{IsFree, HeldStill}
+use Rattle.plan_ring.proofs.of_slave_model.Laws.{state}
+use Rattle.plan_ring.specs.of_exchange_model.Exchange.{Speech}
 use Rattle.idle_slaves.specs.Held.{HeldUp, EndsHeld}
 use Rattle.idle_slaves.specs.Visited.{IsFor, Meets, CameBack, HasRow, IsStill, IsUnpaused, Chosen, is_boxed, visit_for, life_visit, memory_of}
 use Rattle.idle_slaves.specs.Waiting.{Wanted, Memory, link_by, wanted_by, memory_behind, tried}
 use Rattle.idle_slaves.proofs.Returning.{IsVainly, reopens_era, vainly}
 use Rattle.idle_slaves.proofs.Visited.{full_drains}
 use Rattle.idle_slaves.proofs.Waiting.{Holds, Comes, comes, holds}
-use Rattle.life_model.specs.Gains.{gains}
-use Rattle.life_model.specs.Visits.{Visit, mails_visit}
-use Rattle.life_model.specs.Lives.{Era, Life, Spot, Stand, granted, life_back, era_back, era_next}
-use Rattle.life_model.specs.Own.{own}
-use Rattle.link_model.specs.Frames.{Ask, halves_accept, all_accepted}
-use Rattle.link_model.specs.Link.{Halves, Link}
-use Rattle.link_model.specs.Mails.{LinkMail}
-use Rattle.link_model.specs.Master.{InState}
-use Rattle.link_model.specs.Slave.{Node, Server}
+use Rattle.plan_ring.specs.of_life_model.Gains.{gains}
+use Rattle.plan_ring.specs.of_life_model.Visits.{Visit, mails_visit}
+use Rattle.plan_ring.specs.of_life_model.Lives.{Era, Life, Spot, Stand, granted, life_back, era_back, era_next}
+use Rattle.plan_ring.specs.of_life_model.Own.{own}
+use Rattle.plan_ring.specs.of_link_model.Frames.{Ask, halves_accept, all_accepted}
+use Rattle.plan_ring.specs.of_link_model.Link.{Halves, Link}
+use Rattle.plan_ring.specs.of_link_model.Mails.{LinkMail}
+use Rattle.plan_ring.specs.of_link_model.Master.{InState}
+use Rattle.plan_ring.specs.of_link_model.Slave.{Node, Server}
 use Rattle.plan_ring.specs.of_run_frames.Waits.{Waits}
-use Rattle.segment_model.specs.Ends.{Passing}
-use Rattle.segment_model.specs.Record.{News}
-use Rattle.segment_model.specs.Seats.{side_back}
-use Rattle.segment_model.specs.Slaves.{Datagram, Found, grams}
-use Rattle.state_model.specs.Stated.{Service}
-use Rattle.state_model.specs.Accounts.{Duty, Pick, account_next, starts}
+use Rattle.plan_ring.specs.of_segment_model.Ends.{Passing}
+use Rattle.plan_ring.specs.of_segment_model.Record.{News}
+use Rattle.plan_ring.specs.of_segment_model.Seats.{side_back}
+use Rattle.plan_ring.specs.of_segment_model.Slaves.{Datagram, Found, grams}
+use Rattle.plan_ring.specs.of_state_model.Stated.{Service}
+use Rattle.plan_ring.specs.of_state_model.Accounts.{Duty, Pick, account_next, starts}
 
 -- one that drains before the visit does behind it
 drains_on : {X : Type 0} (q : Wanted) (old new : Option Duty) (p s : Option Passing) (duty : Duty) → IsFor q old p → IsFor q new s → s ≡ None → old ≡ Some duty → new ≡ None → X

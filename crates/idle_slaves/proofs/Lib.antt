@@ -1,4 +1,11 @@
+pub use Rattle.plan_ring.proofs.of_exchange_model as of_exchange_model
+pub use Rattle.plan_ring.proofs.of_frame_view as of_frame_view
+pub use Rattle.plan_ring.proofs.of_master_tour as of_master_tour
 pub use Rattle.plan_ring.proofs as of_plan_ring
+pub use Rattle.plan_ring.proofs.of_run_frames as of_run_frames
+pub use Rattle.plan_ring.proofs.of_slave_model as of_slave_model
+pub use Rattle.plan_ring.proofs.of_slave_parts as of_slave_parts
+pub use Rattle.plan_ring.proofs.of_state_model as of_state_model
 pub mod Begins
 pub mod Behind
 pub mod Choices

@@ -1,18 +1,18 @@
 -- A session of one slave keeps its link.
 use Rattle.std.proofs.Common.{ℕ, false, Bool, List, [], ◌∷◌, refl, subst}
-use Rattle.exchange_model.specs.Exchange.{Exchange, IsLawful}
-use Rattle.life_model.specs.Eras.{EraIs, era_frames, planned}
-use Rattle.life_model.specs.Lives.{Spot, Era}
-use Rattle.segment_model.specs.Record.{Frame}
-use Rattle.segment_model.specs.Seats.{Seat, Side, Planned, link_of, sides_of, ring_of}
-use Rattle.segment_model.specs.Slaves.{Processor, Registers, Ring, Slave}
-use Rattle.state_model.specs.Stated.{Stated, IsStated}
-use Rattle.state_model.specs.States.{Table}
-use Rattle.state_model.proofs.Sessions.{Whole, holds, session_keeps}
-use Rattle.state_model.proofs.Walks.{EachOne}
-use Rattle.state_model.specs.Accounts.{Account}
-use Rattle.state_model.specs.Promise.{EachTask}
-use Rattle.state_model.specs.Tasks.{IsTasked, IsTaskPlan, run, new_tasks}
+use Rattle.plan_ring.specs.of_exchange_model.Exchange.{Exchange, IsLawful}
+use Rattle.plan_ring.specs.of_life_model.Eras.{EraIs, era_frames, planned}
+use Rattle.plan_ring.specs.of_life_model.Lives.{Spot, Era}
+use Rattle.plan_ring.specs.of_segment_model.Record.{Frame}
+use Rattle.plan_ring.specs.of_segment_model.Seats.{Seat, Side, Planned, link_of, sides_of, ring_of}
+use Rattle.plan_ring.specs.of_segment_model.Slaves.{Processor, Registers, Ring, Slave}
+use Rattle.plan_ring.specs.of_state_model.Stated.{Stated, IsStated}
+use Rattle.plan_ring.specs.of_state_model.States.{Table}
+use Rattle.plan_ring.proofs.of_state_model.Sessions.{Whole, holds, session_keeps}
+use Rattle.plan_ring.proofs.of_state_model.Walks.{EachOne}
+use Rattle.plan_ring.specs.of_state_model.Accounts.{Account}
+use Rattle.plan_ring.specs.of_state_model.Promise.{EachTask}
+use Rattle.plan_ring.specs.of_state_model.Tasks.{IsTasked, IsTaskPlan, run, new_tasks}
 use Rattle.idle_slaves.specs.Links.{HasLink}
 use Rattle.idle_slaves.proofs.Rowless.{has_row}
 

@@ -4,20 +4,20 @@ use Rattle.std.specs.Prelude.{⊤, nat_lt}
 use Rattle.std.proofs.lemmas.Bool.{ltb-false}
 use Rattle.idle_slaves.specs.Eager.{Remembered, AllEager, AllGetNone}
 use Rattle.idle_slaves.specs.Standing.{Standing}
-use Rattle.exchange_model.specs.Exchange.{Speech}
-use Rattle.frame_view.specs.View.{Lens}
+use Rattle.plan_ring.specs.of_exchange_model.Exchange.{Speech}
+use Rattle.plan_ring.specs.of_frame_view.View.{Lens}
 use Rattle.idle_slaves.proofs.Waiting.{holds}
-use Rattle.life_model.specs.Gains.{gains}
-use Rattle.life_model.specs.Repairs.{way_of, stand_way}
-use Rattle.life_model.proofs.Gaining.{next_same, back_grows}
-use Rattle.life_model.specs.Lives.{Life, Spot, Stand}
-use Rattle.life_model.specs.Own.{own}
+use Rattle.plan_ring.specs.of_life_model.Gains.{gains}
+use Rattle.plan_ring.specs.of_life_model.Repairs.{way_of, stand_way}
+use Rattle.plan_ring.proofs.of_life_model.Gaining.{next_same, back_grows}
+use Rattle.plan_ring.specs.of_life_model.Lives.{Life, Spot, Stand}
+use Rattle.plan_ring.specs.of_life_model.Own.{own}
 use Rattle.plan_ring.specs.of_life_runs.Led.{Leads, Turn, speech_at, is_passed}
-use Rattle.link_mails.specs.Body.{Body}
-use Rattle.link_model.specs.Frames.{all_accepted}
-use Rattle.link_model.specs.Link.{Halves}
-use Rattle.link_model.specs.Master.{InState}
-use Rattle.master_duty.specs.Reply.{Reply}
+use Rattle.plan_ring.specs.of_link_mails.Body.{Body}
+use Rattle.plan_ring.specs.of_link_model.Frames.{all_accepted}
+use Rattle.plan_ring.specs.of_link_model.Link.{Halves}
+use Rattle.plan_ring.specs.of_link_model.Master.{InState}
+use Rattle.plan_ring.specs.of_master_duty.Reply.{Reply}
 use Rattle.plan_ring.specs.of_master_hand.Spoken.{Asked, acknowledged, is_followed}
 use Rattle.plan_ring.specs.PlanMet.{slave_at}
 use Rattle.plan_ring.specs.Hands.{AllHand}
@@ -26,11 +26,11 @@ use Rattle.plan_ring.specs.of_run_frames.Goes.{Under, IsUnder, AllUnder, back_li
 use Rattle.plan_ring.specs.of_run_frames.Led.{AreLed}
 use Rattle.plan_ring.specs.of_run_frames.Orders.{AllRepaired}
 use Rattle.plan_ring.specs.of_run_frames.Waits.{Waits, all_anew, all_on, SomeWaits}
-use Rattle.segment_model.specs.Slaves.{Datagram, grams, serving}
-use Rattle.segment_plan.specs.declared.service.Service as Plan
-use Rattle.segment_plan.specs.declared.slave.SlaveSpec.{SlaveSpec}
+use Rattle.plan_ring.specs.of_segment_model.Slaves.{Datagram, grams, serving}
+use Rattle.plan_ring.specs.of_segment_plan.declared.service.Service as Plan
+use Rattle.plan_ring.specs.of_segment_plan.declared.slave.SlaveSpec.{SlaveSpec}
 use Rattle.plan_ring.specs.of_slave_server.Serving.{Serving}
-use Rattle.slave_node.specs.Node.{Node}
+use Rattle.plan_ring.specs.of_slave_node.Node.{Node}
 use Rattle.idle_slaves.specs.WaitEager.{AllRest}
 use Rattle.idle_slaves.proofs.Begins.{begins}
 use Rattle.idle_slaves.proofs.Fits.{AllReady, AllSeated, IsFit, exchange_at, next_of, nexts_of, table_at}

@@ -7,39 +7,39 @@ use Rattle.idle_slaves.proofs.Choices.{stand_next}
 use Rattle.idle_slaves.proofs.Facts.{unvisited_waits}
 use Rattle.idle_slaves.proofs.Goings.{going_silent}
 use Rattle.idle_slaves.proofs.Slaves.{open_stands, waits_silent}
-use Rattle.exchange_model.specs.Exchange.{Exchange, Speech}
-use Rattle.exchange_model.specs.Rows.{begun}
-use Rattle.frame_view.specs.View.{Lens}
+use Rattle.plan_ring.specs.of_exchange_model.Exchange.{Exchange, Speech}
+use Rattle.plan_ring.specs.of_exchange_model.Rows.{begun}
+use Rattle.plan_ring.specs.of_frame_view.View.{Lens}
 use Rattle.idle_slaves.specs.Held.{HeldUp, EndsHeld}
 use Rattle.idle_slaves.proofs.Held.{took_unpassed, unpaused}
 use Rattle.idle_slaves.specs.Going.{Going}
 use Rattle.idle_slaves.specs.Visited.{Waiting, IsUnpaused}
-use Rattle.life_model.specs.Lives.{Life, Spot, Stand, life_next, life_back, era_next, granted}
-use Rattle.life_model.specs.Own.{own}
+use Rattle.plan_ring.specs.of_life_model.Lives.{Life, Spot, Stand, life_next, life_back, era_next, granted}
+use Rattle.plan_ring.specs.of_life_model.Own.{own}
 use Rattle.plan_ring.specs.of_life_runs.Led.{Leads, Took, speech_at, is_passed}
-use Rattle.link_mails.specs.Body.{Body}
-use Rattle.link_model.specs.Frames.{all_accepted}
-use Rattle.link_model.specs.Master.{InState as HalfState}
-use Rattle.master_duty.specs.Reply.{Reply}
+use Rattle.plan_ring.specs.of_link_mails.Body.{Body}
+use Rattle.plan_ring.specs.of_link_model.Frames.{all_accepted}
+use Rattle.plan_ring.specs.of_link_model.Master.{InState as HalfState}
+use Rattle.plan_ring.specs.of_master_duty.Reply.{Reply}
 use Rattle.plan_ring.specs.of_master_hand.Spoken.{Asked, acknowledged, is_followed}
 use Rattle.plan_ring.specs.PlanMet.{slave_at, IsMet}
 use Rattle.plan_ring.specs.Asked.{asked}
 use Rattle.plan_ring.specs.of_run_frames.Goes.{Under, back_life}
 use Rattle.plan_ring.specs.of_run_frames.Orders.{is_live}
 use Rattle.plan_ring.specs.of_run_frames.Waits.{Waits, waits_on}
-use Rattle.segment_model.specs.Seats.{Side, side_next}
-use Rattle.segment_model.specs.Slaves.{Datagram, Slave, Processor, frame_after, grams, serving, slave_after, slave_steps}
-use Rattle.segment_plan.specs.declared.service.Service as Plan
-use Rattle.segment_plan.specs.declared.slave.SlaveSpec.{SlaveSpec}
-use Rattle.slave_parts.specs.Parts.{Core, Server}
-use Rattle.slave_parts.specs.of_protocol_models.Network.{Station}
+use Rattle.plan_ring.specs.of_segment_model.Seats.{Side, side_next}
+use Rattle.plan_ring.specs.of_segment_model.Slaves.{Datagram, Slave, Processor, frame_after, grams, serving, slave_after, slave_steps}
+use Rattle.plan_ring.specs.of_segment_plan.declared.service.Service as Plan
+use Rattle.plan_ring.specs.of_segment_plan.declared.slave.SlaveSpec.{SlaveSpec}
+use Rattle.plan_ring.specs.of_slave_parts.Parts.{Core, Server}
+use Rattle.plan_ring.specs.of_protocol_models.Network.{Station}
 use Rattle.plan_ring.specs.of_slave_server.Serving.{Serving}
 use Rattle.plan_ring.specs.of_slave_server.Spec.{profile_of}
-use Rattle.slave_node.specs.Node.{Node}
-use Rattle.state_model.specs.Families.{InState}
-use Rattle.state_model.specs.Stated.{Service}
-use Rattle.state_model.specs.States.{Table}
-use Rattle.state_model.specs.Accounts.{Pick, account_begins, starts, mails_choice}
+use Rattle.plan_ring.specs.of_slave_node.Node.{Node}
+use Rattle.plan_ring.specs.of_state_model.Families.{InState}
+use Rattle.plan_ring.specs.of_state_model.Stated.{Service}
+use Rattle.plan_ring.specs.of_state_model.States.{Table}
+use Rattle.plan_ring.specs.of_state_model.Accounts.{Pick, account_begins, starts, mails_choice}
 use Rattle.idle_slaves.proofs.Fits.{IsFit, IsReady, Rests, exchange_at, next_of, table_at}
 use Rattle.idle_slaves.proofs.Fits as Fits
 use Rattle.idle_slaves.proofs.WaitHeld.{ends_at}

@@ -1,36 +1,36 @@
 -- An open slave of a plan's run, as its session has it, where no mail is passed on.
 use Rattle.std.proofs.Common.{◌≡◌, ◌≢◌, ℕ, Bool, true, Option, Some, None, List, [], ◌∷◌, length, refl, sym, ap, ◌∙◌, subst}
-use Rattle.slave_model.specs.Moments.{IsFree, NowAnswered}
+use Rattle.plan_ring.specs.of_slave_model.Moments.{IsFree, NowAnswered}
 use Rattle.idle_slaves.specs.Eager.{NoneLeft, MayBegin}
-use Rattle.exchange_model.specs.Exchange.{Speech, plain}
-use Rattle.exchange_model.specs.Rows.{Row, answer_after}
-use Rattle.frame_view.specs.View.{Lens}
+use Rattle.plan_ring.specs.of_exchange_model.Exchange.{Speech, plain}
+use Rattle.plan_ring.specs.of_exchange_model.Rows.{Row, answer_after}
+use Rattle.plan_ring.specs.of_frame_view.View.{Lens}
 use Rattle.idle_slaves.proofs.Ends.{known}
 use Rattle.idle_slaves.proofs.Spent.{spent_free}
 use Rattle.idle_slaves.specs.Links.{HasLink}
 use Rattle.idle_slaves.specs.Visited.{IsLeft, LifeSpent}
 use Rattle.idle_slaves.proofs.Links.{era_link}
 use Rattle.idle_slaves.proofs.Settled.{is_left}
-use Rattle.life_model.specs.Lives.{Life}
+use Rattle.plan_ring.specs.of_life_model.Lives.{Life}
 use Rattle.plan_ring.specs.of_life_runs.First.{lens_of, spot_of}
 use Rattle.plan_ring.specs.of_life_runs.Led.{Exchanged, Leads, speech_at}
-use Rattle.link_mails.specs.Body.{Body}
-use Rattle.master_duty.specs.Reply.{Reply}
+use Rattle.plan_ring.specs.of_link_mails.Body.{Body}
+use Rattle.plan_ring.specs.of_master_duty.Reply.{Reply}
 use Rattle.plan_ring.specs.of_master_hand.Spoken.{Asked, acknowledged}
 use Rattle.plan_ring.specs.Alike.{Alike}
 use Rattle.plan_ring.proofs.NamedAlike.{answered_alike}
-use Rattle.slave_model.specs.Waits.{NeverWaits}
+use Rattle.plan_ring.specs.of_slave_model.Waits.{NeverWaits}
 use Rattle.plan_ring.specs.PlanMet.{slave_at, IsOpenAt, IsAt}
 use Rattle.plan_ring.specs.Asked.{asked, is_service}
 use Rattle.plan_ring.specs.Round.{all_seen}
-use Rattle.segment_model.specs.Slaves.{serving}
-use Rattle.segment_plan.specs.declared.plan.Scenario.{Scenario}
-use Rattle.segment_plan.specs.declared.slave.SlaveSpec.{SlaveSpec}
-use Rattle.slave_lives.specs.Ends.{IsAnswered}
-use Rattle.slave_lives.specs.Lived.{table_of}
+use Rattle.plan_ring.specs.of_segment_model.Slaves.{serving}
+use Rattle.plan_ring.specs.of_segment_plan.declared.plan.Scenario.{Scenario}
+use Rattle.plan_ring.specs.of_segment_plan.declared.slave.SlaveSpec.{SlaveSpec}
+use Rattle.plan_ring.specs.of_slave_lives.Ends.{IsAnswered}
+use Rattle.plan_ring.specs.of_slave_lives.Lived.{table_of}
 use Rattle.plan_ring.specs.of_slave_server.Serving.{Serving}
 use Rattle.plan_ring.specs.of_slave_server.Spec.{profile_of}
-use Rattle.slave_node.specs.Node.{Node}
+use Rattle.plan_ring.specs.of_slave_node.Node.{Node}
 use Rattle.idle_slaves.proofs.Comes.{era_comes}
 use Rattle.idle_slaves.proofs.StatesSteps.{era_alone}
 use Rattle.idle_slaves.proofs.Fits.{IsFit, IsSeated, ToldWhole, exchange_at}

@@ -1,15 +1,15 @@
 -- Behind a step the status stands that a state service awaits.
 use Rattle.std.proofs.Common.{◌≡◌, ◌⊎◌, ◌≤◌, ℕ, suc, ◌==◌, Bool, true, false, Option, Some, None, List, [], ◌∷◌, refl, sym, ap, ◌∙◌, subst, arith, if◌then◌else◌, inl, inr, eq-eqb}
-use Rattle.life_model.specs.Gains.{phase_gains, progress_gains}
-use Rattle.link_model.specs.Link.{Fate}
-use Rattle.segment_model.specs.Ends.{Outcome}
-use Rattle.segment_model.specs.Record.{News}
-use Rattle.segment_model.specs.Slaves.{Registers}
-use Rattle.state_model.specs.Promises.{IsTable, state_closed}
-use Rattle.state_model.specs.States.{Table, Phase, Hand, States, Event, Turn, happens, run, begins, writes, looks, returned, turned, shown, reads, word_of, word_met, phase_written, carry, word_carried, decided}
-use Rattle.state_model.proofs.Kept.{HoldsAt, happens_holds}
-use Rattle.state_model.proofs.Words.{Flag, Cleared, InHand, Kept}
-use Rattle.state_model.specs.Accounts.{turn_progress}
+use Rattle.plan_ring.specs.of_life_model.Gains.{phase_gains, progress_gains}
+use Rattle.plan_ring.specs.of_link_model.Link.{Fate}
+use Rattle.plan_ring.specs.of_segment_model.Ends.{Outcome}
+use Rattle.plan_ring.specs.of_segment_model.Record.{News}
+use Rattle.plan_ring.specs.of_segment_model.Slaves.{Registers}
+use Rattle.plan_ring.specs.of_state_model.Promises.{IsTable, state_closed}
+use Rattle.plan_ring.specs.of_state_model.States.{Table, Phase, Hand, States, Event, Turn, happens, run, begins, writes, looks, returned, turned, shown, reads, word_of, word_met, phase_written, carry, word_carried, decided}
+use Rattle.plan_ring.proofs.of_state_model.Kept.{HoldsAt, happens_holds}
+use Rattle.plan_ring.proofs.of_state_model.Words.{Flag, Cleared, InHand, Kept}
+use Rattle.plan_ring.specs.of_state_model.Accounts.{turn_progress}
 use Rattle.idle_slaves.specs.Phases.{IsSeen, IsLed, HandLed, HandSeen, Rests, TakesOn, idle_states}
 
 module _ (table : Table) where

@@ -2,42 +2,42 @@
 use Rattle.std.proofs.Common.{◌≡◌, ℕ, suc, Bool, true, false, is_some, Option, Some, None, List, [], ◌∷◌, length, map, refl, sym, ap, ◌∙◌, subst, if◌then◌else◌}
 use Rattle.std.specs.Prelude.{◌&&◌, nat_lt, slice_get, All, ⊤}
 use Rattle.std.proofs.lemmas.List.Elements.{All-head, All-tail}
-use Rattle.datagrams.specs.Datagram as Raw
+use Rattle.plan_ring.specs.of_datagrams.Datagram as Raw
 use Rattle.idle_slaves.specs.Eager.{Remembered, IsEager, RemembersOn, AllEager, AllRemember}
 use Rattle.idle_slaves.specs.EagerFrames.{One}
 use Rattle.idle_slaves.proofs.Choices.{stand_next}
 use Rattle.idle_slaves.proofs.Sent.{one_sent, none_sent}
-use Rattle.exchange_model.specs.Exchange.{Speech}
-use Rattle.frame_view.specs.Seen.{datagrams_seen}
-use Rattle.frame_view.specs.View.{Lens}
+use Rattle.plan_ring.specs.of_exchange_model.Exchange.{Speech}
+use Rattle.plan_ring.specs.of_frame_view.Seen.{datagrams_seen}
+use Rattle.plan_ring.specs.of_frame_view.View.{Lens}
 use Rattle.idle_slaves.proofs.Returning.{passing_is}
-use Rattle.life_model.specs.Gains.{gains}
-use Rattle.life_model.specs.Lives.{Life, Spot, Stand, life_next, life_back, granted, passes, passing_begins}
-use Rattle.life_model.specs.Own.{own}
+use Rattle.plan_ring.specs.of_life_model.Gains.{gains}
+use Rattle.plan_ring.specs.of_life_model.Lives.{Life, Spot, Stand, life_next, life_back, granted, passes, passing_begins}
+use Rattle.plan_ring.specs.of_life_model.Own.{own}
 use Rattle.plan_ring.specs.of_life_runs.First.{lens_of}
 use Rattle.plan_ring.specs.of_life_runs.Led.{Exchanged, Leads, Turn, IsTurn, AllTurn, Comes, led_behind, speech_at, is_passed}
-use Rattle.link_mails.specs.Body.{Body}
-use Rattle.link_model.specs.Frames.{all_accepted}
-use Rattle.master_duty.specs.Reply.{Reply}
+use Rattle.plan_ring.specs.of_link_mails.Body.{Body}
+use Rattle.plan_ring.specs.of_link_model.Frames.{all_accepted}
+use Rattle.plan_ring.specs.of_master_duty.Reply.{Reply}
 use Rattle.plan_ring.specs.of_master_hand.Spoken.{Asked, acknowledged, is_followed}
-use Rattle.slave_model.specs.Waits.{NeverWaits}
+use Rattle.plan_ring.specs.of_slave_model.Waits.{NeverWaits}
 use Rattle.plan_ring.specs.PlanMet.{IsMet, AllOpenAt, AllMet}
 use Rattle.plan_ring.specs.Asked.{asked, is_service}
 use Rattle.plan_ring.specs.of_run_frames.Goes.{Under, back_life}
 use Rattle.plan_ring.specs.of_run_frames.Led.{AreLed, under_of, unders}
 use Rattle.plan_ring.specs.of_run_frames.Waits.{Waits}
-use Rattle.segment_model.specs.Ends.{Passing}
-use Rattle.segment_model.specs.Slaves.{Datagram, grams}
-use Rattle.segment_plan.specs.Sound.{IsSlave}
-use Rattle.segment_plan.specs.declared.plan.Scenario.{Scenario}
-use Rattle.segment_plan.specs.declared.service.Service as Plan
-use Rattle.segment_plan.specs.declared.slave.SlaveSpec.{SlaveSpec}
-use Rattle.slave_parts.specs.of_slave_model.Profile.{Profile, IsProfile}
+use Rattle.plan_ring.specs.of_segment_model.Ends.{Passing}
+use Rattle.plan_ring.specs.of_segment_model.Slaves.{Datagram, grams}
+use Rattle.plan_ring.specs.of_segment_plan.Sound.{IsSlave}
+use Rattle.plan_ring.specs.of_segment_plan.declared.plan.Scenario.{Scenario}
+use Rattle.plan_ring.specs.of_segment_plan.declared.service.Service as Plan
+use Rattle.plan_ring.specs.of_segment_plan.declared.slave.SlaveSpec.{SlaveSpec}
+use Rattle.plan_ring.specs.of_slave_model.Profile.{Profile, IsProfile}
 use Rattle.plan_ring.specs.of_slave_server.Serving.{Serving}
 use Rattle.plan_ring.specs.of_slave_server.Spec.{profile_of}
-use Rattle.slave_node.specs.Node.{Node}
-use Rattle.state_model.specs.Stated.{Service}
-use Rattle.state_model.specs.Accounts.{Account}
+use Rattle.plan_ring.specs.of_slave_node.Node.{Node}
+use Rattle.plan_ring.specs.of_state_model.Stated.{Service}
+use Rattle.plan_ring.specs.of_state_model.Accounts.{Account}
 use Rattle.idle_slaves.specs.WaitEager.{AllSilent, AllUnpassed}
 use Rattle.idle_slaves.proofs.Fits.{AllReady, AllSeated, IsReady, IsSeated, Slave, next_of, nexts_of}
 use Rattle.idle_slaves.proofs.Lists.{AllQuiet, AllStanding, SameAll}

@@ -2,16 +2,16 @@
 use Rattle.std.proofs.Common.{◌≡◌, ◌⊎◌, ℕ, sym, ap, ◌∙◌, inl, inr}
 use Rattle.idle_slaves.specs.Eager.{Remembered}
 use Rattle.idle_slaves.specs.Standing.{IsDone}
-use Rattle.frame_view.specs.View.{Lens}
+use Rattle.plan_ring.specs.of_frame_view.View.{Lens}
 use Rattle.idle_slaves.specs.Visited.{IsLeft}
 use Rattle.idle_slaves.proofs.Settled.{is_left}
-use Rattle.life_model.specs.Lives.{Stand}
+use Rattle.plan_ring.specs.of_life_model.Lives.{Stand}
 use Rattle.plan_ring.specs.of_life_runs.Led.{Leads, speech_at}
 use Rattle.plan_ring.specs.PlanMet.{slave_at}
-use Rattle.segment_model.specs.Slaves.{serving}
-use Rattle.segment_plan.specs.declared.slave.SlaveSpec.{SlaveSpec}
+use Rattle.plan_ring.specs.of_segment_model.Slaves.{serving}
+use Rattle.plan_ring.specs.of_segment_plan.declared.slave.SlaveSpec.{SlaveSpec}
 use Rattle.plan_ring.specs.of_slave_server.Serving.{Serving}
-use Rattle.slave_node.specs.Node.{Node}
+use Rattle.plan_ring.specs.of_slave_node.Node.{Node}
 use Rattle.idle_slaves.specs.WaitEager.{IsResting}
 use Rattle.idle_slaves.proofs.Fits.{IsFit, IsSeated, Rests, exchange_at, next_of}
 

@@ -1,24 +1,24 @@
 -- What a visit's datagram makes of a life, where nothing is gained by it.
 use Rattle.std.proofs.Common.{◌≡◌, ◌≤◌, ℕ, suc, ◌==◌, Bool, true, false, is_some, Option, Some, None, List, [], ◌∷◌, ◌++◌, length, refl, sym, ap, ◌∙◌, subst, arith, if◌then◌else◌, eq-eqb, inl, inr}
 use Rattle.std.specs.Prelude.{◌&&◌, not}
-use Rattle.exchange_model.specs.Exchange.{Speech}
-use Rattle.life_model.specs.Gains.{gains, stage_gains, progress_gains}
-use Rattle.life_model.specs.Visits.{Visit, empty_gain, visit_gain}
-use Rattle.life_model.proofs.Gaining.{written_gains, heard_gains, state_gains}
-use Rattle.life_model.specs.Lives.{Era, Life, Spot, Stand, life_back, era_back, passes, reopens, reopens_at, reopening, opens_state, returns_to_init}
-use Rattle.life_model.specs.Own.{own}
-use Rattle.link_model.specs.Agree.{Agrees, InAgree}
-use Rattle.link_model.specs.Frames.{Ask, mail_back, halves_after, halves_answered, halves_accept, all_accepted, node_meets}
-use Rattle.link_model.specs.Gains.{write_gain, read_gain}
-use Rattle.link_model.specs.Link.{Halves, Link, write_counter, written}
-use Rattle.link_model.specs.Mails.{LinkMail, differs, news}
-use Rattle.link_model.specs.Master.{InState, read_answered}
-use Rattle.link_model.specs.Slave.{Node}
-use Rattle.link_model.proofs.Gains.{clear_news}
-use Rattle.segment_model.specs.Ends.{Passing}
-use Rattle.segment_model.specs.Record.{News, is_for}
-use Rattle.segment_model.specs.Slaves.{Datagram, Access, Found, grams}
-use Rattle.state_model.specs.Accounts.{Account, Duty, Stage, Progress, account_back, account_met, account_by, access_done}
+use Rattle.plan_ring.specs.of_exchange_model.Exchange.{Speech}
+use Rattle.plan_ring.specs.of_life_model.Gains.{gains, stage_gains, progress_gains}
+use Rattle.plan_ring.specs.of_life_model.Visits.{Visit, empty_gain, visit_gain}
+use Rattle.plan_ring.proofs.of_life_model.Gaining.{written_gains, heard_gains, state_gains}
+use Rattle.plan_ring.specs.of_life_model.Lives.{Era, Life, Spot, Stand, life_back, era_back, passes, reopens, reopens_at, reopening, opens_state, returns_to_init}
+use Rattle.plan_ring.specs.of_life_model.Own.{own}
+use Rattle.plan_ring.specs.of_link_model.Agree.{Agrees, InAgree}
+use Rattle.plan_ring.specs.of_link_model.Frames.{Ask, mail_back, halves_after, halves_answered, halves_accept, all_accepted, node_meets}
+use Rattle.plan_ring.specs.of_link_model.Gains.{write_gain, read_gain}
+use Rattle.plan_ring.specs.of_link_model.Link.{Halves, Link, write_counter, written}
+use Rattle.plan_ring.specs.of_link_model.Mails.{LinkMail, differs, news}
+use Rattle.plan_ring.specs.of_link_model.Master.{InState, read_answered}
+use Rattle.plan_ring.specs.of_link_model.Slave.{Node}
+use Rattle.plan_ring.proofs.of_link_model.Gains.{clear_news}
+use Rattle.plan_ring.specs.of_segment_model.Ends.{Passing}
+use Rattle.plan_ring.specs.of_segment_model.Record.{News, is_for}
+use Rattle.plan_ring.specs.of_segment_model.Slaves.{Datagram, Access, Found, grams}
+use Rattle.plan_ring.specs.of_state_model.Accounts.{Account, Duty, Stage, Progress, account_back, account_met, account_by, access_done}
 use Rattle.idle_slaves.specs.Waiting.{Wanted}
 use Rattle.idle_slaves.specs.Visited.{IsFor, Meets, CameBack, HasRow, IsStill, is_boxed, is_served}
 

@@ -1,17 +1,17 @@
 -- Of a ring some slave waits yet, or each was spent before the frame.
 use Rattle.std.proofs.Common.{◌≡◌, ◌⊎◌, ◌≤◌, ℕ, zero, suc, Bool, true, None, List, [], ◌∷◌, refl, sym, ap, ◌∙◌, arith, inl, inr}
-use Rattle.exchange_model.specs.Exchange.{Speech}
-use Rattle.life_model.specs.Repairs.{way_of, stand_way, half_way}
-use Rattle.life_model.specs.Lives.{Life, Spot, Stand, life_next, life_back}
-use Rattle.link_model.specs.Agree.{Agrees}
-use Rattle.link_model.specs.Link.{Link, Halves}
-use Rattle.link_model.specs.Master.{InState}
-use Rattle.link_model.specs.Slave.{Node, Server}
+use Rattle.plan_ring.specs.of_exchange_model.Exchange.{Speech}
+use Rattle.plan_ring.specs.of_life_model.Repairs.{way_of, stand_way, half_way}
+use Rattle.plan_ring.specs.of_life_model.Lives.{Life, Spot, Stand, life_next, life_back}
+use Rattle.plan_ring.specs.of_link_model.Agree.{Agrees}
+use Rattle.plan_ring.specs.of_link_model.Link.{Link, Halves}
+use Rattle.plan_ring.specs.of_link_model.Master.{InState}
+use Rattle.plan_ring.specs.of_link_model.Slave.{Node, Server}
 use Rattle.plan_ring.specs.of_run_frames.Clocks.{Clocked}
 use Rattle.plan_ring.specs.of_run_frames.Goes.{Under, back_life, all_back}
 use Rattle.plan_ring.specs.of_run_frames.Orders.{is_live}
 use Rattle.plan_ring.specs.of_run_frames.Waits.{Waits, new_waits, waits_on, all_on, SomeWaits}
-use Rattle.segment_model.specs.Slaves.{Datagram}
+use Rattle.plan_ring.specs.of_segment_model.Slaves.{Datagram}
 use Rattle.idle_slaves.specs.Rings.{Kept, Stays, IsVainFor, AllVain, AllStay, AllSpent, kept_on}
 use Rattle.idle_slaves.specs.Visited.{Shows, Waiting, LifeSpent}
 use Rattle.idle_slaves.specs.Waiting.{Wanted, Memory, IsWaiting}

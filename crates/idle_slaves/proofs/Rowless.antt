@@ -1,22 +1,22 @@
 -- A slave of which no service by mails came into hand has nothing to offer.
 use Rattle.std.proofs.Common.{◌≡◌, ◌⊎◌, ℕ, Bool, false, Option, Some, None, List, [], ◌∷◌, ◌++◌, refl, sym, ap, ◌∙◌, subst, inl, inr}
-use Rattle.exchange_model.specs.Exchange.{Exchange, IsLawful, after, given}
-use Rattle.exchange_model.specs.Prefix.{IsPrefixOf}
-use Rattle.exchange_model.specs.Rows.{Row, Settled, told_all}
-use Rattle.exchange_model.proofs.Lists.{append_none, prefix_nil}
-use Rattle.exchange_model.proofs.Words.{given-append, given_part}
-use Rattle.link_model.specs.Agree.{Agrees, unread}
-use Rattle.link_model.specs.Link.{Link}
-use Rattle.link_model.specs.Mails.{LinkMail, bodies}
-use Rattle.link_model.specs.Master.{InState}
-use Rattle.segment_model.specs.Record.{Frame}
-use Rattle.segment_model.specs.Seats.{Seat, link_of, newest, rows_of}
-use Rattle.state_model.specs.Stated.{Stated, IsStated, Act, Counting, Service, acts, with_states}
-use Rattle.state_model.specs.Promises.{IsTable}
-use Rattle.state_model.specs.States.{Table}
-use Rattle.state_model.proofs.Ghosts.{GhostRow, Rested, Rowed, Staged, StagedBy, StateNow, counting, label_by, labels_of, mail_labels}
-use Rattle.state_model.proofs.Newest.{Holds}
-use Rattle.state_model.specs.Accounts.{Account, Duty, Stage}
+use Rattle.plan_ring.specs.of_exchange_model.Exchange.{Exchange, IsLawful, after, given}
+use Rattle.plan_ring.specs.of_exchange_model.Prefix.{IsPrefixOf}
+use Rattle.plan_ring.specs.of_exchange_model.Rows.{Row, Settled, told_all}
+use Rattle.plan_ring.proofs.of_exchange_model.Lists.{append_none, prefix_nil}
+use Rattle.plan_ring.proofs.of_exchange_model.Words.{given-append, given_part}
+use Rattle.plan_ring.specs.of_link_model.Agree.{Agrees, unread}
+use Rattle.plan_ring.specs.of_link_model.Link.{Link}
+use Rattle.plan_ring.specs.of_link_model.Mails.{LinkMail, bodies}
+use Rattle.plan_ring.specs.of_link_model.Master.{InState}
+use Rattle.plan_ring.specs.of_segment_model.Record.{Frame}
+use Rattle.plan_ring.specs.of_segment_model.Seats.{Seat, link_of, newest, rows_of}
+use Rattle.plan_ring.specs.of_state_model.Stated.{Stated, IsStated, Act, Counting, Service, acts, with_states}
+use Rattle.plan_ring.specs.of_state_model.Promises.{IsTable}
+use Rattle.plan_ring.specs.of_state_model.States.{Table}
+use Rattle.plan_ring.proofs.of_state_model.Ghosts.{GhostRow, Rested, Rowed, Staged, StagedBy, StateNow, counting, label_by, labels_of, mail_labels}
+use Rattle.plan_ring.proofs.of_state_model.Newest.{Holds}
+use Rattle.plan_ring.specs.of_state_model.Accounts.{Account, Duty, Stage}
 
 acts_none : {M : Type 0} (ms : List M) → acts ms ≡ [] → ms ≡ []
 acts_none [] e = refl

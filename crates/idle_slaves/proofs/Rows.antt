@@ -1,14 +1,14 @@
 -- A service in hand is over where nothing is left to tell, to take and to hear.
 use Rattle.std.proofs.Common.{◌≡◌, ℕ, Bool, true, false, is_none, is_some, Option, Some, None, List, [], ◌++◌, length, refl, sym, ap, ◌∙◌, append-nil, if◌then◌else◌}
 use Rattle.std.specs.Prelude.{◌&&◌, not, drop}
-use Rattle.exchange_model.specs.Exchange.{Exchange, IsLawful, after, given, plain}
-use Rattle.exchange_model.specs.Laws.{Moment}
-use Rattle.exchange_model.specs.Rows.{Row, answer_after, left, told_all, heard_all}
-use Rattle.exchange_model.proofs.Lists.{append_cancel}
-use Rattle.exchange_model.proofs.Settles.{settled_heard, settled_ready}
-use Rattle.exchange_model.proofs.Words.{plain-append, plain_given-append}
-use Rattle.link_model.specs.Mails.{LinkMail}
-use Rattle.segment_model.specs.Seats.{is_over, is_none_left}
+use Rattle.plan_ring.specs.of_exchange_model.Exchange.{Exchange, IsLawful, after, given, plain}
+use Rattle.plan_ring.specs.of_exchange_model.Laws.{Moment}
+use Rattle.plan_ring.specs.of_exchange_model.Rows.{Row, answer_after, left, told_all, heard_all}
+use Rattle.plan_ring.proofs.of_exchange_model.Lists.{append_cancel}
+use Rattle.plan_ring.proofs.of_exchange_model.Settles.{settled_heard, settled_ready}
+use Rattle.plan_ring.proofs.of_exchange_model.Words.{plain-append, plain_given-append}
+use Rattle.plan_ring.specs.of_link_model.Mails.{LinkMail}
+use Rattle.plan_ring.specs.of_segment_model.Seats.{is_over, is_none_left}
 use Rattle.idle_slaves.specs.Rows.{NeverWaits}
 
 module _ {V A M Q R : Type 0} (x : Exchange V A M Q R) (law : IsLawful x) (never : NeverWaits x) (v : V) (ready : x.ready v ≡ true) (front last : List (Row M Q R)) (now : Row M Q R) (held taken accepted : List M)

@@ -1,26 +1,26 @@
 -- THE ONE DATAGRAM OF AN OPEN SLAVE, as it is sent and as it comes back from the slave.
 use Rattle.std.proofs.Common.{◌≡◌, ℕ, ◌==◌, Bool, true, false, Option, Some, None, List, [], ◌∷◌, refl, sym, ap, ◌∙◌, subst, eq-eqb, inl, inr}
 use Rattle.std.specs.Prelude.{◌⊎◌, if◌then◌else◌}
-use Rattle.datagrams.specs.Datagram as Raw
-use Rattle.datagrams.specs.declared.command.Command.{Command}
-use Rattle.datagrams.specs.declared.command.Command.TheVariants.{Fprd, Fpwr}
-use Rattle.frame_view.specs.Seen.{datagrams_seen}
-use Rattle.frame_view.specs.View.{Lens, datagram_seen, address_of, station_of, register_counter, link_counter, found_of}
+use Rattle.plan_ring.specs.of_datagrams.Datagram as Raw
+use Rattle.plan_ring.specs.of_datagrams.declared.command.Command.{Command}
+use Rattle.plan_ring.specs.of_datagrams.declared.command.Command.TheVariants.{Fprd, Fpwr}
+use Rattle.plan_ring.specs.of_frame_view.Seen.{datagrams_seen}
+use Rattle.plan_ring.specs.of_frame_view.View.{Lens, datagram_seen, address_of, station_of, register_counter, link_counter, found_of}
 use Rattle.idle_slaves.specs.Going.{AccessCame}
 use Rattle.idle_slaves.specs.Visited.{CameBack, Meets}
-use Rattle.frame_view.specs.Frames.{FrameFor, GramFor, IsOpenGram, Share}
-use Rattle.frame_view.proofs.Frames.{own_none, own_one}
-use Rattle.life_model.specs.Visits.{Visit}
-use Rattle.life_model.specs.Lives.{Spot, Stand}
-use Rattle.life_model.specs.Own.{own}
-use Rattle.link_mails.specs.Body.{Body}
-use Rattle.link_model.specs.Frames.{Ask, Gram, gram_meets, mail_back, node_meets, write_done, read_done, counted}
-use Rattle.link_model.specs.Link.{Halves, write_counter}
-use Rattle.link_model.specs.Mails.{LinkMail}
-use Rattle.segment_model.specs.Record.{is_for}
-use Rattle.segment_model.specs.Slaves.{Datagram, Address, Access, Found, Slave, is_meant, address_behind, datagram_meets, slave_meets, counter_met, found_met, registers_met}
-use Rattle.state_model.specs.States.{Phase, reads}
-use Rattle.state_model.specs.Accounts.{Duty, phase_access}
+use Rattle.plan_ring.specs.of_frame_view.Frames.{FrameFor, GramFor, IsOpenGram, Share}
+use Rattle.plan_ring.proofs.of_frame_view.Frames.{own_none, own_one}
+use Rattle.plan_ring.specs.of_life_model.Visits.{Visit}
+use Rattle.plan_ring.specs.of_life_model.Lives.{Spot, Stand}
+use Rattle.plan_ring.specs.of_life_model.Own.{own}
+use Rattle.plan_ring.specs.of_link_mails.Body.{Body}
+use Rattle.plan_ring.specs.of_link_model.Frames.{Ask, Gram, gram_meets, mail_back, node_meets, write_done, read_done, counted}
+use Rattle.plan_ring.specs.of_link_model.Link.{Halves, write_counter}
+use Rattle.plan_ring.specs.of_link_model.Mails.{LinkMail}
+use Rattle.plan_ring.specs.of_segment_model.Record.{is_for}
+use Rattle.plan_ring.specs.of_segment_model.Slaves.{Datagram, Address, Access, Found, Slave, is_meant, address_behind, datagram_meets, slave_meets, counter_met, found_met, registers_met}
+use Rattle.plan_ring.specs.of_state_model.States.{Phase, reads}
+use Rattle.plan_ring.specs.of_state_model.Accounts.{Duty, phase_access}
 use Rattle.idle_slaves.specs.Eager.{AsksVisit}
 use Rattle.idle_slaves.specs.EagerFrames.{IsSent, One}
 

@@ -1,10 +1,10 @@
 -- A slave that is spent is settled.
 use Rattle.std.proofs.Common.{◌≡◌, Some, None, List, [], ◌∷◌, refl, sym, ap, ◌∙◌}
-use Rattle.exchange_model.specs.Exchange.{Exchange}
-use Rattle.life_model.specs.Lives.{Life}
-use Rattle.link_model.specs.Link.{Halves}
-use Rattle.link_model.specs.Slave.{Node}
-use Rattle.segment_model.specs.Slaves.{Serving, Slave, first_waiting, serving}
+use Rattle.plan_ring.specs.of_exchange_model.Exchange.{Exchange}
+use Rattle.plan_ring.specs.of_life_model.Lives.{Life}
+use Rattle.plan_ring.specs.of_link_model.Link.{Halves}
+use Rattle.plan_ring.specs.of_link_model.Slave.{Node}
+use Rattle.plan_ring.specs.of_segment_model.Slaves.{Serving, Slave, first_waiting, serving}
 use Rattle.idle_slaves.specs.Visited.{IsLeft, LifeSpent}
 
 none_waits : {M : Type 0} (ms : List M) → first_waiting ms ≡ None → ms ≡ []

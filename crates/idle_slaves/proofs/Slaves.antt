@@ -1,9 +1,9 @@
 -- ONE SLAVE by a frame that came back and gained nothing of it.
 use Rattle.std.proofs.Common.{◌≡◌, ◌⊎◌, ◌≤◌, ℕ, zero, suc, ◌==◌, Bool, true, false, is_some, Option, Some, None, List, [], ◌∷◌, ◌++◌, refl, sym, ap, ◌∙◌, subst, arith, if◌then◌else◌, inl, inr, eq-eqb}
 use Rattle.std.specs.Prelude.{◌&&◌}
-use Rattle.exchange_model.specs.Exchange.{Exchange, Speech}
+use Rattle.plan_ring.specs.of_exchange_model.Exchange.{Exchange, Speech}
 use Rattle.idle_slaves.specs.Held.{HeldUp, EndsHeld}
-use Rattle.slave_model.specs.Moments.{IsFree, NowAnswered}
+use Rattle.plan_ring.specs.of_slave_model.Moments.{IsFree, NowAnswered}
 use Rattle.idle_slaves.proofs.Held.{held_up, unpaused}
 use Rattle.idle_slaves.specs.Frames.{InVain, node_on, memory_on}
 use Rattle.idle_slaves.specs.Going.{registers_on}
@@ -15,31 +15,31 @@ use Rattle.idle_slaves.proofs.Frames.{waits_so, was_spent}
 use Rattle.idle_slaves.proofs.Returning.{boxed_is, not_boxed}
 use Rattle.idle_slaves.proofs.Visited.{full_drains, second, same_node}
 use Rattle.idle_slaves.proofs.Waiting.{Holds, holds}
-use Rattle.life_model.specs.Gains.{gains}
-use Rattle.life_model.specs.Visits.{Visit}
-use Rattle.life_model.proofs.Gaining.{next_same}
-use Rattle.life_model.specs.Lives.{Life, Spot, Stand, life_back, era_next}
-use Rattle.life_model.specs.Own.{own}
-use Rattle.link_mails.specs.Body.{Body}
-use Rattle.link_model.specs.Frames.{Ask, node_meets, halves_answered, halves_accept, all_accepted}
-use Rattle.link_model.specs.Link.{Halves}
-use Rattle.link_model.specs.Mails.{LinkMail, news}
-use Rattle.link_model.specs.Master.{InHalf, OutHalf}
-use Rattle.link_model.specs.Slave.{Server}
-use Rattle.master_duty.specs.Reply.{Reply}
+use Rattle.plan_ring.specs.of_life_model.Gains.{gains}
+use Rattle.plan_ring.specs.of_life_model.Visits.{Visit}
+use Rattle.plan_ring.proofs.of_life_model.Gaining.{next_same}
+use Rattle.plan_ring.specs.of_life_model.Lives.{Life, Spot, Stand, life_back, era_next}
+use Rattle.plan_ring.specs.of_life_model.Own.{own}
+use Rattle.plan_ring.specs.of_link_mails.Body.{Body}
+use Rattle.plan_ring.specs.of_link_model.Frames.{Ask, node_meets, halves_answered, halves_accept, all_accepted}
+use Rattle.plan_ring.specs.of_link_model.Link.{Halves}
+use Rattle.plan_ring.specs.of_link_model.Mails.{LinkMail, news}
+use Rattle.plan_ring.specs.of_link_model.Master.{InHalf, OutHalf}
+use Rattle.plan_ring.specs.of_link_model.Slave.{Server}
+use Rattle.plan_ring.specs.of_master_duty.Reply.{Reply}
 use Rattle.plan_ring.specs.of_master_hand.Spoken.{Asked}
 use Rattle.plan_ring.specs.of_run_frames.Clocks.{Clocked}
 use Rattle.plan_ring.specs.of_run_frames.Goes.{Under, back_life}
 use Rattle.plan_ring.specs.of_run_frames.Orders.{is_live}
 use Rattle.plan_ring.specs.of_run_frames.Waits.{Waits, waits_on}
-use Rattle.segment_model.specs.Record.{is_for}
-use Rattle.segment_model.specs.Seats.{Side}
-use Rattle.segment_model.specs.Slaves.{Datagram, Access, Found, Serving, Slave, Processor, grams, serving, slave_after}
-use Rattle.segment_plan.specs.declared.service.Service as Plan
-use Rattle.state_model.specs.Stated.{Service}
-use Rattle.state_model.specs.States.{Table, Phase}
+use Rattle.plan_ring.specs.of_segment_model.Record.{is_for}
+use Rattle.plan_ring.specs.of_segment_model.Seats.{Side}
+use Rattle.plan_ring.specs.of_segment_model.Slaves.{Datagram, Access, Found, Serving, Slave, Processor, grams, serving, slave_after}
+use Rattle.plan_ring.specs.of_segment_plan.declared.service.Service as Plan
+use Rattle.plan_ring.specs.of_state_model.Stated.{Service}
+use Rattle.plan_ring.specs.of_state_model.States.{Table, Phase}
 use Rattle.idle_slaves.specs.Steps.{NotGone}
-use Rattle.state_model.specs.Accounts.{Duty, Stage, access_done, account_by, starts}
+use Rattle.plan_ring.specs.of_state_model.Accounts.{Duty, Stage, access_done, account_by, starts}
 use Rattle.idle_slaves.specs.Eager.{Remembered, AsksVisit, EachAsksFor, IsClear, NoneLeft, MayBegin, IsAtEnd, IsEager, IsInVain, RemembersOn, GetsNone}
 use Rattle.idle_slaves.specs.EagerFrames.{One, FrameAs, TellsBy}
 use Rattle.idle_slaves.specs.Standing.{Unvisited, Visited, Standing, IsDone}

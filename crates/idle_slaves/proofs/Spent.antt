@@ -1,19 +1,19 @@
 -- A slave that is spent, as its master speaks with it.
 use Rattle.std.proofs.Common.{ℕ, Bool, List}
-use Rattle.slave_model.specs.Moments.{IsFree, NoneLeft, NowAnswered}
-use Rattle.slave_model.proofs.Laws.{nothing}
-use Rattle.exchange_model.specs.Exchange.{Exchange, Speech, IsLawful}
+use Rattle.plan_ring.specs.of_slave_model.Moments.{IsFree, NoneLeft, NowAnswered}
+use Rattle.plan_ring.proofs.of_slave_model.Laws.{nothing}
+use Rattle.plan_ring.specs.of_exchange_model.Exchange.{Exchange, Speech, IsLawful}
 use Rattle.idle_slaves.specs.Visited.{LifeSpent}
 use Rattle.idle_slaves.proofs.Settled.{is_left}
-use Rattle.life_model.specs.Eras.{EraIs}
-use Rattle.life_model.specs.Lives.{Life, Spot}
+use Rattle.plan_ring.specs.of_life_model.Eras.{EraIs}
+use Rattle.plan_ring.specs.of_life_model.Lives.{Life, Spot}
 use Rattle.plan_ring.specs.Alike.{Alike, RowIs}
 use Rattle.plan_ring.proofs.NamedAlike.{free_back, left_alike, answered_alike}
 use Rattle.plan_ring.specs.of_slave_model.Waits.{NeverWaits}
-use Rattle.segment_model.specs.Record.{Frame}
-use Rattle.segment_model.specs.Slaves.{Processor, Registers, Slave, serving}
-use Rattle.state_model.specs.Stated.{Stated, IsStated}
-use Rattle.state_model.specs.States.{Table}
+use Rattle.plan_ring.specs.of_segment_model.Record.{Frame}
+use Rattle.plan_ring.specs.of_segment_model.Slaves.{Processor, Registers, Slave, serving}
+use Rattle.plan_ring.specs.of_state_model.Stated.{Stated, IsStated}
+use Rattle.plan_ring.specs.of_state_model.States.{Table}
 
 module _ {V A M Q R : Type 0} (x : Exchange V A M Q R) (s : Stated V A Q) (processor : Processor V) (table : ℕ → Table) (spot : Spot) (l : Life M Q R) (opened last : ℕ) (fs : List (Frame M)) (v : V) (r : Registers) (slave : Slave V M) where
   pub spent_free : IsLawful x → IsStated x s → NeverWaits x → EraIs x s processor table spot l.era opened last fs v r slave → LifeSpent (serving x) l slave.node →

@@ -1,20 +1,20 @@
 -- A step of the processor of an open epoch's slave, while no state service is past its drain.
 use Rattle.std.proofs.Common.{◌≡◌, ℕ, Bool, false, Option, Some, None, List, [], ◌∷◌, sym, ap, ◌∙◌, subst}
-use Rattle.exchange_model.specs.Exchange.{Exchange, IsLawful}
-use Rattle.life_model.specs.Eras.{EraIs, era_frames, planned}
-use Rattle.life_model.specs.Lives.{Spot, Era}
-use Rattle.link_model.specs.Slave.{node_look, node_serve}
-use Rattle.segment_model.specs.Record.{Frame}
-use Rattle.segment_model.specs.Seats.{Seat, Side, Planned, sides_of, ring_of}
-use Rattle.segment_model.specs.Slaves.{Processor, Registers, Ring, Slave, serving}
-use Rattle.state_model.specs.Stated.{Stated, IsStated}
-use Rattle.state_model.specs.States.{Table, carry}
-use Rattle.state_model.proofs.Sessions.{Whole, session_keeps}
-use Rattle.state_model.proofs.Stately.{StateStep, step_state}
-use Rattle.state_model.proofs.Walks.{EachOne}
-use Rattle.state_model.specs.Accounts.{Account, Duty, Stage}
-use Rattle.state_model.specs.Promise.{EachTask}
-use Rattle.state_model.specs.Tasks.{IsTasked, IsTaskPlan, run, new_tasks}
+use Rattle.plan_ring.specs.of_exchange_model.Exchange.{Exchange, IsLawful}
+use Rattle.plan_ring.specs.of_life_model.Eras.{EraIs, era_frames, planned}
+use Rattle.plan_ring.specs.of_life_model.Lives.{Spot, Era}
+use Rattle.plan_ring.specs.of_link_model.Slave.{node_look, node_serve}
+use Rattle.plan_ring.specs.of_segment_model.Record.{Frame}
+use Rattle.plan_ring.specs.of_segment_model.Seats.{Seat, Side, Planned, sides_of, ring_of}
+use Rattle.plan_ring.specs.of_segment_model.Slaves.{Processor, Registers, Ring, Slave, serving}
+use Rattle.plan_ring.specs.of_state_model.Stated.{Stated, IsStated}
+use Rattle.plan_ring.specs.of_state_model.States.{Table, carry}
+use Rattle.plan_ring.proofs.of_state_model.Sessions.{Whole, session_keeps}
+use Rattle.plan_ring.proofs.of_state_model.Stately.{StateStep, step_state}
+use Rattle.plan_ring.proofs.of_state_model.Walks.{EachOne}
+use Rattle.plan_ring.specs.of_state_model.Accounts.{Account, Duty, Stage}
+use Rattle.plan_ring.specs.of_state_model.Promise.{EachTask}
+use Rattle.plan_ring.specs.of_state_model.Tasks.{IsTasked, IsTaskPlan, run, new_tasks}
 use Rattle.idle_slaves.specs.Steps.{Drains, NotGone, StepsAlone}
 
 -- the AL state stays

@@ -1,9 +1,9 @@
 -- What a step of the processor leaves of mailbox 1.
 use Rattle.std.proofs.Common.{◌≡◌, ◌≢◌, Bool, true, false, Option, Some, None, refl, sym, ap, ◌∙◌, subst, if◌then◌else◌}
-use Rattle.link_model.specs.Gains.{HasStepped}
-use Rattle.link_model.specs.Link.{Link, Event, happens}
-use Rattle.link_model.specs.Mails.{LinkMail, differs, first_of}
-use Rattle.link_model.specs.Slave.{Server, InSide, looked, noticed, request_answered, offers, mail_taken, all_taken, is_free, node_look, node_take}
+use Rattle.plan_ring.specs.of_link_model.Gains.{HasStepped}
+use Rattle.plan_ring.specs.of_link_model.Link.{Link, Event, happens}
+use Rattle.plan_ring.specs.of_link_model.Mails.{LinkMail, differs, first_of}
+use Rattle.plan_ring.specs.of_link_model.Slave.{Server, InSide, looked, noticed, request_answered, offers, mail_taken, all_taken, is_free, node_look, node_take}
 
 -- A MAIL stays
 looked_some : {B : Type 0} (s : InSide B) (b : LinkMail B) → s.box ≡ Some b → (looked s).box ≢ None

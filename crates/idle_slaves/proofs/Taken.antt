@@ -1,11 +1,11 @@
 -- What comes into hand takes no service away.
 use Rattle.std.proofs.Common.{◌≡◌, ℕ, ◌&&◌, Bool, true, false, Option, Some, None, option_map, List, [], ◌∷◌, ◌++◌, refl, ap, ◌∙◌, if◌then◌else◌}
-use Rattle.exchange_model.specs.Exchange.{Speech}
-use Rattle.exchange_model.specs.Rows.{Row, begun, row_told}
-use Rattle.life_model.specs.Lives.{Life, Stand, granted, life_next}
-use Rattle.link_model.specs.Slave.{Node}
-use Rattle.segment_model.specs.Seats.{Side, Choice, is_over, side_begins, side_holds, side_next, next_mail}
-use Rattle.state_model.specs.Accounts.{Pick, mails_choice}
+use Rattle.plan_ring.specs.of_exchange_model.Exchange.{Speech}
+use Rattle.plan_ring.specs.of_exchange_model.Rows.{Row, begun, row_told}
+use Rattle.plan_ring.specs.of_life_model.Lives.{Life, Stand, granted, life_next}
+use Rattle.plan_ring.specs.of_link_model.Slave.{Node}
+use Rattle.plan_ring.specs.of_segment_model.Seats.{Side, Choice, is_over, side_begins, side_holds, side_next, next_mail}
+use Rattle.plan_ring.specs.of_state_model.Accounts.{Pick, mails_choice}
 use Rattle.idle_slaves.specs.Visited.{HasRow}
 
 -- some service has come into hand

@@ -1,18 +1,18 @@
 -- What begins is in hand: a state service, or the first mail of a service by mails.
 use Rattle.std.proofs.Common.{◌≡◌, ℕ, ◌+◌, Bool, true, false, Option, Some, None, List, [], ◌∷◌, ◌++◌, length, refl, sym, ap, ◌∙◌, subst, arith, length-append, if◌then◌else◌}
 use Rattle.std.specs.Prelude.{◌&&◌}
-use Rattle.exchange_model.specs.Exchange.{Exchange, Speech, IsLawful, given, plain}
-use Rattle.exchange_model.specs.Rows.{Row, begun}
+use Rattle.plan_ring.specs.of_exchange_model.Exchange.{Exchange, Speech, IsLawful, given, plain}
+use Rattle.plan_ring.specs.of_exchange_model.Rows.{Row, begun}
 use Rattle.plan_ring.specs.of_life_runs.Led.{Comes}
 use Rattle.plan_ring.specs.of_master_hand.Spoken.{Asked}
 use Rattle.plan_ring.specs.Alike.{WishIs}
-use Rattle.slave_model.specs.Waits.{NeverWaits}
+use Rattle.plan_ring.specs.of_slave_model.Waits.{NeverWaits}
 use Rattle.plan_ring.specs.Asked.{is_service}
 use Rattle.plan_ring.proofs.Turns.{wish_is}
-use Rattle.segment_model.specs.Seats.{Side, side_begins, side_holds, side_next, next_mail, is_over}
-use Rattle.segment_plan.specs.declared.service.Service as Plan
-use Rattle.state_model.specs.Stated.{Service}
-use Rattle.state_model.specs.Accounts.{Account, Duty, Started, Pick, account_begins, mails_begin, mails_choice, starts, state_begins, is_free, is_acknowledged}
+use Rattle.plan_ring.specs.of_segment_model.Seats.{Side, side_begins, side_holds, side_next, next_mail, is_over}
+use Rattle.plan_ring.specs.of_segment_plan.declared.service.Service as Plan
+use Rattle.plan_ring.specs.of_state_model.Stated.{Service}
+use Rattle.plan_ring.specs.of_state_model.Accounts.{Account, Duty, Started, Pick, account_begins, mails_begin, mails_choice, starts, state_begins, is_free, is_acknowledged}
 
 -- a client's first mail
 pub first_mail : {V A M Q R : Type 0} (x : Exchange V A M Q R) → IsLawful x → NeverWaits x → (v : V) (q : Q) → x.ready v ≡ true → x.speech.valid q ≡ true → {X : Type 0} → x.speech.planned q [] ≡ [] → X

@@ -1,19 +1,19 @@
 -- A slave that waits, visit by visit.
 use Rattle.std.proofs.Common.{◌≡◌, ◌≤◌, ℕ, Bool, true, false, is_some, Option, None, List, [], refl, sym, ap, ◌∙◌, subst, if◌then◌else◌, inl, inr}
-use Rattle.exchange_model.specs.Exchange.{Speech}
-use Rattle.life_model.specs.Gains.{gains}
-use Rattle.life_model.specs.Visits.{Visit, mails_visit, drain_visit, visit_gain, visited}
-use Rattle.life_model.specs.Lives.{Life, Spot, Stand, life_back}
-use Rattle.life_model.specs.Own.{own}
-use Rattle.link_model.specs.Frames.{node_meets}
-use Rattle.link_model.specs.Link.{Halves, Link, Event, happens}
-use Rattle.link_model.specs.Master.{InState}
-use Rattle.link_model.specs.Slave.{Node, Server, processor_step}
+use Rattle.plan_ring.specs.of_exchange_model.Exchange.{Speech}
+use Rattle.plan_ring.specs.of_life_model.Gains.{gains}
+use Rattle.plan_ring.specs.of_life_model.Visits.{Visit, mails_visit, drain_visit, visit_gain, visited}
+use Rattle.plan_ring.specs.of_life_model.Lives.{Life, Spot, Stand, life_back}
+use Rattle.plan_ring.specs.of_life_model.Own.{own}
+use Rattle.plan_ring.specs.of_link_model.Frames.{node_meets}
+use Rattle.plan_ring.specs.of_link_model.Link.{Halves, Link, Event, happens}
+use Rattle.plan_ring.specs.of_link_model.Master.{InState}
+use Rattle.plan_ring.specs.of_link_model.Slave.{Node, Server, processor_step}
 use Rattle.plan_ring.specs.of_run_frames.Waits.{Waits}
-use Rattle.segment_model.specs.Ends.{Passing}
-use Rattle.segment_model.specs.Record.{News}
-use Rattle.segment_model.specs.Slaves.{Datagram, Found}
-use Rattle.state_model.specs.Accounts.{Duty}
+use Rattle.plan_ring.specs.of_segment_model.Ends.{Passing}
+use Rattle.plan_ring.specs.of_segment_model.Record.{News}
+use Rattle.plan_ring.specs.of_segment_model.Slaves.{Datagram, Found}
+use Rattle.plan_ring.specs.of_state_model.Accounts.{Duty}
 use Rattle.idle_slaves.specs.Waiting.{Wanted, Memory, Coming, IsVain, IsWaiting, IsIdle, link_by, wanted_by, memory_by, memory_behind, visit_by, visit_with, tried}
 use Rattle.idle_slaves.specs.Visited.{IsFor, Shows, CameBack, HasRow, IsStill, Waiting, Chosen, LifeSpent, is_served, visit_for, life_visit, memory_of}
 use Rattle.idle_slaves.proofs.Returning.{IsVainly, vainly, not_served, served_is, then_hand, then_halves, then_stands, hand_none, halves_none}

@@ -1,14 +1,14 @@
 -- A visit in vain leaves halves and slave.
 use Rattle.std.proofs.Common.{◌≡◌, ◌≢◌, Bool, Option, Some, None, refl, sym, ap, ◌∙◌, arith, inl, inr}
-use Rattle.life_model.specs.Visits.{Visit, empty_gain, visit_gain, visited}
-use Rattle.link_model.specs.Agree.{Agrees}
-use Rattle.link_model.specs.Gains.{HasStepped, write_gain, read_gain}
-use Rattle.link_model.specs.Link.{Link, Fate, Event, out_half_after, out_side_after, in_half_after, in_side_after}
-use Rattle.link_model.specs.Mails.{LinkMail, differs}
-use Rattle.link_model.specs.Master.{InHalf, InState, OutHalf}
-use Rattle.link_model.specs.Slave.{Server, InSide, OutSide, Node}
-use Rattle.link_model.proofs.Gains.{hold_gains}
-use Rattle.link_model.proofs.Law.{happens_keeps}
+use Rattle.plan_ring.specs.of_life_model.Visits.{Visit, empty_gain, visit_gain, visited}
+use Rattle.plan_ring.specs.of_link_model.Agree.{Agrees}
+use Rattle.plan_ring.specs.of_link_model.Gains.{HasStepped, write_gain, read_gain}
+use Rattle.plan_ring.specs.of_link_model.Link.{Link, Fate, Event, out_half_after, out_side_after, in_half_after, in_side_after}
+use Rattle.plan_ring.specs.of_link_model.Mails.{LinkMail, differs}
+use Rattle.plan_ring.specs.of_link_model.Master.{InHalf, InState, OutHalf}
+use Rattle.plan_ring.specs.of_link_model.Slave.{Server, InSide, OutSide, Node}
+use Rattle.plan_ring.proofs.of_link_model.Gains.{hold_gains}
+use Rattle.plan_ring.proofs.of_link_model.Law.{happens_keeps}
 
 -- A READ IN VAIN found mailbox 1 empty
 none_read : {B : Type 0} (state : InState) (box : Option (LinkMail B)) (differ : Bool) → state ≡ InState.Clear → read_gain state box differ ≡ 0 → box ≡ None

@@ -1,21 +1,21 @@
 -- A write in vain to an open slave: where a state service might begin behind it, none is left.
 use Rattle.std.proofs.Common.{◌≡◌, ℕ, Bool, Option, Some, None, List, [], sym, subst}
-use Rattle.exchange_model.specs.Exchange.{Speech}
+use Rattle.plan_ring.specs.of_exchange_model.Exchange.{Speech}
 use Rattle.idle_slaves.specs.Held.{EndsHeld}
-use Rattle.slave_model.specs.Moments.{IsFree, HeldStill, NowAnswered}
+use Rattle.plan_ring.specs.of_slave_model.Moments.{IsFree, HeldStill, NowAnswered}
 use Rattle.idle_slaves.proofs.Ends.{ends_known}
 use Rattle.idle_slaves.proofs.Held.{side_is}
-use Rattle.life_model.specs.Lives.{Era, Life, Spot, Stand, life_back, era_next}
-use Rattle.life_model.specs.Own.{own}
+use Rattle.plan_ring.specs.of_life_model.Lives.{Era, Life, Spot, Stand, life_back, era_next}
+use Rattle.plan_ring.specs.of_life_model.Own.{own}
 use Rattle.plan_ring.specs.of_life_runs.Led.{is_passed}
-use Rattle.link_mails.specs.Body.{Body}
-use Rattle.master_duty.specs.Reply.{Reply}
+use Rattle.plan_ring.specs.of_link_mails.Body.{Body}
+use Rattle.plan_ring.specs.of_master_duty.Reply.{Reply}
 use Rattle.plan_ring.specs.of_master_hand.Spoken.{Asked, acknowledged, is_followed}
-use Rattle.segment_model.specs.Record.{News}
-use Rattle.segment_model.specs.Seats.{Side, side_back}
-use Rattle.segment_model.specs.Slaves.{Datagram, Found}
-use Rattle.state_model.specs.Stated.{Service}
-use Rattle.state_model.specs.Accounts.{Pick, starts}
+use Rattle.plan_ring.specs.of_segment_model.Record.{News}
+use Rattle.plan_ring.specs.of_segment_model.Seats.{Side, side_back}
+use Rattle.plan_ring.specs.of_segment_model.Slaves.{Datagram, Found}
+use Rattle.plan_ring.specs.of_state_model.Stated.{Service}
+use Rattle.plan_ring.specs.of_state_model.Accounts.{Pick, starts}
 use Rattle.idle_slaves.proofs.Fits.{ToldWhole}
 
 module _ (x : Speech Body Asked Reply) (number : ℕ) (spot : Spot) (e : Era Body Asked Reply) (said : NowAnswered x e.side) (told : ToldWhole x acknowledged e) (silent : (q : Asked) → x.ends q [] ≡ None) (pick : Pick Asked)

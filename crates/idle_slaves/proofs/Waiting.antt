@@ -1,15 +1,15 @@
 -- What is known of a slave since something was gained last.
 use Rattle.std.proofs.Common.{◌≡◌, ◌≢◌, ◌⊎◌, ◌≤◌, ℕ, suc, Bool, true, false, is_some, Option, Some, None, refl, sym, ap, ◌∙◌, subst, arith, if◌then◌else◌, inl, inr}
-use Rattle.life_model.specs.Visits.{Visit, empty_gain, mails_visit, drain_visit, visit_gain, visited}
-use Rattle.link_model.specs.Agree.{Agrees}
-use Rattle.link_model.specs.Gains.{HasStepped, write_gain}
-use Rattle.link_model.specs.Link.{Link, Event, happens, held_after}
-use Rattle.link_model.specs.Mails.{LinkMail}
-use Rattle.link_model.specs.Counters.{next_counter}
-use Rattle.link_model.specs.Master.{InState, OutHalf, out_hold}
-use Rattle.link_model.specs.Slave.{Server}
-use Rattle.link_model.proofs.Gains.{clear_gains, clear_settled, processor_steps}
-use Rattle.link_model.proofs.Law.{happens_keeps}
+use Rattle.plan_ring.specs.of_life_model.Visits.{Visit, empty_gain, mails_visit, drain_visit, visit_gain, visited}
+use Rattle.plan_ring.specs.of_link_model.Agree.{Agrees}
+use Rattle.plan_ring.specs.of_link_model.Gains.{HasStepped, write_gain}
+use Rattle.plan_ring.specs.of_link_model.Link.{Link, Event, happens, held_after}
+use Rattle.plan_ring.specs.of_link_model.Mails.{LinkMail}
+use Rattle.plan_ring.specs.of_link_model.Counters.{next_counter}
+use Rattle.plan_ring.specs.of_link_model.Master.{InState, OutHalf, out_hold}
+use Rattle.plan_ring.specs.of_link_model.Slave.{Server}
+use Rattle.plan_ring.proofs.of_link_model.Gains.{clear_gains, clear_settled, processor_steps}
+use Rattle.plan_ring.proofs.of_link_model.Law.{happens_keeps}
 use Rattle.plan_ring.specs.of_run_frames.Waits.{Waits}
 use Rattle.idle_slaves.specs.Waiting.{Wanted, Memory, Coming, MayCome, IsVain, IsWaiting, IsSpent, IsIdle, link_by, wanted_by, memory_by, memory_behind, visit_by, visit_with, tried}
 use Rattle.idle_slaves.proofs.Steps.{full_stays, empty_stays}

@@ -3,14 +3,14 @@ use Rattle.std.proofs.Common.{◌≡◌, ◌⊎◌, ◌≤◌, ◌<◌, ℕ, zer
 use Rattle.std.specs.Prelude.{nat_lt}
 use Rattle.std.proofs.lemmas.Bool.{ltb-true}
 use Rattle.idle_slaves.specs.Eager.{Remembered}
-use Rattle.exchange_model.specs.Exchange.{Speech}
-use Rattle.frame_view.specs.Seen.{seen, datagrams_seen}
-use Rattle.frame_view.specs.View.{Lens}
-use Rattle.life_model.specs.Lives.{Spot}
+use Rattle.plan_ring.specs.of_exchange_model.Exchange.{Speech}
+use Rattle.plan_ring.specs.of_frame_view.Seen.{seen, datagrams_seen}
+use Rattle.plan_ring.specs.of_frame_view.View.{Lens}
+use Rattle.plan_ring.specs.of_life_model.Lives.{Spot}
 use Rattle.plan_ring.specs.of_life_runs.First.{lens_of, first_leads, leads_from}
 use Rattle.plan_ring.specs.of_life_runs.Led.{Exchanged, Leads, Turn, IsLed, IsLedFrame, speech_at, is_passed, gives_up_at, missed_behind}
-use Rattle.link_mails.specs.Body.{Body}
-use Rattle.master_duty.specs.Reply.{Reply}
+use Rattle.plan_ring.specs.of_link_mails.Body.{Body}
+use Rattle.plan_ring.specs.of_master_duty.Reply.{Reply}
 use Rattle.plan_ring.specs.of_master_hand.Spoken.{Asked, acknowledged, is_followed}
 use Rattle.plan_ring.specs.PlanMet.{AllOpenAt, AllMet}
 use Rattle.plan_ring.specs.Lives.{AreLived}
@@ -27,11 +27,11 @@ use Rattle.plan_ring.specs.of_run_frames.Runs.{Progress}
 use Rattle.plan_ring.specs.of_run_frames.Toured.{IsToured, WaitIn}
 use Rattle.plan_ring.specs.of_run_frames.Waits.{new_waits, all_anew, all_on, waits_behind, SomeWaits}
 use Rattle.plan_ring.proofs.of_run_frames.Leading.{SeenIs, led_view, all_under, all_led_lost, all_led_back}
-use Rattle.segment_model.specs.Slaves.{Datagram}
-use Rattle.segment_plan.specs.declared.plan.Scenario.{Scenario}
-use Rattle.segment_plan.specs.declared.service.Service as Script
-use Rattle.segment_plan.specs.declared.slave.SlaveSpec.{SlaveSpec}
-use Rattle.segment_ring.specs.declared.wire.Fate.TheVariants.{Pass, Lost}
+use Rattle.plan_ring.specs.of_segment_model.Slaves.{Datagram}
+use Rattle.plan_ring.specs.of_segment_plan.declared.plan.Scenario.{Scenario}
+use Rattle.plan_ring.specs.of_segment_plan.declared.service.Service as Script
+use Rattle.plan_ring.specs.of_segment_plan.declared.slave.SlaveSpec.{SlaveSpec}
+use Rattle.plan_ring.specs.of_segment_ring.declared.wire.Fate.TheVariants.{Pass, Lost}
 use Rattle.idle_slaves.specs.WaitEager.{AllRest, AllSilent, IsEagerFrame, EagerIn}
 use Rattle.idle_slaves.proofs.Fits.{AllReady, AllSeated, nexts_of}
 use Rattle.idle_slaves.proofs.Lists.{Slave, still_same, all_same, AllStanding, all_begin, all_quiet, all_stand, repaired}

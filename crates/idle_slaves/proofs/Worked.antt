@@ -1,12 +1,12 @@
 -- Worked visits: a slave with nothing to say, behind a step, and one that waits with a mail.
 use Rattle.std.proofs.Common.{◌≡◌, ℕ, false, true, Some, None, refl, arith}
 use Rattle.std.specs.Prelude.{⊤}
-use Rattle.link_model.specs.Link.{Link, Event, happens, new_link}
-use Rattle.link_model.specs.Slave.{Server}
-use Rattle.link_model.proofs.Law.{new_agrees}
-use Rattle.life_model.specs.Visits.{Visit, visit_gain, visited}
+use Rattle.plan_ring.specs.of_link_model.Link.{Link, Event, happens, new_link}
+use Rattle.plan_ring.specs.of_link_model.Slave.{Server}
+use Rattle.plan_ring.proofs.of_link_model.Law.{new_agrees}
+use Rattle.plan_ring.specs.of_life_model.Visits.{Visit, visit_gain, visited}
 use Rattle.plan_ring.specs.of_run_frames.Waits.{new_waits}
-use Rattle.segment_model.specs.Ends.{Passing}
+use Rattle.plan_ring.specs.of_segment_model.Ends.{Passing}
 use Rattle.idle_slaves.specs.Visited.{visit_for}
 use Rattle.idle_slaves.specs.Waiting.{Wanted, Memory, Coming, IsWaiting, IsSpent, link_by, memory_behind, visit_with}
 use Rattle.idle_slaves.proofs.Waiting.{spent}

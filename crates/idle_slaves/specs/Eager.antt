@@ -1,26 +1,26 @@
 -- A MASTER MAKES NO VISIT IN VAIN where more could go on: what its frame asks an open slave with nothing in doubt, and what is left to do behind a visit.
 use Rattle.std.specs.Prelude.{◌≡◌, ◌==◌, Bool, true, false, is_some, Option, Some, None, List, [], ◌∷◌, ℕ, slice_get, ⊤}
-use Rattle.exchange_model.specs.Exchange.{Speech}
-use Rattle.exchange_model.specs.Rows.{Row, left}
-use Rattle.frame_view.specs.View.{Lens}
+use Rattle.plan_ring.specs.of_exchange_model.Exchange.{Speech}
+use Rattle.plan_ring.specs.of_exchange_model.Rows.{Row, left}
+use Rattle.plan_ring.specs.of_frame_view.View.{Lens}
 use Rattle.idle_slaves.specs.Visited.{life_visit, memory_of, visit_for}
 use Rattle.idle_slaves.specs.Waiting.{Memory, memory_behind}
-use Rattle.life_model.specs.Visits.{Visit, drain_visit}
-use Rattle.life_model.specs.Lives.{Life, Stand}
-use Rattle.life_model.specs.Own.{own}
+use Rattle.plan_ring.specs.of_life_model.Visits.{Visit, drain_visit}
+use Rattle.plan_ring.specs.of_life_model.Lives.{Life, Stand}
+use Rattle.plan_ring.specs.of_life_model.Own.{own}
 use Rattle.plan_ring.specs.of_life_runs.Led.{Leads, Turn, speech_at}
-use Rattle.link_mails.specs.Body.{Body}
-use Rattle.link_model.specs.Frames.{Ask}
-use Rattle.link_model.specs.Link.{Halves}
-use Rattle.link_model.specs.Mails.{LinkMail}
-use Rattle.link_model.specs.Master.{InState}
-use Rattle.master_duty.specs.Reply.{Reply}
+use Rattle.plan_ring.specs.of_link_mails.Body.{Body}
+use Rattle.plan_ring.specs.of_link_model.Frames.{Ask}
+use Rattle.plan_ring.specs.of_link_model.Link.{Halves}
+use Rattle.plan_ring.specs.of_link_model.Mails.{LinkMail}
+use Rattle.plan_ring.specs.of_link_model.Master.{InState}
+use Rattle.plan_ring.specs.of_master_duty.Reply.{Reply}
 use Rattle.plan_ring.specs.of_master_hand.Spoken.{Asked, acknowledged}
-use Rattle.segment_model.specs.Ends.{Passing}
-use Rattle.segment_model.specs.Slaves.{Datagram, Access, Found}
-use Rattle.segment_plan.specs.declared.service.Service as Plan
-use Rattle.state_model.specs.Stated.{Service}
-use Rattle.state_model.specs.Accounts.{Duty, Stage, is_free, is_acknowledged, phase_access}
+use Rattle.plan_ring.specs.of_segment_model.Ends.{Passing}
+use Rattle.plan_ring.specs.of_segment_model.Slaves.{Datagram, Access, Found}
+use Rattle.plan_ring.specs.of_segment_plan.declared.service.Service as Plan
+use Rattle.plan_ring.specs.of_state_model.Stated.{Service}
+use Rattle.plan_ring.specs.of_state_model.Accounts.{Duty, Stage, is_free, is_acknowledged, phase_access}
 
 -- what a master remembers of a slave between two frames: of its visits, whether a packet waits at its port, and whether a mail waits to be passed on
 pub record Remembered : Type 0 where

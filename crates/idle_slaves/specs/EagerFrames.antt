@@ -1,28 +1,28 @@
 -- ONE FRAME THAT CAME BACK, for an open slave of a ring.
 use Rattle.std.specs.Prelude.{◌≡◌, ◌⊎◌, ◌≤◌, ℕ, suc, ◌%◌, ◌==◌, true, false, is_some, Bool, if◌then◌else◌, Option, Some, None, List, [], ◌∷◌}
-use Rattle.exchange_model.specs.Exchange.{Exchange, Speech}
+use Rattle.plan_ring.specs.of_exchange_model.Exchange.{Exchange, Speech}
 use Rattle.idle_slaves.specs.Held.{EndsHeld}
-use Rattle.slave_model.specs.Moments.{NowAnswered}
+use Rattle.plan_ring.specs.of_slave_model.Moments.{NowAnswered}
 use Rattle.idle_slaves.specs.Links.{HasLink}
 use Rattle.idle_slaves.specs.Visited.{LifeSpent}
-use Rattle.life_model.specs.Gains.{gains}
-use Rattle.life_model.specs.Lives.{Spot, Stand, life_next, era_next}
-use Rattle.life_model.specs.Own.{own}
-use Rattle.link_mails.specs.Body.{Body}
-use Rattle.link_model.specs.Frames.{Ask}
-use Rattle.master_duty.specs.Reply.{Reply}
+use Rattle.plan_ring.specs.of_life_model.Gains.{gains}
+use Rattle.plan_ring.specs.of_life_model.Lives.{Spot, Stand, life_next, era_next}
+use Rattle.plan_ring.specs.of_life_model.Own.{own}
+use Rattle.plan_ring.specs.of_link_mails.Body.{Body}
+use Rattle.plan_ring.specs.of_link_model.Frames.{Ask}
+use Rattle.plan_ring.specs.of_master_duty.Reply.{Reply}
 use Rattle.plan_ring.specs.of_master_hand.Spoken.{Asked}
 use Rattle.plan_ring.specs.of_run_frames.Clocks.{Clocked}
 use Rattle.plan_ring.specs.of_run_frames.Goes.{Under, back_life}
 use Rattle.plan_ring.specs.of_run_frames.Orders.{is_live}
 use Rattle.plan_ring.specs.of_run_frames.Waits.{Waits, waits_on}
-use Rattle.segment_model.specs.Record.{News}
-use Rattle.segment_model.specs.Slaves.{Access, Found, Datagram, Address, Processor, Slave, serving, slave_after, slave_steps, frame_after}
-use Rattle.segment_plan.specs.declared.service.Service as Plan
-use Rattle.state_model.specs.Stated.{Service}
-use Rattle.state_model.specs.States.{Table}
+use Rattle.plan_ring.specs.of_segment_model.Record.{News}
+use Rattle.plan_ring.specs.of_segment_model.Slaves.{Access, Found, Datagram, Address, Processor, Slave, serving, slave_after, slave_steps, frame_after}
+use Rattle.plan_ring.specs.of_segment_plan.declared.service.Service as Plan
+use Rattle.plan_ring.specs.of_state_model.Stated.{Service}
+use Rattle.plan_ring.specs.of_state_model.States.{Table}
 use Rattle.idle_slaves.specs.Steps.{StepsAlone}
-use Rattle.state_model.specs.Accounts.{Pick, starts}
+use Rattle.plan_ring.specs.of_state_model.Accounts.{Pick, starts}
 use Rattle.idle_slaves.specs.Eager.{Remembered, IsClear, NoneLeft, MayBegin, IsEager, RemembersOn, GetsNone}
 use Rattle.idle_slaves.specs.Standing.{Standing, IsDone}
 

@@ -3,15 +3,15 @@ use Rattle.std.specs.Prelude.{◌≡◌, ◌≤◌, ℕ, ◌+◌, Bool, false, i
 use Rattle.idle_slaves.specs.Eager.{Remembered}
 use Rattle.plan_ring.specs.of_life_runs.First.{lens_of, first_leads}
 use Rattle.plan_ring.specs.of_life_runs.Led.{Exchanged, Leads}
-use Rattle.link_mails.specs.Body.{Body}
-use Rattle.master_duty.specs.Reply.{Reply}
+use Rattle.plan_ring.specs.of_link_mails.Body.{Body}
+use Rattle.plan_ring.specs.of_master_duty.Reply.{Reply}
 use Rattle.plan_ring.specs.of_master_hand.Spoken.{Asked}
 use Rattle.plan_ring.specs.of_run_frames.Clocks.{Clocked, gains_all}
 use Rattle.plan_ring.specs.of_run_frames.Led.{behind_back}
 use Rattle.plan_ring.specs.of_run_frames.Runs.{Progress}
 use Rattle.plan_ring.specs.of_run_frames.Toured.{IsToured, AskIn}
 use Rattle.plan_ring.specs.of_run_frames.Waits.{Waits}
-use Rattle.segment_plan.specs.declared.plan.Scenario.{Scenario}
+use Rattle.plan_ring.specs.of_segment_plan.declared.plan.Scenario.{Scenario}
 use Rattle.idle_slaves.specs.WaitEager.{IsEagerFrame, EagerIn}
 
 module _ (plan : Scenario) {slowest : ℕ} {paces : List ℕ} where

@@ -1,15 +1,15 @@
 -- ONE FRAME THAT CAME BACK, for a slave that waits, as the frames of a run are counted.
 use Rattle.std.specs.Prelude.{◌≡◌, ℕ, suc, ◌%◌, ◌==◌, is_some, Bool, true, false, if◌then◌else◌, List, []}
-use Rattle.exchange_model.specs.Exchange.{Speech}
-use Rattle.life_model.specs.Gains.{gains}
-use Rattle.life_model.specs.Lives.{Spot, life_next}
-use Rattle.life_model.specs.Own.{own}
-use Rattle.link_model.specs.Slave.{Node, Server, processor_step}
+use Rattle.plan_ring.specs.of_exchange_model.Exchange.{Speech}
+use Rattle.plan_ring.specs.of_life_model.Gains.{gains}
+use Rattle.plan_ring.specs.of_life_model.Lives.{Spot, life_next}
+use Rattle.plan_ring.specs.of_life_model.Own.{own}
+use Rattle.plan_ring.specs.of_link_model.Slave.{Node, Server, processor_step}
 use Rattle.plan_ring.specs.of_run_frames.Clocks.{Clocked}
 use Rattle.plan_ring.specs.of_run_frames.Goes.{Under, back_life}
 use Rattle.plan_ring.specs.of_run_frames.Waits.{Waits}
-use Rattle.segment_model.specs.Slaves.{Datagram}
-use Rattle.state_model.specs.Accounts.{Pick}
+use Rattle.plan_ring.specs.of_segment_model.Slaves.{Datagram}
+use Rattle.plan_ring.specs.of_state_model.Accounts.{Pick}
 use Rattle.idle_slaves.specs.Waiting.{Memory, memory_behind}
 use Rattle.idle_slaves.specs.Visited.{CameBack, HasRow, IsUnpaused, Tells, life_visit, memory_of}
 

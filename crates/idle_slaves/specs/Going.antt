@@ -1,17 +1,17 @@
 -- AN OPEN SLAVE WITH A STATE SERVICE PAST ITS DRAIN, frame by frame of a run.
 use Rattle.std.specs.Prelude.{◌≡◌, ℕ, suc, ◌%◌, ◌==◌, Bool, true, false, if◌then◌else◌, Some, List, [], ◌∷◌}
-use Rattle.exchange_model.specs.Exchange.{Speech}
-use Rattle.life_model.specs.Gains.{gains}
-use Rattle.life_model.specs.Lives.{Life, Spot, Stand, life_next, returns_to_init}
-use Rattle.life_model.specs.Own.{own}
+use Rattle.plan_ring.specs.of_exchange_model.Exchange.{Speech}
+use Rattle.plan_ring.specs.of_life_model.Gains.{gains}
+use Rattle.plan_ring.specs.of_life_model.Lives.{Life, Spot, Stand, life_next, returns_to_init}
+use Rattle.plan_ring.specs.of_life_model.Own.{own}
 use Rattle.plan_ring.specs.of_run_frames.Clocks.{Clocked}
 use Rattle.plan_ring.specs.of_run_frames.Goes.{Under, back_life}
 use Rattle.plan_ring.specs.of_run_frames.Waits.{Waits}
-use Rattle.segment_model.specs.Record.{is_for}
-use Rattle.segment_model.specs.Slaves.{Registers, Datagram, Found}
-use Rattle.state_model.specs.Promises.{IsTable}
-use Rattle.state_model.specs.States.{Table, Phase, Hand, Event, reads, run, carry}
-use Rattle.state_model.specs.Accounts.{Duty, Stage, Pick, phase_access}
+use Rattle.plan_ring.specs.of_segment_model.Record.{is_for}
+use Rattle.plan_ring.specs.of_segment_model.Slaves.{Registers, Datagram, Found}
+use Rattle.plan_ring.specs.of_state_model.Promises.{IsTable}
+use Rattle.plan_ring.specs.of_state_model.States.{Table, Phase, Hand, Event, reads, run, carry}
+use Rattle.plan_ring.specs.of_state_model.Accounts.{Duty, Stage, Pick, phase_access}
 use Rattle.idle_slaves.specs.Phases.{IsSeen, Rests, idle_states}
 
 -- a state service in this phase and its slave's registers are come to by events of state services, whatever was lost

@@ -1,15 +1,15 @@
 -- A WRITE IN VAIN, and what may come into hand behind it.
 use Rattle.std.specs.Prelude.{◌≡◌, ◌≤◌, ℕ, true, Bool, Some, None, List}
-use Rattle.slave_model.specs.Moments.{IsFree, HeldStill}
-use Rattle.exchange_model.specs.Exchange.{Speech}
+use Rattle.plan_ring.specs.of_slave_model.Moments.{IsFree, HeldStill}
+use Rattle.plan_ring.specs.of_exchange_model.Exchange.{Speech}
 use Rattle.idle_slaves.specs.Waiting.{Memory}
-use Rattle.life_model.specs.Lives.{Era, Life, era_next}
+use Rattle.plan_ring.specs.of_life_model.Lives.{Era, Life, era_next}
 use Rattle.plan_ring.specs.Alike.{WishIs}
-use Rattle.life_model.specs.Own.{own}
+use Rattle.plan_ring.specs.of_life_model.Own.{own}
 use Rattle.plan_ring.specs.of_run_frames.Waits.{Waits}
-use Rattle.segment_model.specs.Slaves.{Datagram}
-use Rattle.state_model.specs.Stated.{Service}
-use Rattle.state_model.specs.Accounts.{Pick, starts}
+use Rattle.plan_ring.specs.of_segment_model.Slaves.{Datagram}
+use Rattle.plan_ring.specs.of_state_model.Stated.{Service}
+use Rattle.plan_ring.specs.of_state_model.Accounts.{Pick, starts}
 
 -- BEHIND A WRITE IN VAIN behind a step, with nothing gained since: where a state service might begin, none is left
 abbrev pub HeldUp : {M Q R : Type 0} → Speech M Q R → (Q → Bool) → Type 0 → Life M Q R → Memory → Waits → Type 0

@@ -1,12 +1,12 @@
 -- THE LINK OF AN OPEN EPOCH: the master's halves and the slave's mailboxes, with the mails that went between them.
 use Rattle.std.specs.Prelude.{◌≡◌, Some}
-use Rattle.exchange_model.specs.Rows.{Row}
-use Rattle.link_model.specs.Agree.{Agrees}
-use Rattle.link_model.specs.Link.{Link}
-use Rattle.link_model.specs.Mails.{LinkMail}
-use Rattle.link_model.specs.Master.{InState}
-use Rattle.segment_model.specs.Seats.{Side}
-use Rattle.segment_model.specs.Slaves.{Serving, Slave}
+use Rattle.plan_ring.specs.of_exchange_model.Rows.{Row}
+use Rattle.plan_ring.specs.of_link_model.Agree.{Agrees}
+use Rattle.plan_ring.specs.of_link_model.Link.{Link}
+use Rattle.plan_ring.specs.of_link_model.Mails.{LinkMail}
+use Rattle.plan_ring.specs.of_link_model.Master.{InState}
+use Rattle.plan_ring.specs.of_segment_model.Seats.{Side}
+use Rattle.plan_ring.specs.of_segment_model.Slaves.{Serving, Slave}
 
 -- some mails that were held, taken, offered and accepted agree with both; and with nothing in doubt a mail stands in mailbox 1 only where a service by mails
 -- has come into hand

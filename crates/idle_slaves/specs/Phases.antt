@@ -1,9 +1,9 @@
 -- A STATE SERVICE PAST ITS DRAIN, and the registers of its slave: behind a step the status that it awaits stands.
 use Rattle.std.specs.Prelude.{◌≡◌, ◌⊎◌, ℕ, suc, ◌≤◌, Bool, true, false, Option, Some, None, [], ⊤}
-use Rattle.life_model.specs.Gains.{phase_gains, progress_gains}
-use Rattle.segment_model.specs.Slaves.{Registers}
-use Rattle.state_model.specs.States.{States, Phase, Hand, reads, phase_written, shown}
-use Rattle.state_model.specs.Accounts.{turn_progress}
+use Rattle.plan_ring.specs.of_life_model.Gains.{phase_gains, progress_gains}
+use Rattle.plan_ring.specs.of_segment_model.Slaves.{Registers}
+use Rattle.plan_ring.specs.of_state_model.States.{States, Phase, Hand, reads, phase_written, shown}
+use Rattle.plan_ring.specs.of_state_model.Accounts.{turn_progress}
 
 -- THE STATUS THAT TAKES IT ON STANDS: its target or an error flag; or that flag is gone
 abbrev pub IsSeen : ℕ → Phase → Registers → Type 0

@@ -1,14 +1,14 @@
 -- THE SLAVES OF A RING, by a frame that came back and gained nothing.
 use Rattle.std.specs.Prelude.{◌≡◌, ◌⊎◌, ℕ, Bool, List, [], ◌∷◌, ⊤}
-use Rattle.exchange_model.specs.Exchange.{Speech}
-use Rattle.life_model.specs.Lives.{Life, Spot, Stand, life_next}
-use Rattle.link_model.specs.Slave.{Node, Server}
+use Rattle.plan_ring.specs.of_exchange_model.Exchange.{Speech}
+use Rattle.plan_ring.specs.of_life_model.Lives.{Life, Spot, Stand, life_next}
+use Rattle.plan_ring.specs.of_link_model.Slave.{Node, Server}
 use Rattle.plan_ring.specs.of_run_frames.Clocks.{Clocked}
 use Rattle.plan_ring.specs.of_run_frames.Goes.{Under, back_life}
 use Rattle.plan_ring.specs.of_run_frames.Waits.{Waits, waits_on}
-use Rattle.segment_model.specs.Slaves.{Datagram, Registers}
-use Rattle.state_model.specs.States.{Table}
-use Rattle.state_model.specs.Accounts.{Pick}
+use Rattle.plan_ring.specs.of_segment_model.Slaves.{Datagram, Registers}
+use Rattle.plan_ring.specs.of_state_model.States.{Table}
+use Rattle.plan_ring.specs.of_state_model.Accounts.{Pick}
 use Rattle.idle_slaves.specs.Frames.{InVain, node_on, memory_on}
 use Rattle.idle_slaves.specs.Going.{Going, AccessVain, registers_on}
 use Rattle.idle_slaves.specs.Visited.{Waiting, LifeSpent}

@@ -1,10 +1,10 @@
 -- THE FRAMES OF A RUN THAT GAINED NOTHING, slave by slave.
 use Rattle.std.specs.Prelude.{◌≡◌, ℕ, suc, Option, List, ⊤}
-use Rattle.frame_view.specs.Seen.{seen}
-use Rattle.frame_view.specs.View.{Lens}
+use Rattle.plan_ring.specs.of_frame_view.Seen.{seen}
+use Rattle.plan_ring.specs.of_frame_view.View.{Lens}
 use Rattle.plan_ring.specs.of_life_runs.Led.{Exchanged, Leads, Turn, speech_at, is_passed}
-use Rattle.link_mails.specs.Body.{Body}
-use Rattle.master_duty.specs.Reply.{Reply}
+use Rattle.plan_ring.specs.of_link_mails.Body.{Body}
+use Rattle.plan_ring.specs.of_master_duty.Reply.{Reply}
 use Rattle.plan_ring.specs.of_master_hand.Spoken.{Asked, acknowledged, is_followed}
 use Rattle.plan_ring.specs.of_run_frames.Clocks.{Clocked}
 use Rattle.plan_ring.specs.of_run_frames.Led.{unders, still_led}

@@ -1,22 +1,22 @@
 -- HOW A SLAVE STANDS while frames come back and gain nothing.
 use Rattle.std.specs.Prelude.{◌≡◌, ◌≤◌, Bool, true, false, Option, None}
-use Rattle.exchange_model.specs.Exchange.{Speech}
+use Rattle.plan_ring.specs.of_exchange_model.Exchange.{Speech}
 use Rattle.idle_slaves.specs.Held.{HeldUp}
 use Rattle.idle_slaves.specs.Going.{Going}
 use Rattle.idle_slaves.specs.Visited.{Shows, Waiting, LifeSpent}
 use Rattle.idle_slaves.specs.Waiting.{Wanted, Memory}
-use Rattle.life_model.specs.Lives.{Life, Stand}
-use Rattle.link_mails.specs.Body.{Body}
-use Rattle.link_model.specs.Agree.{Agrees}
-use Rattle.link_model.specs.Link.{Link}
-use Rattle.link_model.specs.Master.{InState}
-use Rattle.link_model.specs.Slave.{Node, Server, processor_step}
-use Rattle.master_duty.specs.Reply.{Reply}
+use Rattle.plan_ring.specs.of_life_model.Lives.{Life, Stand}
+use Rattle.plan_ring.specs.of_link_mails.Body.{Body}
+use Rattle.plan_ring.specs.of_link_model.Agree.{Agrees}
+use Rattle.plan_ring.specs.of_link_model.Link.{Link}
+use Rattle.plan_ring.specs.of_link_model.Master.{InState}
+use Rattle.plan_ring.specs.of_link_model.Slave.{Node, Server, processor_step}
+use Rattle.plan_ring.specs.of_master_duty.Reply.{Reply}
 use Rattle.plan_ring.specs.of_master_hand.Spoken.{Asked}
 use Rattle.plan_ring.specs.of_run_frames.Waits.{Waits}
-use Rattle.segment_model.specs.Slaves.{Serving, Slave}
-use Rattle.segment_plan.specs.declared.service.Service as Plan
-use Rattle.state_model.specs.States.{Table}
+use Rattle.plan_ring.specs.of_segment_model.Slaves.{Serving, Slave}
+use Rattle.plan_ring.specs.of_segment_plan.declared.service.Service as Plan
+use Rattle.plan_ring.specs.of_state_model.States.{Table}
 use Rattle.idle_slaves.specs.Eager.{Remembered, NoneLeft, IsAtEnd}
 
 -- steps of a slave's processor, and whether it made one

@@ -1,10 +1,10 @@
 -- A STEP OF A SLAVE'S PROCESSOR while no state service is past its drain.
 use Rattle.std.specs.Prelude.{◌≡◌, Option, Some, None, ⊤}
-use Rattle.exchange_model.specs.Exchange.{Exchange}
-use Rattle.link_model.specs.Slave.{processor_step}
-use Rattle.segment_model.specs.Slaves.{Processor, Slave, serving, slave_steps}
-use Rattle.state_model.specs.States.{Table, carry}
-use Rattle.state_model.specs.Accounts.{Duty, Stage}
+use Rattle.plan_ring.specs.of_exchange_model.Exchange.{Exchange}
+use Rattle.plan_ring.specs.of_link_model.Slave.{processor_step}
+use Rattle.plan_ring.specs.of_segment_model.Slaves.{Processor, Slave, serving, slave_steps}
+use Rattle.plan_ring.specs.of_state_model.States.{Table, carry}
+use Rattle.plan_ring.specs.of_state_model.Accounts.{Duty, Stage}
 
 -- a stage of a state service that isn't past its drain
 abbrev pub Drains : Stage → Type 0

@@ -1,21 +1,21 @@
 -- ONE VISIT OF AN OPEN SLAVE, by its master's life of it: what came into hand with it, and what its datagram brought.
 use Rattle.std.specs.Prelude.{◌≡◌, ◌⊎◌, ◌==◌, ◌≤◌, ℕ, is_some, Bool, true, false, if◌then◌else◌, Option, Some, None, List, [], ◌∷◌, ⊤}
-use Rattle.exchange_model.specs.Rows.{Row}
-use Rattle.life_model.specs.Visits.{Visit, mails_visit, drain_visit}
-use Rattle.life_model.specs.Lives.{Life, Stand}
-use Rattle.life_model.specs.Own.{own}
-use Rattle.link_model.specs.Frames.{Ask, mail_back}
-use Rattle.link_model.specs.Link.{Halves, Link, write_counter}
-use Rattle.link_model.specs.Mails.{LinkMail}
-use Rattle.link_model.specs.Master.{InState}
-use Rattle.link_model.specs.Slave.{Node, Server}
+use Rattle.plan_ring.specs.of_exchange_model.Rows.{Row}
+use Rattle.plan_ring.specs.of_life_model.Visits.{Visit, mails_visit, drain_visit}
+use Rattle.plan_ring.specs.of_life_model.Lives.{Life, Stand}
+use Rattle.plan_ring.specs.of_life_model.Own.{own}
+use Rattle.plan_ring.specs.of_link_model.Frames.{Ask, mail_back}
+use Rattle.plan_ring.specs.of_link_model.Link.{Halves, Link, write_counter}
+use Rattle.plan_ring.specs.of_link_model.Mails.{LinkMail}
+use Rattle.plan_ring.specs.of_link_model.Master.{InState}
+use Rattle.plan_ring.specs.of_link_model.Slave.{Node, Server}
 use Rattle.plan_ring.specs.of_run_frames.Waits.{Waits}
-use Rattle.segment_model.specs.Ends.{Passing}
-use Rattle.segment_model.specs.Record.{News, is_for}
-use Rattle.segment_model.specs.Laws.{IsSettled}
-use Rattle.segment_model.specs.Slaves.{Datagram, Access, Found, Slave}
-use Rattle.state_model.specs.Stated.{Service}
-use Rattle.state_model.specs.Accounts.{Duty, Pick, Stage}
+use Rattle.plan_ring.specs.of_segment_model.Ends.{Passing}
+use Rattle.plan_ring.specs.of_segment_model.Record.{News, is_for}
+use Rattle.plan_ring.specs.of_segment_model.Laws.{IsSettled}
+use Rattle.plan_ring.specs.of_segment_model.Slaves.{Datagram, Access, Found, Slave}
+use Rattle.plan_ring.specs.of_state_model.Stated.{Service}
+use Rattle.plan_ring.specs.of_state_model.Accounts.{Duty, Pick, Stage}
 use Rattle.idle_slaves.specs.Waiting.{Wanted, Memory, Coming, MayCome, IsWaiting, IsSpent, link_by, wanted_by, memory_by}
 
 -- mailbox 0 has taken the mail that is passed on

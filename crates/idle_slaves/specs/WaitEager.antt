@@ -1,15 +1,15 @@
 -- A RUN WHOSE MASTER MAKES NO VISIT IN VAIN where more could go on, and no frame where all is done.
 use Rattle.std.specs.Prelude.{◌≡◌, ◌⊎◌, ℕ, suc, Option, None, List, [], ◌∷◌, slice_get, ⊤}
 use Rattle.idle_slaves.specs.Eager.{Remembered, IsClear, MayBegin, IsAtEnd, AllEager, AllRemember, AllGetNone}
-use Rattle.frame_view.specs.Seen.{seen}
-use Rattle.frame_view.specs.View.{Lens}
-use Rattle.life_model.specs.Lives.{Stand}
-use Rattle.life_model.specs.Own.{own}
+use Rattle.plan_ring.specs.of_frame_view.Seen.{seen}
+use Rattle.plan_ring.specs.of_frame_view.View.{Lens}
+use Rattle.plan_ring.specs.of_life_model.Lives.{Stand}
+use Rattle.plan_ring.specs.of_life_model.Own.{own}
 use Rattle.plan_ring.specs.of_life_runs.First.{lens_of, first_leads}
 use Rattle.plan_ring.specs.of_life_runs.Led.{Exchanged, Leads, Turn, speech_at}
-use Rattle.link_mails.specs.Body.{Body}
-use Rattle.link_model.specs.Frames.{all_accepted}
-use Rattle.master_duty.specs.Reply.{Reply}
+use Rattle.plan_ring.specs.of_link_mails.Body.{Body}
+use Rattle.plan_ring.specs.of_link_model.Frames.{all_accepted}
+use Rattle.plan_ring.specs.of_master_duty.Reply.{Reply}
 use Rattle.plan_ring.specs.of_master_hand.Spoken.{Asked}
 use Rattle.plan_ring.specs.PlanMet.{slave_at}
 use Rattle.plan_ring.specs.Round.{ring_of, ring_after}
@@ -17,12 +17,12 @@ use Rattle.plan_ring.specs.of_run_frames.Clocks.{Clocked}
 use Rattle.plan_ring.specs.of_run_frames.Led.{still_led}
 use Rattle.plan_ring.specs.of_run_frames.Runs.{Progress}
 use Rattle.plan_ring.specs.of_run_frames.Toured.{IsToured}
-use Rattle.segment_model.specs.Laws.{IsSettled}
-use Rattle.segment_model.specs.Slaves.{Datagram, grams}
-use Rattle.segment_plan.specs.declared.plan.Scenario.{Scenario}
-use Rattle.segment_plan.specs.declared.slave.SlaveSpec.{SlaveSpec}
+use Rattle.plan_ring.specs.of_segment_model.Laws.{IsSettled}
+use Rattle.plan_ring.specs.of_segment_model.Slaves.{Datagram, grams}
+use Rattle.plan_ring.specs.of_segment_plan.declared.plan.Scenario.{Scenario}
+use Rattle.plan_ring.specs.of_segment_plan.declared.slave.SlaveSpec.{SlaveSpec}
 use Rattle.plan_ring.specs.of_slave_server.Serving.{Serving}
-use Rattle.slave_node.specs.Node.{Node}
+use Rattle.plan_ring.specs.of_slave_node.Node.{Node}
 
 -- ALL IS DONE OF A SLAVE: it is open with nothing in doubt, no mail is held, a service might begin but its script is at its end, no packet waits at its port,
 -- and the slave is settled, without a control word that waits

@@ -1,12 +1,12 @@
 -- AN OPEN SLAVE WITH NOTHING IN DOUBT, since something was gained last: what its visits asked in vain, and the steps that its processor made.
 use Rattle.std.specs.Prelude.{◌≡◌, ◌≤◌, suc, is_some, Bool, true, false, if◌then◌else◌, Option, None, ⊤}
-use Rattle.life_model.specs.Visits.{Visit, mails_visit, drain_visit, visit_gain, visited}
-use Rattle.link_model.specs.Agree.{Agrees}
-use Rattle.link_model.specs.Gains.{NothingLeft}
-use Rattle.link_model.specs.Link.{Link, Event, happens}
-use Rattle.link_model.specs.Mails.{LinkMail}
-use Rattle.link_model.specs.Master.{InState}
-use Rattle.link_model.specs.Slave.{Server}
+use Rattle.plan_ring.specs.of_life_model.Visits.{Visit, mails_visit, drain_visit, visit_gain, visited}
+use Rattle.plan_ring.specs.of_link_model.Agree.{Agrees}
+use Rattle.plan_ring.specs.of_link_model.Gains.{NothingLeft}
+use Rattle.plan_ring.specs.of_link_model.Link.{Link, Event, happens}
+use Rattle.plan_ring.specs.of_link_model.Mails.{LinkMail}
+use Rattle.plan_ring.specs.of_link_model.Master.{InState}
+use Rattle.plan_ring.specs.of_link_model.Slave.{Server}
 use Rattle.plan_ring.specs.of_run_frames.Waits.{Waits, new_waits}
 
 -- what its visits are for: mails are written and heard, or mailbox 0 is to be seen empty

@@ -2,10 +2,12 @@
 //! contract states the law.
 
 ghost use Rattle.std.specs.Prelude.{ℕ, Bool};
-ghost use Rattle.plan_ring.specs.of_life_runs.of_frame_view.View.{Lens};
-ghost use Rattle.slave_model.specs.Waits.{NeverWaits};
+ghost use Rattle.plan_ring.specs.of_frame_view.View.{Lens};
+ghost use Rattle.plan_ring.specs.of_slave_model.Waits.{NeverWaits};
 ghost use Rattle.plan_ring.specs.Asked.{asked};
-ghost use Rattle.slave_parts.specs.of_slave_model.Profile.{Profile, IsProfile};
+ghost use Rattle.plan_ring.specs.of_slave_model.Profile.{Profile, IsProfile};
+
+use plan_ring::slave_parts;
 
 /// A SLAVE OF A PLAN, with the services that its master asks for, never has a client that waits in vain.
 pub fn asked_waits_law()

@@ -5,18 +5,18 @@ ghost use Rattle.std.specs.Prelude.{◌≡◌, ℕ, Bool, List, Option};
 ghost use Rattle.idle_slaves.specs.Eager.{Remembered};
 ghost use Rattle.idle_slaves.specs.EagerFrames.{FrameAs, EagerAs, StandsOn};
 ghost use Rattle.idle_slaves.specs.Standing.{Standing};
-ghost use Rattle.exchange_model.specs.Exchange.{Exchange, Speech};
-ghost use Rattle.life_model.specs.Lives.{Spot, Stand};
-ghost use Rattle.link_mails.specs.Body.{Body};
-ghost use Rattle.master_duty.specs.Reply.{Reply};
+ghost use Rattle.plan_ring.specs.of_exchange_model.Exchange.{Exchange, Speech};
+ghost use Rattle.plan_ring.specs.of_life_model.Lives.{Spot, Stand};
+ghost use Rattle.plan_ring.specs.of_link_mails.Body.{Body};
+ghost use Rattle.plan_ring.specs.of_master_duty.Reply.{Reply};
 ghost use Rattle.plan_ring.specs.of_master_hand.Spoken.{Asked};
 ghost use Rattle.plan_ring.specs.of_run_frames.Clocks.{Clocked};
 ghost use Rattle.plan_ring.specs.of_run_frames.Goes.{Under};
 ghost use Rattle.plan_ring.specs.of_run_frames.Waits.{Waits};
-ghost use Rattle.segment_model.specs.Slaves.{Datagram, Processor, Slave, serving};
-ghost use Rattle.segment_plan.specs.declared.service.Service as Plan;
-ghost use Rattle.state_model.specs.Stated.{Service};
-ghost use Rattle.state_model.specs.States.{Table};
+ghost use Rattle.plan_ring.specs.of_segment_model.Slaves.{Datagram, Processor, Slave, serving};
+ghost use Rattle.plan_ring.specs.of_segment_plan.declared.service.Service as Plan;
+ghost use Rattle.plan_ring.specs.of_state_model.Stated.{Service};
+ghost use Rattle.plan_ring.specs.of_state_model.States.{Table};
 
 /// AN OPEN SLAVE STANDS SO by each frame that came back and gained nothing of it, where its master makes no visit in vain if more could go on: visited less than
 /// twice behind a step since something was gained, it waits yet; else all was done of it before the frame.

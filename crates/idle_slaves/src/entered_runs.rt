@@ -5,13 +5,13 @@ ghost use Rattle.std.specs.Prelude.{ℕ, List, Option};
 ghost use Rattle.idle_slaves.specs.Eager.{Remembered};
 ghost use Rattle.plan_ring.specs.of_life_runs.First.{lens_of, first_leads};
 ghost use Rattle.plan_ring.specs.of_life_runs.Led.{Exchanged, Leads};
-ghost use Rattle.link_mails.specs.Body.{Body};
-ghost use Rattle.master_duty.specs.Reply.{Reply};
+ghost use Rattle.plan_ring.specs.of_link_mails.Body.{Body};
+ghost use Rattle.plan_ring.specs.of_master_duty.Reply.{Reply};
 ghost use Rattle.plan_ring.specs.of_master_hand.Spoken.{Asked};
 ghost use Rattle.plan_ring.specs.of_run_frames.Clocks.{Clocked};
 ghost use Rattle.plan_ring.specs.of_run_frames.Runs.{Progress};
 ghost use Rattle.plan_ring.specs.of_run_frames.Toured.{IsToured};
-ghost use Rattle.segment_plan.specs.declared.plan.Scenario.{Scenario};
+ghost use Rattle.plan_ring.specs.of_segment_plan.declared.plan.Scenario.{Scenario};
 ghost use Rattle.idle_slaves.specs.Entered.{EagerBut, Entered};
 
 /// OF A RUN WITH KNOWN FRAMES OF THE HOST those of them that gained nothing count as lost: each other frame that gained nothing is one that its master made with

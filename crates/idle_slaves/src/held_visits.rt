@@ -2,25 +2,25 @@
 //! laws, no running code: the functions here do nothing, and their contracts state the laws.
 
 ghost use Rattle.std.specs.Prelude.{◌≡◌, ℕ, Bool, Option, Some, None, List};
-ghost use Rattle.slave_model.specs.Moments.{IsFree, HeldStill, NoneLeft, NowAnswered};
-ghost use Rattle.exchange_model.specs.Exchange.{Exchange, Speech, IsLawful};
+ghost use Rattle.plan_ring.specs.of_slave_model.Moments.{IsFree, HeldStill, NoneLeft, NowAnswered};
+ghost use Rattle.plan_ring.specs.of_exchange_model.Exchange.{Exchange, Speech, IsLawful};
 ghost use Rattle.idle_slaves.specs.Held.{HeldUp, EndsHeld, Took};
 ghost use Rattle.idle_slaves.specs.Visited.{Chosen, CameBack, HasRow, IsStill, IsUnpaused, LifeSpent, life_visit, memory_of};
 ghost use Rattle.idle_slaves.specs.Waiting.{Memory, memory_behind, tried};
-ghost use Rattle.life_model.specs.Gains.{gains};
-ghost use Rattle.life_model.specs.Eras.{EraIs};
-ghost use Rattle.life_model.specs.Lives.{Life, Era, Spot, Stand, life_back, era_next};
-ghost use Rattle.link_model.specs.Slave.{Node, Server};
+ghost use Rattle.plan_ring.specs.of_life_model.Gains.{gains};
+ghost use Rattle.plan_ring.specs.of_life_model.Eras.{EraIs};
+ghost use Rattle.plan_ring.specs.of_life_model.Lives.{Life, Era, Spot, Stand, life_back, era_next};
+ghost use Rattle.plan_ring.specs.of_link_model.Slave.{Node, Server};
 ghost use Rattle.plan_ring.specs.Alike.{Alike, RowIs};
 ghost use Rattle.plan_ring.specs.of_slave_model.Waits.{NeverWaits};
 ghost use Rattle.plan_ring.specs.of_run_frames.Waits.{Waits};
-ghost use Rattle.segment_model.specs.Record.{Frame, News};
-ghost use Rattle.segment_model.specs.Seats.{side_back};
-ghost use Rattle.life_model.specs.Own.{own};
-ghost use Rattle.segment_model.specs.Slaves.{Datagram, Found, Processor, Registers, Slave, serving};
-ghost use Rattle.state_model.specs.Stated.{Stated, IsStated, Service};
-ghost use Rattle.state_model.specs.States.{Table};
-ghost use Rattle.state_model.specs.Accounts.{Pick, starts};
+ghost use Rattle.plan_ring.specs.of_segment_model.Record.{Frame, News};
+ghost use Rattle.plan_ring.specs.of_segment_model.Seats.{side_back};
+ghost use Rattle.plan_ring.specs.of_life_model.Own.{own};
+ghost use Rattle.plan_ring.specs.of_segment_model.Slaves.{Datagram, Found, Processor, Registers, Slave, serving};
+ghost use Rattle.plan_ring.specs.of_state_model.Stated.{Stated, IsStated, Service};
+ghost use Rattle.plan_ring.specs.of_state_model.States.{Table};
+ghost use Rattle.plan_ring.specs.of_state_model.Accounts.{Pick, starts};
 
 /// WHERE A STATE SERVICE MIGHT BEGIN BEHIND A WRITE IN VAIN none is left, if so it is where it might at that write: visit by visit in vain. So none comes into
 /// hand behind such a write with nothing gained since.

@@ -2,10 +2,10 @@
 //! contracts state the laws.
 #![tactic(auto)]
 
-ghost use Rattle.exchange_model.specs.Exchange.{Exchange, Speech, IsLawful, given, plain};
-ghost use Rattle.exchange_model.specs.Laws.{Moment};
-ghost use Rattle.exchange_model.specs.Rows.{Row, answer_after, left};
-ghost use Rattle.frame_view.specs.View.{Lens};
+ghost use Rattle.plan_ring.specs.of_exchange_model.Exchange.{Exchange, Speech, IsLawful, given, plain};
+ghost use Rattle.plan_ring.specs.of_exchange_model.Laws.{Moment};
+ghost use Rattle.plan_ring.specs.of_exchange_model.Rows.{Row, answer_after, left};
+ghost use Rattle.plan_ring.specs.of_frame_view.View.{Lens};
 ghost use Rattle.idle_slaves.specs.Frames.{InVain, node_on, memory_on};
 ghost use Rattle.idle_slaves.specs.Going.{Going, AccessVain, registers_on};
 ghost use Rattle.idle_slaves.specs.Links.{HasLink};
@@ -15,32 +15,32 @@ ghost use Rattle.idle_slaves.specs.Rows.{NeverWaits};
 ghost use Rattle.idle_slaves.specs.Runs.{VainIn};
 ghost use Rattle.idle_slaves.specs.Visited.{Waiting, Shows, Chosen, CameBack, HasRow, IsStill, IsUnpaused, LifeSpent, IsLeft, life_visit, memory_of};
 ghost use Rattle.idle_slaves.specs.Waiting.{Wanted, Memory, Coming, MayCome, IsVain, IsWaiting, IsSpent, IsIdle, memory_behind, tried};
-ghost use Rattle.life_model.specs.Gains.{gains};
-ghost use Rattle.life_model.specs.Repairs.{way_of};
-ghost use Rattle.life_model.specs.Eras.{EraIs};
-ghost use Rattle.life_model.specs.Lives.{Life, Spot, Era, life_next, life_back};
-ghost use Rattle.life_model.specs.Own.{own};
+ghost use Rattle.plan_ring.specs.of_life_model.Gains.{gains};
+ghost use Rattle.plan_ring.specs.of_life_model.Repairs.{way_of};
+ghost use Rattle.plan_ring.specs.of_life_model.Eras.{EraIs};
+ghost use Rattle.plan_ring.specs.of_life_model.Lives.{Life, Spot, Era, life_next, life_back};
+ghost use Rattle.plan_ring.specs.of_life_model.Own.{own};
 ghost use Rattle.plan_ring.specs.of_life_runs.Led.{Exchanged, Leads};
-ghost use Rattle.link_mails.specs.Body.{Body};
-ghost use Rattle.link_model.specs.Agree.{Agrees};
-ghost use Rattle.link_model.specs.Frames.{node_meets};
-ghost use Rattle.link_model.specs.Link.{Link};
-ghost use Rattle.link_model.specs.Slave.{Node, Server, processor_step};
-ghost use Rattle.master_duty.specs.Reply.{Reply};
+ghost use Rattle.plan_ring.specs.of_link_mails.Body.{Body};
+ghost use Rattle.plan_ring.specs.of_link_model.Agree.{Agrees};
+ghost use Rattle.plan_ring.specs.of_link_model.Frames.{node_meets};
+ghost use Rattle.plan_ring.specs.of_link_model.Link.{Link};
+ghost use Rattle.plan_ring.specs.of_link_model.Slave.{Node, Server, processor_step};
+ghost use Rattle.plan_ring.specs.of_master_duty.Reply.{Reply};
 ghost use Rattle.plan_ring.specs.of_master_hand.Spoken.{Asked};
 ghost use Rattle.plan_ring.specs.of_run_frames.Clocks.{Clocked};
 ghost use Rattle.plan_ring.specs.of_run_frames.Goes.{Under, back_life, all_back};
 ghost use Rattle.plan_ring.specs.of_run_frames.Runs.{Progress};
 ghost use Rattle.plan_ring.specs.of_run_frames.Toured.{IsToured, WaitIn};
 ghost use Rattle.plan_ring.specs.of_run_frames.Waits.{Waits, new_waits, waits_on, all_on, SomeWaits};
-ghost use Rattle.segment_model.specs.Record.{Frame, News};
-ghost use Rattle.segment_model.specs.Seats.{is_over};
-ghost use Rattle.segment_model.specs.Slaves.{Processor, Slave, serving, Datagram, Found, Registers};
-ghost use Rattle.state_model.specs.Stated.{Stated, IsStated};
-ghost use Rattle.state_model.specs.Promises.{IsTable};
-ghost use Rattle.state_model.specs.States.{Table, Phase, Event, run, carry};
+ghost use Rattle.plan_ring.specs.of_segment_model.Record.{Frame, News};
+ghost use Rattle.plan_ring.specs.of_segment_model.Seats.{is_over};
+ghost use Rattle.plan_ring.specs.of_segment_model.Slaves.{Processor, Slave, serving, Datagram, Found, Registers};
+ghost use Rattle.plan_ring.specs.of_state_model.Stated.{Stated, IsStated};
+ghost use Rattle.plan_ring.specs.of_state_model.Promises.{IsTable};
+ghost use Rattle.plan_ring.specs.of_state_model.States.{Table, Phase, Event, run, carry};
 ghost use Rattle.std.specs.Prelude.{◌≡◌, ◌≤◌, ◌⊎◌, ℕ, true, false, Bool, Option, None, List, []};
-ghost use Rattle.state_model.specs.Accounts.{Pick};
+ghost use Rattle.plan_ring.specs.of_state_model.Accounts.{Pick};
 
 pub mod asked_waits;
 pub mod eager_slaves;
@@ -48,6 +48,8 @@ pub mod entered_runs;
 pub mod held_visits;
 pub mod states_come;
 pub mod wait_runs;
+
+pub use plan_ring::{frame_view, scenario, slave_parts};
 
 /// A SLAVE THAT WAS VISITED TWICE IN VAIN behind a step of its processor, since something was gained last, is spent: no mail is held for it, both mailboxes
 /// are empty, it has nothing to offer, and no state service drains.

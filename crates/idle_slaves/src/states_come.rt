@@ -2,15 +2,15 @@
 //! and its contract states the laws.
 
 ghost use Rattle.std.specs.Prelude.{◌≡◌, ℕ, List, Option, Some};
-ghost use Rattle.exchange_model.specs.Exchange.{Exchange, IsLawful};
+ghost use Rattle.plan_ring.specs.of_exchange_model.Exchange.{Exchange, IsLawful};
 ghost use Rattle.idle_slaves.specs.Going.{IsCome};
-ghost use Rattle.life_model.specs.Eras.{EraIs};
-ghost use Rattle.life_model.specs.Lives.{Spot, Era};
-ghost use Rattle.segment_model.specs.Record.{Frame};
-ghost use Rattle.segment_model.specs.Slaves.{Processor, Registers, Slave};
-ghost use Rattle.state_model.specs.Stated.{Stated, IsStated};
-ghost use Rattle.state_model.specs.States.{Table, Phase};
-ghost use Rattle.state_model.specs.Accounts.{Duty, Stage};
+ghost use Rattle.plan_ring.specs.of_life_model.Eras.{EraIs};
+ghost use Rattle.plan_ring.specs.of_life_model.Lives.{Spot, Era};
+ghost use Rattle.plan_ring.specs.of_segment_model.Record.{Frame};
+ghost use Rattle.plan_ring.specs.of_segment_model.Slaves.{Processor, Registers, Slave};
+ghost use Rattle.plan_ring.specs.of_state_model.Stated.{Stated, IsStated};
+ghost use Rattle.plan_ring.specs.of_state_model.States.{Table, Phase};
+ghost use Rattle.plan_ring.specs.of_state_model.Accounts.{Duty, Stage};
 ghost use Rattle.idle_slaves.specs.Steps.{NotGone, StepsAlone};
 
 /// OF AN OPEN EPOCH a state service past its drain and its slave's registers are come to by events of state services; and while none is past its drain, a

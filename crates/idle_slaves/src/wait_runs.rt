@@ -5,18 +5,20 @@ ghost use Rattle.std.specs.Prelude.{ℕ, List, Option};
 ghost use Rattle.idle_slaves.specs.Eager.{Remembered};
 ghost use Rattle.plan_ring.specs.of_life_runs.First.{lens_of, first_leads};
 ghost use Rattle.plan_ring.specs.of_life_runs.Led.{Exchanged, Leads};
-ghost use Rattle.link_mails.specs.Body.{Body};
-ghost use Rattle.master_duty.specs.Reply.{Reply};
+ghost use Rattle.plan_ring.specs.of_link_mails.Body.{Body};
+ghost use Rattle.plan_ring.specs.of_master_duty.Reply.{Reply};
 ghost use Rattle.plan_ring.specs.of_master_hand.Spoken.{Asked};
 ghost use Rattle.plan_ring.specs.Lives.{IsKnown};
 ghost use Rattle.plan_ring.specs.Round.{ring_of, AllRound};
 ghost use Rattle.plan_ring.specs.of_run_frames.Clocks.{Clocked};
 ghost use Rattle.plan_ring.specs.of_run_frames.Runs.{Progress};
 ghost use Rattle.plan_ring.specs.of_run_frames.Toured.{IsToured, WaitIn};
-ghost use Rattle.segment_plan.specs.Bound.{slowest};
-ghost use Rattle.segment_plan.specs.Sound.{IsPlan};
-ghost use Rattle.segment_plan.specs.declared.plan.Scenario.{Scenario};
+ghost use Rattle.plan_ring.specs.of_segment_plan.Bound.{slowest};
+ghost use Rattle.plan_ring.specs.of_segment_plan.Sound.{IsPlan};
+ghost use Rattle.plan_ring.specs.of_segment_plan.declared.plan.Scenario.{Scenario};
 ghost use Rattle.idle_slaves.specs.WaitEager.{EagerIn};
+
+use plan_ring::frame_view;
 
 /// SOME SLAVE OF A PLAN'S RUN WAITS YET behind each frame that came back and gained nothing, with nothing to repair and no packet of the host: where its master
 /// makes no visit in vain if more could go on, and no frame if all is done.

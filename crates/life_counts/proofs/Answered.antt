@@ -2,17 +2,17 @@
 use Rattle.std.proofs.Common.{◌≡◌, ℕ, suc, ◌&&◌, Bool, true, false, not, is_none, is_some, Option, None, Some, option_map, List, [], ◌∷◌, length, refl, ap, ap₂, sym, ◌∙◌, subst, arith, length-append, if◌then◌else◌}
 use Rattle.std.specs.Prelude.{nat_lt}
 use Rattle.std.proofs.lemmas.Bool.Decides.{nat_tests}
-use Rattle.exchange_model.specs.Exchange.{Exchange, Speech}
-use Rattle.exchange_model.specs.Rows.{Row, row_told, left}
-use Rattle.life_model.specs.Lives.{Era, era_next, granted, passing_begins}
+use Rattle.master_hand.specs.of_exchange_model.Exchange.{Exchange, Speech}
+use Rattle.master_hand.specs.of_exchange_model.Rows.{Row, row_told, left}
+use Rattle.few_replies.specs.of_life_model.Lives.{Era, era_next, granted, passing_begins}
 use Rattle.few_replies.specs.Calm.{calm_tagged}
 use Rattle.few_replies.specs.Erased.{OfRow}
 use Rattle.few_replies.specs.Silent.{is_passed}
-use Rattle.segment_model.specs.Ends.{Passing}
-use Rattle.segment_model.specs.Seats.{Side, is_none_left, side_begins, side_holds, next_mail}
-use Rattle.serving_model.specs.Tagged.{Tagged, Asked}
-use Rattle.state_model.specs.Stated.{Service}
-use Rattle.state_model.specs.Accounts.{Account, Duty, Pick, Started, is_free, is_acknowledged, account_begins, state_begins, starts, mails_begin}
+use Rattle.master_hand.specs.of_segment_model.Ends.{Passing}
+use Rattle.master_hand.specs.of_segment_model.Seats.{Side, is_none_left, side_begins, side_holds, next_mail}
+use Rattle.master_hand.specs.of_serving_model.Tagged.{Tagged, Asked}
+use Rattle.master_hand.specs.of_state_model.Stated.{Service}
+use Rattle.master_hand.specs.of_state_model.Accounts.{Account, Duty, Pick, Started, is_free, is_acknowledged, account_begins, state_begins, starts, mails_begin}
 use Rattle.life_counts.proofs.Begins.{both_of, may_begin, may_not, nothing_begins, free_over}
 use Rattle.life_counts.specs.Epochs.{newest_of}
 use Rattle.life_counts.proofs.Marks.{newest_last}

@@ -1,25 +1,25 @@
 -- THE EPOCH BEHIND A FRAME stays the same where it is seen what is meant by mails.
 use Rattle.std.proofs.Common.{◌≡◌, ℕ, ◌==◌, ◌&&◌, Bool, true, false, not, Option, None, Some, List, [], ◌∷◌, ◌++◌, map, refl, ap, ◌∙◌, if◌then◌else◌}
 use Rattle.std.proofs.lemmas.List.{map-append}
-use Rattle.exchange_model.specs.Exchange.{Exchange, Speech}
-use Rattle.life_model.specs.Lives.{Era, era_after, passes}
-use Rattle.life_model.specs.Own.{own}
-use Rattle.link_model.specs.Frames.{all_accepted}
-use Rattle.link_model.specs.Segment.{RingFate}
+use Rattle.master_hand.specs.of_exchange_model.Exchange.{Exchange, Speech}
+use Rattle.few_replies.specs.of_life_model.Lives.{Era, era_after, passes}
+use Rattle.few_replies.specs.of_life_model.Own.{own}
+use Rattle.few_replies.specs.of_link_model.Frames.{all_accepted}
+use Rattle.few_replies.specs.of_link_model.Segment.{RingFate}
 use Rattle.few_replies.specs.Calm.{calm_tagged}
 use Rattle.few_replies.specs.Client.{ByContents}
 use Rattle.few_replies.specs.Erased.{side_seen, all_news_as, OfRow, EndOne}
 use Rattle.few_replies.proofs.Naturals.{back_side, lost_side}
 use Rattle.few_replies.specs.Silent.{is_passed}
-use Rattle.segment_model.specs.Ends.{Outcome, Passing}
-use Rattle.segment_model.specs.Record.{News, is_for, mails_heard}
-use Rattle.segment_model.specs.Seats.{side_back, side_lost}
-use Rattle.segment_model.specs.Slaves.{Datagram, grams}
-use Rattle.serving_model.specs.Erasing.{datagram_as, all_as}
-use Rattle.serving_model.specs.Tagged.{Tagged, Asked}
-use Rattle.serving_model.specs.TaggedStates.{asked_acknowledged}
-use Rattle.state_model.specs.Stated.{Stated}
-use Rattle.state_model.specs.Accounts.{Account, Duty, Change, Progress, account_by, account_met, account_back, access_done}
+use Rattle.master_hand.specs.of_segment_model.Ends.{Outcome, Passing}
+use Rattle.master_hand.specs.of_segment_model.Record.{News, is_for, mails_heard}
+use Rattle.master_hand.specs.of_segment_model.Seats.{side_back, side_lost}
+use Rattle.master_hand.specs.of_segment_model.Slaves.{Datagram, grams}
+use Rattle.master_hand.specs.of_serving_model.Erasing.{datagram_as, all_as}
+use Rattle.master_hand.specs.of_serving_model.Tagged.{Tagged, Asked}
+use Rattle.master_hand.specs.of_serving_model.TaggedStates.{asked_acknowledged}
+use Rattle.master_hand.specs.of_state_model.Stated.{Stated}
+use Rattle.master_hand.specs.of_state_model.Accounts.{Account, Duty, Change, Progress, account_by, account_met, account_back, access_done}
 use Rattle.life_counts.specs.Seen.{outcome_seen, account_seen, era_seen, change_seen}
 use Rattle.life_counts.specs.Spoken.{Naming, Speaks}
 use Rattle.life_counts.proofs.News.{passes_same}

@@ -3,23 +3,23 @@ use Rattle.std.proofs.Common.{◌≡◌, inl, inr, ℕ, ◌&&◌, ◌||◌, Bool
 use Rattle.std.specs.Prelude.{nat_lt}
 use Rattle.std.proofs.lemmas.Bool.Decides.{nat_tests}
 use Rattle.std.proofs.lemmas.List.{map-append, length-map}
-use Rattle.exchange_model.specs.Exchange.{Exchange, Speech, plain}
-use Rattle.exchange_model.specs.Rows.{Row, begun, ends_unheard, row_told}
-use Rattle.life_model.specs.Lives.{Era, era_next, passing_begins}
+use Rattle.master_hand.specs.of_exchange_model.Exchange.{Exchange, Speech, plain}
+use Rattle.master_hand.specs.of_exchange_model.Rows.{Row, begun, ends_unheard, row_told}
+use Rattle.few_replies.specs.of_life_model.Lives.{Era, era_next, passing_begins}
 use Rattle.few_replies.specs.Calm.{calm_tagged}
 use Rattle.few_replies.specs.Client.{ByContents}
 use Rattle.few_replies.specs.Erased.{row_seen, side_seen, OfRow, PlanOne}
 use Rattle.few_replies.proofs.Naturals.{takes_up}
-use Rattle.segment_model.specs.Ends.{Passing}
-use Rattle.segment_model.specs.Seats.{Side, newest, is_over, side_begins, side_next, side_holds, next_mail}
-use Rattle.serving_model.specs.Tagged.{Tagged, Asked, asked_exec, no_reply}
-use Rattle.serving_model.specs.TaggedStates.{asked_acknowledged}
+use Rattle.master_hand.specs.of_segment_model.Ends.{Passing}
+use Rattle.master_hand.specs.of_segment_model.Seats.{Side, newest, is_over, side_begins, side_next, side_holds, next_mail}
+use Rattle.master_hand.specs.of_serving_model.Tagged.{Tagged, Asked, asked_exec, no_reply}
+use Rattle.master_hand.specs.of_serving_model.TaggedStates.{asked_acknowledged}
 use Rattle.few_replies.specs.Silent.{is_passed}
-use Rattle.state_model.specs.Stated.{Stated, Service}
-use Rattle.state_model.specs.Promises.{state_behind}
-use Rattle.state_model.specs.States.{Table}
-use Rattle.state_model.specs.Promise.{services_in}
-use Rattle.state_model.specs.Accounts.{Account, Duty, Pick, Started, is_free, is_acknowledged, account_begins, state_begins, starts, mails_begin}
+use Rattle.master_hand.specs.of_state_model.Stated.{Stated, Service}
+use Rattle.master_hand.specs.of_state_model.Promises.{state_behind}
+use Rattle.master_hand.specs.of_state_model.States.{Table}
+use Rattle.master_hand.specs.of_state_model.Promise.{services_in}
+use Rattle.master_hand.specs.of_state_model.Accounts.{Account, Duty, Pick, Started, is_free, is_acknowledged, account_begins, state_begins, starts, mails_begin}
 use Rattle.life_counts.specs.Seen.{service_seen, account_seen, era_seen, started_seen}
 use Rattle.life_counts.specs.Foreseen.{AllRight, server_behind}
 use Rattle.life_counts.specs.Spoken.{Naming, IsScript, IsPassed, IsNamed, Speaks}
@@ -102,7 +102,7 @@ module _ {V M Q R T : Type 0} (x : Exchange V V M Q R) (calm : V → Bool) (fair
   last_named (Asked.Script q) k = k.last
   last_named (Asked.Passed m answers) k = k.last
 
-  none_box : (box : _) → is_none (Rattle.serving_model.specs.Erasing.box_as mail box) ≡ is_none box
+  none_box : (box : _) → is_none (Rattle.master_hand.specs.of_serving_model.Erasing.box_as mail box) ≡ is_none box
   none_box None = refl
   none_box (Some m) = refl
 

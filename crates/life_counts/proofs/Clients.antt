@@ -1,18 +1,18 @@
 -- A MASTER'S CLIENT, by its names, and the one that sees what is meant by mails: they plan and end a row alike, and it is over for both.
 use Rattle.std.proofs.Common.{◌≡◌, ℕ, ◌&&◌, Bool, true, false, not, is_none, is_some, Option, None, Some, option_map, List, map, refl, ap, ap₂, sym, ◌∙◌, subst, if◌then◌else◌}
 use Rattle.std.specs.Prelude.{⊤}
-use Rattle.exchange_model.specs.Exchange.{Exchange, Speech, plain}
-use Rattle.exchange_model.specs.Rows.{Row, left}
-use Rattle.link_model.specs.Mails.{LinkMail}
+use Rattle.master_hand.specs.of_exchange_model.Exchange.{Exchange, Speech, plain}
+use Rattle.master_hand.specs.of_exchange_model.Rows.{Row, left}
+use Rattle.few_replies.specs.of_link_model.Mails.{LinkMail}
 use Rattle.few_replies.specs.Calm.{calm_tagged}
 use Rattle.few_replies.specs.Client.{ByContents}
 use Rattle.few_replies.specs.Erased.{row_seen, PlanOne, EndOne}
 use Rattle.few_replies.proofs.Clients.{plain_untag, untag_told}
 use Rattle.few_replies.proofs.Naturals.{none_of}
-use Rattle.segment_model.specs.Seats.{is_none_left, is_over}
-use Rattle.serving_model.specs.Erasing.{box_as}
-use Rattle.serving_model.specs.Passing.{ends_told}
-use Rattle.serving_model.specs.Tagged.{Tagged, Asked, untag, is_own, ends_marked}
+use Rattle.master_hand.specs.of_segment_model.Seats.{is_none_left, is_over}
+use Rattle.master_hand.specs.of_serving_model.Erasing.{box_as}
+use Rattle.master_hand.specs.of_serving_model.Passing.{ends_told}
+use Rattle.master_hand.specs.of_serving_model.Tagged.{Tagged, Asked, untag, is_own, ends_marked}
 use Rattle.life_counts.specs.Spoken.{Naming, IsScript, IsPassed}
 
 module _ {V M Q R T : Type 0} (x : Exchange V V M Q R) (calm : V → Bool) (fair : M → Bool) (acknowledged : Q → Bool) (n : Naming M Q T R) (emission : n.speech.emission ≡ x.speech.emission) where

@@ -5,15 +5,15 @@ use Rattle.std.specs.List.{list_all}
 use Rattle.std.specs.Map.{lookup}
 use Rattle.std.proofs.lemmas.List.Elements.{All-head, All-tail}
 use Rattle.std.proofs.lemmas.Bool.{ne_eqb, eqb-false}
-use Rattle.object_dictionary.specs.declared.entry.EntrySpec.{EntrySpec}
-use Rattle.object_dictionary.specs.declared.object.Object.{Object}
-use Rattle.object_dictionary.specs.Dictionary.{Table}
-use Rattle.object_dictionary.specs.Sound.{placed, own_table, emitter_object, is_rising}
-use Rattle.object_dictionary.proofs.Tests.{both}
-use Rattle.segment_plan.specs.declared.slave.ObjectSpec.{ObjectSpec}
-use Rattle.segment_plan.specs.declared.slave.SlaveSpec.{SlaveSpec}
-use Rattle.segment_plan.specs.Bound.{most_at, most_of, own_most, entry_most}
-use Rattle.segment_plan.specs.Sound.{kept, indexes, IsObject, IsSlave}
+use Rattle.master_hand.specs.of_object_dictionary.declared.entry.EntrySpec.{EntrySpec}
+use Rattle.master_hand.specs.of_object_dictionary.declared.object.Object.{Object}
+use Rattle.master_hand.specs.of_object_dictionary.Dictionary.{Table}
+use Rattle.master_hand.specs.of_object_dictionary.Sound.{placed, own_table, emitter_object, is_rising}
+use Rattle.slave_server.proofs.of_object_dictionary.Tests.{both}
+use Rattle.master_hand.specs.of_segment_plan.declared.slave.ObjectSpec.{ObjectSpec}
+use Rattle.master_hand.specs.of_segment_plan.declared.slave.SlaveSpec.{SlaveSpec}
+use Rattle.master_hand.specs.of_segment_plan.Bound.{most_at, most_of, own_most, entry_most}
+use Rattle.master_hand.specs.of_segment_plan.Sound.{kept, indexes, IsObject, IsSlave}
 use Rattle.slave_server.specs.Spec.{with_objects, objects_of}
 use Rattle.few_replies.specs.Shapes.{mosts, object_size, found_size, entry_size}
 

@@ -2,20 +2,20 @@
 use Rattle.std.proofs.Common.{◌≡◌, ℕ, suc, ◌+◌, ◌*◌, ◌≤◌, false, Option, Some, None, List, [], ◌∷◌, ◌++◌, take, length, refl, ap, arith, length-append, append-nil}
 use Rattle.std.proofs.lemmas.List.{length-map}
 use Rattle.std.proofs.lemmas.List.Sums.{sum_by-cons}
-use Rattle.exchange_model.specs.Rows.{Row, told_all, heard_all, exec_all}
-use Rattle.exchange_model.proofs.Settles.{told_all_last, heard_all_last}
-use Rattle.segment_model.specs.Seats.{newest, rows_of}
-use Rattle.state_model.specs.States.{Phase}
-use Rattle.state_model.specs.Stated.{Service, states_in, with_states}
-use Rattle.state_model.specs.Accounts.{Stage, Duty, Change, Account, Started}
-use Rattle.state_model.specs.Promise.{TasksPromised, TasksAnswered, services_in, state_of, states_started, changes_in, duty_in}
-use Rattle.state_model.proofs.Sessions.{tasks_promised, tasks_answered}
+use Rattle.master_hand.specs.of_exchange_model.Rows.{Row, told_all, heard_all, exec_all}
+use Rattle.master_hand.proofs.of_exchange_model.Settles.{told_all_last, heard_all_last}
+use Rattle.master_hand.specs.of_segment_model.Seats.{newest, rows_of}
+use Rattle.master_hand.specs.of_state_model.States.{Phase}
+use Rattle.master_hand.specs.of_state_model.Stated.{Service, states_in, with_states}
+use Rattle.master_hand.specs.of_state_model.Accounts.{Stage, Duty, Change, Account, Started}
+use Rattle.master_hand.specs.of_state_model.Promise.{TasksPromised, TasksAnswered, services_in, state_of, states_started, changes_in, duty_in}
+use Rattle.few_replies.proofs.of_state_model.Sessions.{tasks_promised, tasks_answered}
 use Rattle.few_replies.specs.RowCounts.{AreCounted, rows_mails}
 use Rattle.few_replies.specs.Services.{service_count, services_count}
-use Rattle.life_model.specs.Gains.{rows_gains, newest_gains, phase_gains, stage_gains, duty_gains, changes_gains, account_gains, era_gains}
-use Rattle.life_model.specs.Eras.{OpenEra, frames_of}
-use Rattle.life_model.specs.Lives.{Era}
-use Rattle.life_model.proofs.Eras.{session_of, of_one}
+use Rattle.few_replies.specs.of_life_model.Gains.{rows_gains, newest_gains, phase_gains, stage_gains, duty_gains, changes_gains, account_gains, era_gains}
+use Rattle.few_replies.specs.of_life_model.Eras.{OpenEra, frames_of}
+use Rattle.few_replies.specs.of_life_model.Lives.{Era}
+use Rattle.few_replies.proofs.of_life_model.Eras.{session_of, of_one}
 use Rattle.few_replies.proofs.OfTasks.{tasks_within}
 use Rattle.life_counts.specs.Begun.{service_most, begun_most, era_most}
 

@@ -1,26 +1,26 @@
 -- OF AN EPOCH that is a session which sees what is meant by its mails: a step of its slave, and what was heard in it.
 use Rattle.std.proofs.Common.{◌≡◌, ℕ, Bool, true, false, is_none, Option, Some, None, List, refl}
-use Rattle.exchange_model.specs.Exchange.{Exchange, IsLawful}
-use Rattle.life_model.specs.Eras.{EraIs, OpenEra, era_frames}
-use Rattle.life_model.specs.Lives.{Spot, Era}
-use Rattle.life_model.proofs.Eras.{session_of, of_one}
+use Rattle.master_hand.specs.of_exchange_model.Exchange.{Exchange, IsLawful}
+use Rattle.few_replies.specs.of_life_model.Eras.{EraIs, OpenEra, era_frames}
+use Rattle.few_replies.specs.of_life_model.Lives.{Spot, Era}
+use Rattle.few_replies.proofs.of_life_model.Eras.{session_of, of_one}
 use Rattle.few_replies.specs.Calm.{calm_tagged}
 use Rattle.few_replies.specs.Client.{ByContents}
-use Rattle.link_model.specs.Mails.{LinkMail}
+use Rattle.few_replies.specs.of_link_model.Mails.{LinkMail}
 use Rattle.few_replies.specs.Erased.{OfRow}
-use Rattle.segment_model.specs.Record.{Frame, heard, kept_all, nothing_kept}
-use Rattle.segment_model.proofs.Posts.{IsFresh, KeptOut}
-use Rattle.serving_model.specs.Passing.{LastTells}
-use Rattle.segment_model.specs.Seats.{Side}
-use Rattle.segment_model.specs.Slaves.{Registers, Processor, Slave, slave_steps}
-use Rattle.serving_model.specs.Erasing.{slave_as}
-use Rattle.serving_model.specs.Tagged.{IsServed, Tagged, Asked, Rowed, real, ideal}
-use Rattle.serving_model.specs.TaggedStates.{IsStatedServed, tagged_states}
-use Rattle.state_model.specs.Stated.{Stated, IsStated}
-use Rattle.state_model.specs.States.{Table, carry}
-use Rattle.state_model.specs.Accounts.{Account}
-use Rattle.state_model.specs.Promise.{services_in}
-use Rattle.state_model.proofs.Sessions.{of_slaves}
+use Rattle.master_hand.specs.of_segment_model.Record.{Frame, heard, kept_all, nothing_kept}
+use Rattle.few_replies.proofs.of_segment_model.Posts.{IsFresh, KeptOut}
+use Rattle.master_hand.specs.of_serving_model.Passing.{LastTells}
+use Rattle.master_hand.specs.of_segment_model.Seats.{Side}
+use Rattle.master_hand.specs.of_segment_model.Slaves.{Registers, Processor, Slave, slave_steps}
+use Rattle.master_hand.specs.of_serving_model.Erasing.{slave_as}
+use Rattle.master_hand.specs.of_serving_model.Tagged.{IsServed, Tagged, Asked, Rowed, real, ideal}
+use Rattle.master_hand.specs.of_serving_model.TaggedStates.{IsStatedServed, tagged_states}
+use Rattle.master_hand.specs.of_state_model.Stated.{Stated, IsStated}
+use Rattle.master_hand.specs.of_state_model.States.{Table, carry}
+use Rattle.master_hand.specs.of_state_model.Accounts.{Account}
+use Rattle.master_hand.specs.of_state_model.Promise.{services_in}
+use Rattle.few_replies.proofs.of_state_model.Sessions.{of_slaves}
 use Rattle.life_counts.specs.Foreseen.{AllRight}
 use Rattle.life_counts.proofs.Marks.{IsPassedNow, passed_now}
 use Rattle.life_counts.proofs.Rights.{Between}

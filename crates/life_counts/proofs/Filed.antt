@@ -3,10 +3,10 @@ use Rattle.std.proofs.Common.{◌≡◌, ℕ, Bool, true, false, cond, List, [],
 use Rattle.std.specs.Prelude.{unwrap_or, option_map, is_some, find}
 use Rattle.std.specs.Str.{bytes_eq}
 use Rattle.std.proofs.lemmas.Slice.Eq.{bytes_eq-Decides}
-use Rattle.file_store.specs.declared.file.FileSpec.{FileSpec}
-use Rattle.file_store.specs.Files as Store
-use Rattle.segment_plan.specs.declared.slave.SlaveSpec.{SlaveSpec}
-use Rattle.segment_plan.specs.Bound as Bound
+use Rattle.slave_server.specs.of_file_store.declared.file.FileSpec.{FileSpec}
+use Rattle.slave_server.specs.of_file_store.Files as Store
+use Rattle.master_hand.specs.of_segment_plan.declared.slave.SlaveSpec.{SlaveSpec}
+use Rattle.master_hand.specs.of_segment_plan.Bound as Bound
 use Rattle.slave_server.specs.Spec.{with_file, with_files, files_of}
 
 pub files_blocks : (fs : List (FileSpec × List ℕ)) (k : Store.Kept) → (with_files fs k).blocks ≡ k.blocks

@@ -1,18 +1,18 @@
 -- A FRAME FOR ONE SLAVE, with what is meant by its mails: what was sent, as the half that holds a mail means it, and what comes back.
 use Rattle.std.proofs.Common.{◌≡◌, inl, inr, ℕ, ◌==◌, Bool, true, false, Option, None, Some, List, [], ◌∷◌, refl, ap, ap₂, sym, ◌∙◌, subst, if◌then◌else◌}
 use Rattle.std.specs.Prelude.{⊤}
-use Rattle.life_model.specs.Lives.{ReadsFull}
-use Rattle.life_model.specs.Own as Own
-use Rattle.link_model.specs.Frames as Link
-use Rattle.link_model.specs.Frames.{Ask, IsSent, in_ask}
-use Rattle.link_model.specs.Mails.{LinkMail}
-use Rattle.link_model.specs.Master.{InHalf, InState}
+use Rattle.few_replies.specs.of_life_model.Lives.{ReadsFull}
+use Rattle.few_replies.specs.of_life_model.Own as Own
+use Rattle.few_replies.specs.of_link_model.Frames as Link
+use Rattle.few_replies.specs.of_link_model.Frames.{Ask, IsSent, in_ask}
+use Rattle.few_replies.specs.of_link_model.Mails.{LinkMail}
+use Rattle.few_replies.specs.of_link_model.Master.{InHalf, InState}
 use Rattle.few_replies.specs.Led.{IsSingle, AreSingle}
-use Rattle.segment_model.specs.Record.{is_for}
-use Rattle.segment_model.specs.Slaves.{Datagram, Address, Slave, grams, address_behind, slave_meets, frame_after, Access}
-use Rattle.serving_model.specs.Erasing.{box_as, ask_as, datagram_as, all_as}
-use Rattle.serving_model.specs.Tagged.{Meant, Tagged}
-use Rattle.state_model.specs.Accounts.{IsServed, IsServed.nothing, IsServed.other, IsServed.quiet, IsServed.own}
+use Rattle.master_hand.specs.of_segment_model.Record.{is_for}
+use Rattle.master_hand.specs.of_segment_model.Slaves.{Datagram, Address, Slave, grams, address_behind, slave_meets, frame_after, Access}
+use Rattle.master_hand.specs.of_serving_model.Erasing.{box_as, ask_as, datagram_as, all_as}
+use Rattle.master_hand.specs.of_serving_model.Tagged.{Meant, Tagged}
+use Rattle.master_hand.specs.of_state_model.Accounts.{IsServed, IsServed.nothing, IsServed.other, IsServed.quiet, IsServed.own}
 
 -- ---- a mail of which nothing is known gets no meaning
 module _ {M : Type 0} (Q : Type 0) where

@@ -1,8 +1,8 @@
 -- WHAT THE LAST EPOCH of a list adds, and what it is.
 use Rattle.std.proofs.Common.{◌≡◌, ℕ, ◌+◌, ◌≤◌, Option, Some, None, List, [], ◌∷◌, ◌++◌, arith}
-use Rattle.life_model.specs.Gains.{idle_gains, era_gains, eras_gains}
-use Rattle.life_model.specs.Lives.{Era}
-use Rattle.link_model.specs.Mails.{LinkMail}
+use Rattle.few_replies.specs.of_life_model.Gains.{idle_gains, era_gains, eras_gains}
+use Rattle.few_replies.specs.of_life_model.Lives.{Era}
+use Rattle.few_replies.specs.of_link_model.Mails.{LinkMail}
 use Rattle.life_counts.specs.Begun.{era_most, eras_most, IsUnopened, AllUnopened}
 
 pub idle_one : {M : Type 0} (holding : Option (LinkMail M)) → idle_gains holding ≤ 1

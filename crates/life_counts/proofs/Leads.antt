@@ -1,17 +1,17 @@
 -- WHAT A TURN IS SEEN BY: lists, an era behind a frame, and an answer that stays.
 use Rattle.std.proofs.Common.{◌≡◌, ℕ, suc, ◌&&◌, Bool, true, false, not, is_some, Option, None, Some, List, [], ◌∷◌, ◌++◌, length, refl, ap, ap₂, arith, length-append, if◌then◌else◌}
-use Rattle.exchange_model.specs.Exchange.{Speech}
-use Rattle.exchange_model.specs.Rows.{answer_after}
-use Rattle.life_model.specs.Lives.{Era, Life, era_after, returns_to_init, opens_state, reopening, reopens_at, reopens, passes}
-use Rattle.life_model.specs.Own as Own
-use Rattle.link_model.specs.Segment.{RingFate}
+use Rattle.master_hand.specs.of_exchange_model.Exchange.{Speech}
+use Rattle.master_hand.specs.of_exchange_model.Rows.{answer_after}
+use Rattle.few_replies.specs.of_life_model.Lives.{Era, Life, era_after, returns_to_init, opens_state, reopening, reopens_at, reopens, passes}
+use Rattle.few_replies.specs.of_life_model.Own as Own
+use Rattle.few_replies.specs.of_link_model.Segment.{RingFate}
 use Rattle.few_replies.specs.Led.{counted_news}
-use Rattle.segment_model.specs.Record as Record
-use Rattle.segment_model.specs.Record.{News, mails_heard}
-use Rattle.segment_model.specs.Seats.{side_back, side_lost}
-use Rattle.segment_model.specs.Slaves.{Slave, Datagram, Ring}
-use Rattle.serving_model.specs.Tagged.{Tagged, untag}
-use Rattle.state_model.specs.Accounts.{Duty, Stage, account_back}
+use Rattle.master_hand.specs.of_segment_model.Record as Record
+use Rattle.master_hand.specs.of_segment_model.Record.{News, mails_heard}
+use Rattle.master_hand.specs.of_segment_model.Seats.{side_back, side_lost}
+use Rattle.master_hand.specs.of_segment_model.Slaves.{Slave, Datagram, Ring}
+use Rattle.master_hand.specs.of_serving_model.Tagged.{Tagged, untag}
+use Rattle.master_hand.specs.of_state_model.Accounts.{Duty, Stage, account_back}
 use Rattle.life_counts.proofs.Overs.{ends_last}
 
 -- the mails heard are the same without empty reads

@@ -1,14 +1,14 @@
 -- TURN BY TURN: an epoch that its master leads is the same seen with what is meant by its mails.
 use Rattle.std.proofs.Common.{◌≡◌, inl, inr, ℕ, suc, ◌<◌, ◌≤◌, ◌&&◌, Bool, true, false, not, is_some, Option, None, Some, option_map, List, [], ◌∷◌, ◌++◌, map, length, refl, ap, ap₂, sym, ◌∙◌, subst, arith, append-nil, if◌then◌else◌}
 use Rattle.std.proofs.lemmas.List.{map-append}
-use Rattle.exchange_model.specs.Exchange.{Exchange, IsLawful, plain}
-use Rattle.exchange_model.specs.Rows.{Row, row_heard, answer_after}
-use Rattle.life_model.specs.Eras.{EraIs, era_frames}
-use Rattle.life_model.specs.Lives.{Spot, Era, Life, Stand, era_next, era_back, era_after, granted, passes}
-use Rattle.life_model.specs.Own as Own
-use Rattle.life_model.specs.Own.{own_fate, own_frame}
-use Rattle.link_model.specs.Frames.{all_accepted}
-use Rattle.link_model.specs.Segment.{RingFate}
+use Rattle.master_hand.specs.of_exchange_model.Exchange.{Exchange, IsLawful, plain}
+use Rattle.master_hand.specs.of_exchange_model.Rows.{Row, row_heard, answer_after}
+use Rattle.few_replies.specs.of_life_model.Eras.{EraIs, era_frames}
+use Rattle.few_replies.specs.of_life_model.Lives.{Spot, Era, Life, Stand, era_next, era_back, era_after, granted, passes}
+use Rattle.few_replies.specs.of_life_model.Own as Own
+use Rattle.few_replies.specs.of_life_model.Own.{own_fate, own_frame}
+use Rattle.few_replies.specs.of_link_model.Frames.{all_accepted}
+use Rattle.few_replies.specs.of_link_model.Segment.{RingFate}
 use Rattle.few_replies.specs.Client.{ByContents}
 use Rattle.few_replies.specs.Erased.{frame_as, all_news_as, OfRow, EndOne}
 use Rattle.few_replies.proofs.Naturals.{frame_of}
@@ -16,16 +16,16 @@ use Rattle.few_replies.specs.Led.{IsLed, EraTurn, MayTurn, NoneUnheard, NowHeard
 use Rattle.few_replies.specs.Silent.{is_passed}
 use Rattle.few_replies.proofs.Rows as PassingRows
 use Rattle.few_replies.specs.Heard.{EraPasses, HeardBy}
-use Rattle.segment_model.specs.Ends.{Passing}
-use Rattle.segment_model.specs.Record.{Frame, News, Kept, frame_news, kept_all, nothing_kept, mails_heard, did_read}
-use Rattle.segment_model.specs.Slaves.{Registers, Processor, Slave, Datagram, Ring, grams, ring_after, ring_back, ring_steps}
-use Rattle.serving_model.specs.Erasing.{slave_as, all_as}
-use Rattle.serving_model.specs.Passing.{ends_told}
-use Rattle.serving_model.specs.Tagged.{Tagged, Asked, Rowed, real, untag, no_reply, ends_marked}
-use Rattle.state_model.specs.Stated.{IsStated, Service}
-use Rattle.state_model.specs.States.{Table}
-use Rattle.state_model.specs.Accounts.{Duty, Pick, Started, is_free, starts, account_begins}
-use Rattle.state_model.specs.Promise.{services_in}
+use Rattle.master_hand.specs.of_segment_model.Ends.{Passing}
+use Rattle.master_hand.specs.of_segment_model.Record.{Frame, News, Kept, frame_news, kept_all, nothing_kept, mails_heard, did_read}
+use Rattle.master_hand.specs.of_segment_model.Slaves.{Registers, Processor, Slave, Datagram, Ring, grams, ring_after, ring_back, ring_steps}
+use Rattle.master_hand.specs.of_serving_model.Erasing.{slave_as, all_as}
+use Rattle.master_hand.specs.of_serving_model.Passing.{ends_told}
+use Rattle.master_hand.specs.of_serving_model.Tagged.{Tagged, Asked, Rowed, real, untag, no_reply, ends_marked}
+use Rattle.master_hand.specs.of_state_model.Stated.{IsStated, Service}
+use Rattle.master_hand.specs.of_state_model.States.{Table}
+use Rattle.master_hand.specs.of_state_model.Accounts.{Duty, Pick, Started, is_free, starts, account_begins}
+use Rattle.master_hand.specs.of_state_model.Promise.{services_in}
 use Rattle.life_counts.specs.Epochs.{Speaker, IsSpeaker, IsRun, AllFair, between, seeing, seeing_states, era_named}
 use Rattle.life_counts.specs.Foreseen.{AllRight}
 use Rattle.life_counts.specs.Spoken.{IsPassed}
@@ -40,7 +40,7 @@ use Rattle.life_counts.proofs.Overs.{asks, ends_last, all_told_of, still, over, 
 use Rattle.life_counts.proofs.Turns as Turns
 use Rattle.life_counts.proofs.Frames.{own_to, to_own}
 use Rattle.life_counts.proofs.Ways.{Met, Stepped, met}
-use Rattle.life_model.proofs.Eras.{frames_push}
+use Rattle.few_replies.proofs.of_life_model.Eras.{frames_push}
 use Rattle.life_counts.proofs.Opened.{after_started}
 use Rattle.life_counts.proofs.Leads.{mails_counted, pushed, one_slave, and_not, after_own, reopens_era, still_some, some_after, same_some, last_untag}
 

@@ -1,5 +1,5 @@
-pub use Rattle.whole_ring.proofs.of_slave_lives as of_slave_lives
 pub use Rattle.few_replies.proofs as of_few_replies
+pub use Rattle.few_replies.proofs.of_serving_model as of_serving_model
 pub mod Answered
 pub mod Backs
 pub mod Begins

@@ -1,34 +1,34 @@
 -- WHAT WAS HEARD FOR A MAIL THAT IS PASSED ON at one moment of an epoch: a first part of its replies, as long as no service came into hand behind it.
 use Rattle.std.proofs.Common.{◌≡◌, inl, inr, ℕ, suc, ◌&&◌, Bool, true, false, not, cond, is_some, Option, None, Some, List, [], ◌∷◌, ◌++◌, map, refl, ap, sym, ◌∙◌, subst, append-nil, if◌then◌else◌}
 use Rattle.std.proofs.lemmas.List.{map-append}
-use Rattle.exchange_model.specs.Prefix.{IsPrefixOf}
-use Rattle.exchange_model.specs.Exchange.{Exchange, IsLawful, after, given, plain}
-use Rattle.exchange_model.specs.Rows.{Row, told_all, services, exec_all}
-use Rattle.exchange_model.proofs.Lists.{append_none}
-use Rattle.exchange_model.proofs.Nows.{heard_begins}
-use Rattle.exchange_model.proofs.Settles.{settled_app, settled_ready}
+use Rattle.master_hand.specs.of_exchange_model.Prefix.{IsPrefixOf}
+use Rattle.master_hand.specs.of_exchange_model.Exchange.{Exchange, IsLawful, after, given, plain}
+use Rattle.master_hand.specs.of_exchange_model.Rows.{Row, told_all, services, exec_all}
+use Rattle.master_hand.proofs.of_exchange_model.Lists.{append_none}
+use Rattle.master_hand.proofs.of_exchange_model.Nows.{heard_begins}
+use Rattle.master_hand.proofs.of_exchange_model.Settles.{settled_app, settled_ready}
 use Rattle.few_replies.specs.Calm.{calm_tagged}
 use Rattle.few_replies.specs.Erased.{OfRow}
 use Rattle.few_replies.proofs.Clients.{plain_untag}
 use Rattle.few_replies.specs.Silent.{IsForeseenRight}
-use Rattle.segment_model.specs.Ends.{Outcome}
-use Rattle.segment_model.specs.Record.{Frame}
-use Rattle.segment_model.specs.Seats.{Seat}
-use Rattle.serving_model.specs.Passing.{ends_told, LastTells}
-use Rattle.serving_model.specs.Tagged.{Meant, Tagged, Asked, untag, own_gift, is_own, no_reply, last_gifts, answer_gifts, ends_marked, Rowed, ideal}
-use Rattle.serving_model.specs.TaggedStates.{tagged_states}
-use Rattle.serving_model.proofs.Passings.{by_contents}
-use Rattle.state_model.specs.Stated.{Stated, IsStated, Act, acts, Service, Counting, with_states}
-use Rattle.state_model.proofs.Acts.{plain_acts, begin_acts, given_acts}
-use Rattle.state_model.proofs.StatedLaw.{stated_law}
-use Rattle.state_model.specs.Promises.{IsTable}
-use Rattle.state_model.specs.States.{Table}
-use Rattle.state_model.specs.Accounts.{Account, Started}
-use Rattle.state_model.specs.Promise.{services_in}
-use Rattle.state_model.proofs.Ghosts as Ghosts
-use Rattle.state_model.proofs.Ghosts.{counting, start_of, starts_of, starts_append, Shows, Rested, RestedRow}
-use Rattle.state_model.proofs.Newest.{Holds}
-use Rattle.state_model.proofs.Stately.{state_over}
+use Rattle.master_hand.specs.of_segment_model.Ends.{Outcome}
+use Rattle.master_hand.specs.of_segment_model.Record.{Frame}
+use Rattle.master_hand.specs.of_segment_model.Seats.{Seat}
+use Rattle.master_hand.specs.of_serving_model.Passing.{ends_told, LastTells}
+use Rattle.master_hand.specs.of_serving_model.Tagged.{Meant, Tagged, Asked, untag, own_gift, is_own, no_reply, last_gifts, answer_gifts, ends_marked, Rowed, ideal}
+use Rattle.master_hand.specs.of_serving_model.TaggedStates.{tagged_states}
+use Rattle.few_replies.proofs.of_serving_model.Passings.{by_contents}
+use Rattle.master_hand.specs.of_state_model.Stated.{Stated, IsStated, Act, acts, Service, Counting, with_states}
+use Rattle.few_replies.proofs.of_state_model.Acts.{plain_acts, begin_acts, given_acts}
+use Rattle.few_replies.proofs.of_state_model.StatedLaw.{stated_law}
+use Rattle.master_hand.specs.of_state_model.Promises.{IsTable}
+use Rattle.master_hand.specs.of_state_model.States.{Table}
+use Rattle.master_hand.specs.of_state_model.Accounts.{Account, Started}
+use Rattle.master_hand.specs.of_state_model.Promise.{services_in}
+use Rattle.few_replies.proofs.of_state_model.Ghosts as Ghosts
+use Rattle.few_replies.proofs.of_state_model.Ghosts.{counting, start_of, starts_of, starts_append, Shows, Rested, RestedRow}
+use Rattle.few_replies.proofs.of_state_model.Newest.{Holds}
+use Rattle.few_replies.proofs.of_state_model.Stately.{state_over}
 use Rattle.life_counts.specs.Epochs.{newest_of}
 use Rattle.life_counts.specs.Foreseen.{AllRight}
 use Rattle.life_counts.proofs.Rights.{lasts_tell, untag-last}

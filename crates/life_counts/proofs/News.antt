@@ -1,17 +1,17 @@
 -- WHAT FRAMES TELL of a mail that is passed on is the same where it is seen what is meant by mails, whose contents tell that.
 use Rattle.std.proofs.Common.{◌≡◌, ℕ, ◌==◌, ◌&&◌, Bool, true, false, not, Option, None, Some, List, [], ◌∷◌, map, refl, ap, ap₂, sym, ◌∙◌, if◌then◌else◌}
-use Rattle.exchange_model.specs.Exchange.{Speech}
-use Rattle.life_model.specs.Lives.{passes}
-use Rattle.link_model.specs.Frames.{Ask}
+use Rattle.master_hand.specs.of_exchange_model.Exchange.{Speech}
+use Rattle.few_replies.specs.of_life_model.Lives.{passes}
+use Rattle.few_replies.specs.of_link_model.Frames.{Ask}
 use Rattle.few_replies.specs.Client.{ByContents}
 use Rattle.few_replies.specs.Erased.{frame_as, news_as, all_news_as}
 use Rattle.few_replies.proofs.Naturals.{kept_of}
 use Rattle.few_replies.specs.Led.{counted_news}
-use Rattle.segment_model.specs.Ends.{Passing, passing_after}
-use Rattle.segment_model.specs.Record.{Frame, News, Kept, kept_after, kept_all, did_read, is_read, without_empty, mails_heard}
-use Rattle.segment_model.specs.Slaves.{Datagram, grams}
-use Rattle.serving_model.specs.Erasing.{ask_as, all_as}
-use Rattle.serving_model.specs.Tagged.{Tagged, is_own}
+use Rattle.master_hand.specs.of_segment_model.Ends.{Passing, passing_after}
+use Rattle.master_hand.specs.of_segment_model.Record.{Frame, News, Kept, kept_after, kept_all, did_read, is_read, without_empty, mails_heard}
+use Rattle.master_hand.specs.of_segment_model.Slaves.{Datagram, grams}
+use Rattle.master_hand.specs.of_serving_model.Erasing.{ask_as, all_as}
+use Rattle.master_hand.specs.of_serving_model.Tagged.{Tagged, is_own}
 
 module _ {N M : Type 0} (f : N → M) where
   without_as : (ns : List (News N)) → all_news_as f (without_empty ns) ≡ without_empty (all_news_as f ns)

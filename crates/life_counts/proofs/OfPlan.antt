@@ -1,24 +1,24 @@
 -- What the frame bound counts for a service of a plan.
 use Rattle.std.proofs.Common.{◌≡◌, ℕ, ◌+◌, ◌-◌, ◌*◌, ◌/◌, ◌≤◌, ◌&&◌, ◌||◌, ◌==◌, nat_lt, nat_le, Bool, true, false, not, List, [], length, Some, None, refl, subst, arith, if◌then◌else◌}
 use Rattle.std.proofs.Math.Nat.{div-eq-sub-div}
-use Rattle.eoe.specs.Cutting.{blocks_of}
-use Rattle.exchange_model.specs.Areas.{AreMailboxes}
-use Rattle.object_dictionary.specs.declared.service.SdoService.{SdoService}
-use Rattle.object_dictionary.specs.declared.service.SdoService.TheVariants.{Download, Upload, DownloadAll, UploadAll, List as ObjectList, ObjectInfo, EntryInfo}
-use Rattle.protocol_models.specs.CoeServer.{emergency, packet}
-use Rattle.coe_client.specs.Talk.{service_view}
-use Rattle.protocol_models.specs.FoeMeaning as FoeMeaning
-use Rattle.protocol_models.specs.SoeClient as SoeClient
-use Rattle.protocol_models.specs.Elements.{target}
-use Rattle.protocol_models.specs.EoeClient as EoeClient
+use Rattle.master_hand.specs.of_eoe.Cutting.{blocks_of}
+use Rattle.master_hand.specs.of_exchange_model.Areas.{AreMailboxes}
+use Rattle.master_hand.specs.of_object_dictionary.declared.service.SdoService.{SdoService}
+use Rattle.master_hand.specs.of_object_dictionary.declared.service.SdoService.TheVariants.{Download, Upload, DownloadAll, UploadAll, List as ObjectList, ObjectInfo, EntryInfo}
+use Rattle.master_hand.specs.of_protocol_models.CoeServer.{emergency, packet}
+use Rattle.master_hand.specs.of_coe_client.Talk.{service_view}
+use Rattle.master_hand.specs.of_protocol_models.FoeMeaning as FoeMeaning
+use Rattle.master_hand.specs.of_protocol_models.SoeClient as SoeClient
+use Rattle.master_hand.specs.of_protocol_models.Elements.{target}
+use Rattle.master_hand.specs.of_protocol_models.EoeClient as EoeClient
 use Rattle.master_hand.specs.Spoken.{Asked, sdo, file, drive, net}
 use Rattle.master_hand.specs.Talk.{asked_of}
-use Rattle.segment_plan.specs.declared.slave.SlaveSpec.{SlaveSpec}
-use Rattle.segment_plan.specs.declared.service.Service as Plan
-use Rattle.segment_plan.specs.declared.service.Service.TheVariants.{Sdo, ReadFile, WriteFile, ReadIdn, WriteIdn, SetIp, GetIp, State, Forward}
-use Rattle.segment_plan.specs.Bound.{mails_of, entry_most, work_of}
-use Rattle.segment_plan.specs.Sound.{IsSlave, IsService}
-use Rattle.slave_model.specs.Profile.{areas_of}
+use Rattle.master_hand.specs.of_segment_plan.declared.slave.SlaveSpec.{SlaveSpec}
+use Rattle.master_hand.specs.of_segment_plan.declared.service.Service as Plan
+use Rattle.master_hand.specs.of_segment_plan.declared.service.Service.TheVariants.{Sdo, ReadFile, WriteFile, ReadIdn, WriteIdn, SetIp, GetIp, State, Forward}
+use Rattle.master_hand.specs.of_segment_plan.Bound.{mails_of, entry_most, work_of}
+use Rattle.master_hand.specs.of_segment_plan.Sound.{IsSlave, IsService}
+use Rattle.few_replies.specs.of_slave_model.Profile.{areas_of}
 use Rattle.slave_server.specs.Spec.{files_of, core_of, profile_of}
 use Rattle.few_replies.specs.Counts.{third, mails_within}
 use Rattle.few_replies.proofs.Thirds.{fits}

@@ -1,16 +1,16 @@
 -- WHAT CAME INTO HAND stays behind frames, and the frames of an epoch that was just opened are blanks.
 use Rattle.std.proofs.Common.{◌≡◌, ℕ, zero, suc, ◌-◌, ◌==◌, ◌&&◌, Bool, true, false, not, Option, None, Some, List, [], ◌∷◌, ◌++◌, map, length, take, drop, refl, ap, sym, ◌∙◌, append-nil, if◌then◌else◌}
 use Rattle.std.specs.Prelude.{replicate}
-use Rattle.exchange_model.specs.Exchange.{Speech}
-use Rattle.life_model.specs.Eras.{era_frames}
-use Rattle.life_model.specs.Lives.{Spot, Era, era_after}
-use Rattle.life_model.specs.Own as Own
-use Rattle.life_model.specs.Own.{own_frame, blank}
-use Rattle.link_model.specs.Segment.{RingFate}
+use Rattle.master_hand.specs.of_exchange_model.Exchange.{Speech}
+use Rattle.few_replies.specs.of_life_model.Eras.{era_frames}
+use Rattle.few_replies.specs.of_life_model.Lives.{Spot, Era, era_after}
+use Rattle.few_replies.specs.of_life_model.Own as Own
+use Rattle.few_replies.specs.of_life_model.Own.{own_frame, blank}
+use Rattle.few_replies.specs.of_link_model.Segment.{RingFate}
 use Rattle.few_replies.specs.Erased.{frame_as}
-use Rattle.segment_model.specs.Record.{Frame, News, is_for}
-use Rattle.segment_model.specs.Slaves.{Datagram}
-use Rattle.state_model.specs.Accounts.{Account, Duty, Progress, account_met, account_by, account_back, access_done}
+use Rattle.master_hand.specs.of_segment_model.Record.{Frame, News, is_for}
+use Rattle.master_hand.specs.of_segment_model.Slaves.{Datagram}
+use Rattle.master_hand.specs.of_state_model.Accounts.{Account, Duty, Progress, account_met, account_by, account_back, access_done}
 
 -- frames leave what came into hand
 pub met_started : {N P S : Type 0} (station frame : ℕ) (a : Account P S) (hand : Option Duty) (d : Datagram N) → (account_met station frame a hand d).started ≡ a.started

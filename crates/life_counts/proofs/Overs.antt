@@ -1,19 +1,19 @@
 -- WHEN A MAIL THAT IS PASSED ON IS OVER: no reply of it was heard, or the last that was heard is followed by no other; so with all that it has it is answered.
 use Rattle.std.proofs.Common.{◌≡◌, ◌⊎◌, inl, inr, ℕ, suc, ◌+◌, ◌≤◌, ◌==◌, Bool, true, false, not, cond, Option, None, Some, List, [], ◌∷◌, ◌++◌, map, refl, ap, ap₂, sym, ◌∙◌, subst, arith, append-nil, if◌then◌else◌}
-use Rattle.exchange_model.specs.Exchange.{Speech, plain}
-use Rattle.exchange_model.proofs.Words.{plain-append}
-use Rattle.life_model.specs.Lives.{passes}
-use Rattle.link_model.specs.Frames as Link
-use Rattle.link_model.specs.Frames.{Ask, Gram, IsSent, in_ask, gram_meets, write_done, read_done}
-use Rattle.link_model.specs.Mails.{LinkMail, is_repeat, news}
-use Rattle.link_model.specs.Master.{InHalf, InState}
-use Rattle.link_model.specs.Slave.{Node}
+use Rattle.master_hand.specs.of_exchange_model.Exchange.{Speech, plain}
+use Rattle.master_hand.proofs.of_exchange_model.Words.{plain-append}
+use Rattle.few_replies.specs.of_life_model.Lives.{passes}
+use Rattle.few_replies.specs.of_link_model.Frames as Link
+use Rattle.few_replies.specs.of_link_model.Frames.{Ask, Gram, IsSent, in_ask, gram_meets, write_done, read_done}
+use Rattle.few_replies.specs.of_link_model.Mails.{LinkMail, is_repeat, news}
+use Rattle.few_replies.specs.of_link_model.Master.{InHalf, InState}
+use Rattle.few_replies.specs.of_link_model.Slave.{Node}
 use Rattle.few_replies.specs.Led.{counted_news}
 use Rattle.few_replies.specs.Heard.{HeardBy}
-use Rattle.segment_model.specs.Ends.{Passing, passing_after}
-use Rattle.segment_model.specs.Record.{Frame, News, Kept, is_for, is_read, mails_heard, without_empty, gram_news, found_news, datagram_news, back_news, last_heard, frame_news, all_told}
-use Rattle.segment_model.specs.Slaves.{Datagram, Found, Slave, grams, slave_meets, frame_after}
-use Rattle.serving_model.specs.Passing.{ends_told}
+use Rattle.master_hand.specs.of_segment_model.Ends.{Passing, passing_after}
+use Rattle.master_hand.specs.of_segment_model.Record.{Frame, News, Kept, is_for, is_read, mails_heard, without_empty, gram_news, found_news, datagram_news, back_news, last_heard, frame_news, all_told}
+use Rattle.master_hand.specs.of_segment_model.Slaves.{Datagram, Found, Slave, grams, slave_meets, frame_after}
+use Rattle.master_hand.specs.of_serving_model.Passing.{ends_told}
 
 -- the last of these is followed by no other
 abbrev pub ends_last : {M : Type 0} → (M → Bool) → List M → Bool

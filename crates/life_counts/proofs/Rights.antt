@@ -1,25 +1,25 @@
 -- What a server that sees what is meant by its mails takes next the one that doesn't takes alike, over services by mails and of the AL state.
 use Rattle.std.proofs.Common.{◌≡◌, ℕ, ◌==◌, ◌&&◌, Bool, true, false, not, None, List, [], ◌∷◌, ◌++◌, map, refl, ap, ap₂, sym, ◌∙◌, subst, inl, inr, append_assoc, append-nil, if◌then◌else◌}
 use Rattle.std.specs.Prelude.{⊤, Option}
-use Rattle.exchange_model.specs.Prefix.{IsPrefixOf}
-use Rattle.exchange_model.specs.Exchange.{Exchange, IsLawful, after, given}
-use Rattle.exchange_model.specs.Rows.{Row, IsWhole, Settled, told_all, services}
-use Rattle.exchange_model.proofs.Lists.{cut}
-use Rattle.exchange_model.proofs.Settles.{whole_behind, whole_ready}
-use Rattle.exchange_model.proofs.Words.{after-append}
+use Rattle.master_hand.specs.of_exchange_model.Prefix.{IsPrefixOf}
+use Rattle.master_hand.specs.of_exchange_model.Exchange.{Exchange, IsLawful, after, given}
+use Rattle.master_hand.specs.of_exchange_model.Rows.{Row, IsWhole, Settled, told_all, services}
+use Rattle.master_hand.proofs.of_exchange_model.Lists.{cut}
+use Rattle.master_hand.proofs.of_exchange_model.Settles.{whole_behind, whole_ready}
+use Rattle.master_hand.proofs.of_exchange_model.Words.{after-append}
 use Rattle.few_replies.specs.Calm.{calm_tagged}
 use Rattle.few_replies.specs.Client.{ByContents}
 use Rattle.few_replies.specs.Silent.{IsForeseenRight}
-use Rattle.segment_model.specs.Ends.{Outcome}
-use Rattle.serving_model.specs.Tagged.{IsServed, Meant, Tagged, Asked, untag, more_of, told, gift, own_gift, is_own, no_reply, last_gifts, answer_gifts, Rowed, real, ideal, tagged, serve_tagged}
-use Rattle.serving_model.specs.TaggedStates.{told_state, tagged_states}
-use Rattle.serving_model.proofs.Erased.{rows_is}
-use Rattle.serving_model.proofs.TaggedLaw.{untag-told, untag-gift, own-gift}
-use Rattle.state_model.specs.Stated.{Stated, IsStated, Act, acts, Service, Counting, with_states}
-use Rattle.state_model.proofs.Acts.{after_acts}
-use Rattle.state_model.proofs.StatedLaw.{stated_law}
-use Rattle.state_model.specs.Promises.{state_behind}
-use Rattle.state_model.specs.States.{Table}
+use Rattle.master_hand.specs.of_segment_model.Ends.{Outcome}
+use Rattle.master_hand.specs.of_serving_model.Tagged.{IsServed, Meant, Tagged, Asked, untag, more_of, told, gift, own_gift, is_own, no_reply, last_gifts, answer_gifts, Rowed, real, ideal, tagged, serve_tagged}
+use Rattle.master_hand.specs.of_serving_model.TaggedStates.{told_state, tagged_states}
+use Rattle.few_replies.proofs.of_serving_model.Erased.{rows_is}
+use Rattle.few_replies.proofs.of_serving_model.TaggedLaw.{untag-told, untag-gift, own-gift}
+use Rattle.master_hand.specs.of_state_model.Stated.{Stated, IsStated, Act, acts, Service, Counting, with_states}
+use Rattle.few_replies.proofs.of_state_model.Acts.{after_acts}
+use Rattle.few_replies.proofs.of_state_model.StatedLaw.{stated_law}
+use Rattle.master_hand.specs.of_state_model.Promises.{state_behind}
+use Rattle.master_hand.specs.of_state_model.States.{Table}
 use Rattle.life_counts.specs.Foreseen.{IsRightAt, AllRight}
 
 left_of : (a b : Bool) → (a && b) ≡ true → a ≡ true
@@ -164,7 +164,7 @@ module _ {V M Q R C : Type 0} (x : Exchange V V M Q R) (core : V → C) (law : I
   pub told_between : (state : ℕ) (w : Rowed V M Q) → Between x w → Between x (told_state x s state w)
   told_between state w same = go (s.state (ideal x w) == state)
     where
-      go : (b : Bool) → Between x (if b then w else record { base = s.tell state (ideal x w); hand = None; part = []; count = Rattle.serving_model.specs.Tagged.rows_done x w })
+      go : (b : Bool) → Between x (if b then w else record { base = s.tell state (ideal x w); hand = None; part = []; count = Rattle.master_hand.specs.of_serving_model.Tagged.rows_done x w })
       go true = same
       go false = refl
 

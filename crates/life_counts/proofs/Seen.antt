@@ -3,15 +3,15 @@ use Rattle.std.proofs.Common.{◌≡◌, ℕ, ◌+◌, ◌≤◌, Option, Some, 
 use Rattle.std.specs.Prelude.{option_map}
 use Rattle.std.proofs.lemmas.List.{length-map}
 use Rattle.std.proofs.lemmas.List.Sums.{sum_by-cons}
-use Rattle.exchange_model.specs.Rows.{Row}
-use Rattle.link_model.specs.Mails.{LinkMail}
+use Rattle.master_hand.specs.of_exchange_model.Rows.{Row}
+use Rattle.few_replies.specs.of_link_model.Mails.{LinkMail}
 use Rattle.life_counts.specs.Begun.{service_most, begun_most, eras_most, life_most, AllUnopened, AreUnopened}
-use Rattle.life_model.specs.Gains.{row_gains, rows_gains, newest_gains, changes_gains, idle_gains, era_gains, eras_gains, gains}
-use Rattle.life_model.specs.Lives.{Era, Life}
-use Rattle.serving_model.specs.Erasing.{box_as}
-use Rattle.state_model.specs.Stated.{Service}
-use Rattle.state_model.specs.Accounts.{Started, Change}
-use Rattle.state_model.specs.Promise.{services_in}
+use Rattle.few_replies.specs.of_life_model.Gains.{row_gains, rows_gains, newest_gains, changes_gains, idle_gains, era_gains, eras_gains, gains}
+use Rattle.few_replies.specs.of_life_model.Lives.{Era, Life}
+use Rattle.master_hand.specs.of_serving_model.Erasing.{box_as}
+use Rattle.master_hand.specs.of_state_model.Stated.{Service}
+use Rattle.master_hand.specs.of_state_model.Accounts.{Started, Change}
+use Rattle.master_hand.specs.of_state_model.Promise.{services_in}
 use Rattle.few_replies.specs.Erased.{row_seen}
 use Rattle.life_counts.specs.Seen.{service_seen, started_seen, change_seen, era_seen, life_seen}
 

@@ -1,23 +1,23 @@
 -- FRAME BY FRAME, from where it was opened: an epoch that its master leads is a session that sees what is meant by its mails.
 use Rattle.std.proofs.Common.{◌≡◌, ℕ, suc, ◌&&◌, Bool, true, false, Option, None, Some, List, [], ◌∷◌, ◌++◌, map, length, refl, ap, sym, ◌∙◌, subst, arith, if◌then◌else◌}
 use Rattle.std.specs.Prelude.{replicate}
-use Rattle.exchange_model.specs.Exchange.{Exchange, IsLawful}
-use Rattle.exchange_model.specs.Rows.{Row}
-use Rattle.life_model.specs.Eras.{planned, opened_slave}
-use Rattle.life_model.specs.Lives.{Spot, Era, new_era, granted}
-use Rattle.life_model.specs.Own.{blank}
-use Rattle.life_model.proofs.Eras as LifeEras
+use Rattle.master_hand.specs.of_exchange_model.Exchange.{Exchange, IsLawful}
+use Rattle.master_hand.specs.of_exchange_model.Rows.{Row}
+use Rattle.few_replies.specs.of_life_model.Eras.{planned, opened_slave}
+use Rattle.few_replies.specs.of_life_model.Lives.{Spot, Era, new_era, granted}
+use Rattle.few_replies.specs.of_life_model.Own.{blank}
+use Rattle.few_replies.proofs.of_life_model.Eras as LifeEras
 use Rattle.few_replies.specs.Erased.{frame_as, OfRow, EndOne}
 use Rattle.few_replies.specs.Led.{IsLed, EraTurn, NoneUnheard, IsAnswered, news_in, turn_next, turn_after}
 use Rattle.few_replies.specs.Silent.{is_passed}
 use Rattle.few_replies.proofs.Rows as PassingRows
-use Rattle.segment_model.specs.Record.{Frame}
-use Rattle.segment_model.specs.Slaves.{Registers, Processor, Slave}
-use Rattle.serving_model.specs.Tagged.{Tagged, Asked, Rowed}
-use Rattle.state_model.specs.Stated.{IsStated, Service}
-use Rattle.state_model.specs.States.{Table}
-use Rattle.state_model.specs.Accounts.{Account, Duty, Started, is_free, is_acknowledged, starts, state_begins, account_begins}
-use Rattle.state_model.specs.Tasks.{IsTaskPlan}
+use Rattle.master_hand.specs.of_segment_model.Record.{Frame}
+use Rattle.master_hand.specs.of_segment_model.Slaves.{Registers, Processor, Slave}
+use Rattle.master_hand.specs.of_serving_model.Tagged.{Tagged, Asked, Rowed}
+use Rattle.master_hand.specs.of_state_model.Stated.{IsStated, Service}
+use Rattle.master_hand.specs.of_state_model.States.{Table}
+use Rattle.master_hand.specs.of_state_model.Accounts.{Account, Duty, Started, is_free, is_acknowledged, starts, state_begins, account_begins}
+use Rattle.master_hand.specs.of_state_model.Tasks.{IsTaskPlan}
 use Rattle.life_counts.specs.Epochs.{Speaker, IsSpeaker, IsRun, IsSeen, AllFair, between, newest_of, seeing, seeing_states}
 use Rattle.life_counts.proofs.Begins.{NowKnown, contents_of, hands_of, lasts_of, plans_of}
 use Rattle.life_counts.proofs.Clients.{MarksSame, ends}

@@ -1,10 +1,10 @@
 -- The AL state of calm servers.
 use Rattle.std.proofs.Common.{◌≡◌, ℕ, ◌&&◌, Bool, true, false, refl, ap, ap₂, ◌∙◌}
-use Rattle.exchange_model.specs.Exchange.{Exchange, AnswersLast}
+use Rattle.master_hand.specs.of_exchange_model.Exchange.{Exchange, AnswersLast}
 use Rattle.few_replies.specs.Calm.{asked_fair, calm_tagged}
-use Rattle.serving_model.specs.Tagged.{Asked, ideal, tagged}
-use Rattle.serving_model.specs.TaggedStates.{tagged_states}
-use Rattle.state_model.specs.Stated.{Stated, IsStated}
+use Rattle.master_hand.specs.of_serving_model.Tagged.{Asked, ideal, tagged}
+use Rattle.master_hand.specs.of_serving_model.TaggedStates.{tagged_states}
+use Rattle.master_hand.specs.of_state_model.Stated.{Stated, IsStated}
 
 left_of : (a b : Bool) → (a && b) ≡ true → a ≡ true
 left_of true b e = refl

@@ -1,36 +1,36 @@
 -- A step of the slave's processor is the same where it is seen what is meant by its mails.
 use Rattle.std.proofs.Common.{◌≡◌, ◌⊎◌, inl, inr, ℕ, ◌==◌, Bool, true, false, Option, None, Some, List, [], ◌∷◌, ◌++◌, map, refl, ap, sym, ◌∙◌, subst, append_assoc, append-nil, eqb-true, if◌then◌else◌}
-use Rattle.exchange_model.specs.Exchange.{Exchange, IsLawful, after}
-use Rattle.exchange_model.specs.Rows.{told_all, services}
-use Rattle.exchange_model.proofs.Lists.{append_cancel, append_none}
-use Rattle.link_model.specs.Slave.{node_look, node_takes, node_serve}
-use Rattle.link_model.proofs.Law.{taken_of_held, accepted_of_offered}
+use Rattle.master_hand.specs.of_exchange_model.Exchange.{Exchange, IsLawful, after}
+use Rattle.master_hand.specs.of_exchange_model.Rows.{told_all, services}
+use Rattle.master_hand.proofs.of_exchange_model.Lists.{append_cancel, append_none}
+use Rattle.few_replies.specs.of_link_model.Slave.{node_look, node_takes, node_serve}
+use Rattle.few_replies.proofs.of_link_model.Law.{taken_of_held, accepted_of_offered}
 use Rattle.few_replies.specs.Calm.{calm_tagged}
 use Rattle.few_replies.specs.Client.{ByContents}
-use Rattle.segment_model.specs.Ends.{Outcome}
-use Rattle.segment_model.specs.Record.{Frame, heard}
-use Rattle.segment_model.specs.Seats.{Seat, link_of, seat_steps}
-use Rattle.segment_model.specs.Slaves.{serving, Registers, Processor, Slave, state_told, slave_steps}
-use Rattle.segment_model.proofs.Sounds.{step_agrees}
-use Rattle.serving_model.specs.Erasing.{node_as, slave_as, out_as}
-use Rattle.serving_model.specs.Tagged.{IsServed, Tagged, Asked, Rowed, real, ideal, ideal_in, rows_done}
-use Rattle.serving_model.specs.TaggedStates.{IsStatedServed, told_state, tagged_states}
-use Rattle.serving_model.proofs.Erasing.{looked-as, serve-as}
-use Rattle.serving_model.proofs.TaggedLaw.{same-is}
-use Rattle.state_model.specs.Stated.{Stated, IsStated, Act, acts, Service, Counting, with_states}
-use Rattle.state_model.proofs.Acts.{acts_append}
-use Rattle.state_model.specs.Promises.{IsTable, state_behind}
-use Rattle.state_model.specs.States.{Table, Phase, carry}
-use Rattle.state_model.specs.Accounts.{Account, Duty, Stage}
-use Rattle.state_model.specs.Promise.{services_in}
-use Rattle.state_model.proofs.Carries.{StaysOr}
-use Rattle.state_model.proofs.Ghosts as Ghosts
-use Rattle.state_model.proofs.Ghosts.{counting, starts_of, Staged, Carried}
-use Rattle.state_model.proofs.Moves.{in_hand}
-use Rattle.state_model.proofs.Newest.{Holds}
-use Rattle.state_model.proofs.Served.{duty_of}
-use Rattle.state_model.proofs.Stately.{StageStep, StateStep, state_over, step_state}
-use Rattle.state_model.proofs.Stepped.{Shifts, carried_tells}
+use Rattle.master_hand.specs.of_segment_model.Ends.{Outcome}
+use Rattle.master_hand.specs.of_segment_model.Record.{Frame, heard}
+use Rattle.master_hand.specs.of_segment_model.Seats.{Seat, link_of, seat_steps}
+use Rattle.master_hand.specs.of_segment_model.Slaves.{serving, Registers, Processor, Slave, state_told, slave_steps}
+use Rattle.few_replies.proofs.of_segment_model.Sounds.{step_agrees}
+use Rattle.master_hand.specs.of_serving_model.Erasing.{node_as, slave_as, out_as}
+use Rattle.master_hand.specs.of_serving_model.Tagged.{IsServed, Tagged, Asked, Rowed, real, ideal, ideal_in, rows_done}
+use Rattle.master_hand.specs.of_serving_model.TaggedStates.{IsStatedServed, told_state, tagged_states}
+use Rattle.few_replies.proofs.of_serving_model.Erasing.{looked-as, serve-as}
+use Rattle.few_replies.proofs.of_serving_model.TaggedLaw.{same-is}
+use Rattle.master_hand.specs.of_state_model.Stated.{Stated, IsStated, Act, acts, Service, Counting, with_states}
+use Rattle.few_replies.proofs.of_state_model.Acts.{acts_append}
+use Rattle.master_hand.specs.of_state_model.Promises.{IsTable, state_behind}
+use Rattle.master_hand.specs.of_state_model.States.{Table, Phase, carry}
+use Rattle.master_hand.specs.of_state_model.Accounts.{Account, Duty, Stage}
+use Rattle.master_hand.specs.of_state_model.Promise.{services_in}
+use Rattle.few_replies.proofs.of_state_model.Carries.{StaysOr}
+use Rattle.few_replies.proofs.of_state_model.Ghosts as Ghosts
+use Rattle.few_replies.proofs.of_state_model.Ghosts.{counting, starts_of, Staged, Carried}
+use Rattle.few_replies.proofs.of_state_model.Moves.{in_hand}
+use Rattle.few_replies.proofs.of_state_model.Newest.{Holds}
+use Rattle.few_replies.proofs.of_state_model.Served.{duty_of}
+use Rattle.few_replies.proofs.of_state_model.Stately.{StageStep, StateStep, state_over, step_state}
+use Rattle.few_replies.proofs.of_state_model.Stepped.{Shifts, carried_tells}
 use Rattle.life_counts.specs.Foreseen.{AllRight}
 use Rattle.life_counts.proofs.Rights.{Between, IsRight, alike, rows_between, next_right, accepted_tells}
 

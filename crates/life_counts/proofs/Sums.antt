@@ -1,15 +1,15 @@
 -- Both kinds of gains together.
 use Rattle.std.proofs.Common.{◌≡◌, ℕ, suc, ◌+◌, ◌≤◌, Bool, Option, List, sym, subst, arith}
-use Rattle.exchange_model.specs.Exchange.{Speech}
+use Rattle.master_hand.specs.of_exchange_model.Exchange.{Speech}
 use Rattle.life_counts.specs.Begun.{life_most}
-use Rattle.life_model.specs.Gains.{gains}
-use Rattle.life_model.proofs.Gaining.{next_same, back_grows, lost_same}
-use Rattle.life_model.specs.Lives.{Stand, Life, Spot, life_next, life_back, life_lost, passes}
+use Rattle.few_replies.specs.of_life_model.Gains.{gains}
+use Rattle.few_replies.proofs.of_life_model.Gaining.{next_same, back_grows, lost_same}
+use Rattle.few_replies.specs.of_life_model.Lives.{Stand, Life, Spot, life_next, life_back, life_lost, passes}
 use Rattle.few_replies.specs.Steps.{steps_left, IsUnderWay}
 use Rattle.few_replies.proofs.PassingSteps as Steps
-use Rattle.segment_model.specs.Record.{News}
-use Rattle.segment_model.specs.Slaves.{Datagram, Found}
-use Rattle.state_model.specs.Accounts.{Pick}
+use Rattle.master_hand.specs.of_segment_model.Record.{News}
+use Rattle.master_hand.specs.of_segment_model.Slaves.{Datagram, Found}
+use Rattle.master_hand.specs.of_state_model.Accounts.{Pick}
 use Rattle.life_counts.specs.Served.{served_gains, served_most}
 
 module _ {M Q R : Type 0} (x : Speech M Q R) (acknowledged : Q → Bool) (more : M → Bool) (passed : Q → Bool) where

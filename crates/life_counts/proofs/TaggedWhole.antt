@@ -1,20 +1,20 @@
 -- OF A SPEAKER: the exchange that sees what is meant by its mails keeps its laws, and an epoch that its master leads is seen so.
 use Rattle.std.proofs.Common.{◌≡◌, ℕ, Bool, Option, List, [], ◌∷◌}
-use Rattle.exchange_model.specs.Exchange.{Exchange, IsLawful}
-use Rattle.life_model.specs.Eras.{planned}
-use Rattle.life_model.specs.Lives.{Spot, Era}
+use Rattle.master_hand.specs.of_exchange_model.Exchange.{Exchange, IsLawful}
+use Rattle.few_replies.specs.of_life_model.Eras.{planned}
+use Rattle.few_replies.specs.of_life_model.Lives.{Spot, Era}
 use Rattle.few_replies.proofs.Silences.{answered}
 use Rattle.few_replies.proofs.Turns.{heard_law}
 use Rattle.few_replies.specs.Led.{IsLed}
 use Rattle.few_replies.specs.Silent.{is_passed}
-use Rattle.segment_model.specs.Record.{Frame}
-use Rattle.segment_model.specs.Slaves.{Registers, Processor, Slave}
-use Rattle.serving_model.specs.Tagged.{Rowed}
-use Rattle.serving_model.proofs.StatesLaw.{tagged_stated}
-use Rattle.state_model.specs.Stated.{IsStated}
-use Rattle.state_model.specs.States.{Table}
+use Rattle.master_hand.specs.of_segment_model.Record.{Frame}
+use Rattle.master_hand.specs.of_segment_model.Slaves.{Registers, Processor, Slave}
+use Rattle.master_hand.specs.of_serving_model.Tagged.{Rowed}
+use Rattle.few_replies.proofs.of_serving_model.StatesLaw.{tagged_stated}
+use Rattle.master_hand.specs.of_state_model.Stated.{IsStated}
+use Rattle.master_hand.specs.of_state_model.States.{Table}
 use Rattle.life_counts.proofs.Stated.{calm_stated}
-use Rattle.state_model.specs.Tasks.{IsTaskPlan}
+use Rattle.master_hand.specs.of_state_model.Tasks.{IsTaskPlan}
 use Rattle.life_counts.specs.Epochs.{Speaker, IsSpeaker, IsRun, IsSeen, AllFair, between, seeing, seeing_states}
 use Rattle.life_counts.proofs.Sessions.{seen_so}
 

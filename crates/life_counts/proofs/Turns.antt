@@ -1,34 +1,34 @@
 -- ONE TURN of an epoch, with what is meant by its mails.
 use Rattle.std.proofs.Common.{◌≡◌, inl, inr, ℕ, suc, ◌<◌, ◌≤◌, Bool, true, false, Option, Some, List, [], ◌∷◌, ◌++◌, length, refl, ap, sym, ◌∙◌, subst, arith, length-append, if◌then◌else◌}
-use Rattle.exchange_model.specs.Exchange.{Exchange, Speech, IsLawful}
-use Rattle.life_model.specs.Eras.{EraIs, era_frames}
-use Rattle.life_model.specs.Lives.{Spot, Era, AsksOpen, ReadsFull, granted, era_next, era_after}
-use Rattle.life_model.specs.Own as Own
-use Rattle.life_model.specs.Own.{own_fate, own_frame}
-use Rattle.life_model.proofs.Eras as LifeEras
-use Rattle.life_model.proofs.Eras.{frames_push}
-use Rattle.link_model.specs.Frames.{IsFrameFor, all_accepted}
-use Rattle.link_model.specs.Segment.{RingFate}
+use Rattle.master_hand.specs.of_exchange_model.Exchange.{Exchange, Speech, IsLawful}
+use Rattle.few_replies.specs.of_life_model.Eras.{EraIs, era_frames}
+use Rattle.few_replies.specs.of_life_model.Lives.{Spot, Era, AsksOpen, ReadsFull, granted, era_next, era_after}
+use Rattle.few_replies.specs.of_life_model.Own as Own
+use Rattle.few_replies.specs.of_life_model.Own.{own_fate, own_frame}
+use Rattle.few_replies.proofs.of_life_model.Eras as LifeEras
+use Rattle.few_replies.proofs.of_life_model.Eras.{frames_push}
+use Rattle.few_replies.specs.of_link_model.Frames.{IsFrameFor, all_accepted}
+use Rattle.few_replies.specs.of_link_model.Segment.{RingFate}
 use Rattle.few_replies.specs.Calm.{calm_tagged}
 use Rattle.few_replies.specs.Client.{ByContents}
 use Rattle.few_replies.specs.Erased.{halves_as}
 use Rattle.few_replies.specs.Led.{counted_news, AreSingle}
 use Rattle.few_replies.specs.Silent.{is_passed}
-use Rattle.segment_model.specs.Record.{Frame, News, Kept, frame_news, kept_all, nothing_kept, news_each, joined, mails_heard, heard, is_for}
-use Rattle.segment_model.specs.Seats.{Side, side_begins, side_holds, next_mail}
-use Rattle.segment_model.specs.Slaves.{Registers, Processor, Slave, Datagram, Ring, grams, ring_after, ring_back, ring_steps, slave_steps}
-use Rattle.segment_model.proofs.Answers.{news_each-push}
-use Rattle.segment_model.proofs.News.{heard_frame, mails_heard-append, joined-append}
-use Rattle.segment_model.proofs.Sounds.{began_halves}
-use Rattle.serving_model.specs.Erasing.{slave_as, all_as}
-use Rattle.serving_model.specs.Passing.{LastTells}
-use Rattle.serving_model.specs.Tagged.{IsServed, Tagged, Asked, Rowed, real}
-use Rattle.serving_model.specs.TaggedStates.{IsStatedServed, tagged_states, asked_acknowledged}
-use Rattle.state_model.specs.Stated.{Stated, IsStated}
-use Rattle.state_model.specs.States.{Table, carry}
-use Rattle.state_model.specs.Accounts as Accounts
-use Rattle.state_model.specs.Accounts.{Pick, duty_access}
-use Rattle.state_model.specs.Promise.{services_in}
+use Rattle.master_hand.specs.of_segment_model.Record.{Frame, News, Kept, frame_news, kept_all, nothing_kept, news_each, joined, mails_heard, heard, is_for}
+use Rattle.master_hand.specs.of_segment_model.Seats.{Side, side_begins, side_holds, next_mail}
+use Rattle.master_hand.specs.of_segment_model.Slaves.{Registers, Processor, Slave, Datagram, Ring, grams, ring_after, ring_back, ring_steps, slave_steps}
+use Rattle.few_replies.proofs.of_segment_model.Answers.{news_each-push}
+use Rattle.few_replies.proofs.of_segment_model.News.{heard_frame, mails_heard-append, joined-append}
+use Rattle.few_replies.proofs.of_segment_model.Sounds.{began_halves}
+use Rattle.master_hand.specs.of_serving_model.Erasing.{slave_as, all_as}
+use Rattle.master_hand.specs.of_serving_model.Passing.{LastTells}
+use Rattle.master_hand.specs.of_serving_model.Tagged.{IsServed, Tagged, Asked, Rowed, real}
+use Rattle.master_hand.specs.of_serving_model.TaggedStates.{IsStatedServed, tagged_states, asked_acknowledged}
+use Rattle.master_hand.specs.of_state_model.Stated.{Stated, IsStated}
+use Rattle.master_hand.specs.of_state_model.States.{Table, carry}
+use Rattle.master_hand.specs.of_state_model.Accounts as Accounts
+use Rattle.master_hand.specs.of_state_model.Accounts.{Pick, duty_access}
+use Rattle.master_hand.specs.of_state_model.Promise.{services_in}
 use Rattle.life_counts.specs.Epochs.{between}
 use Rattle.life_counts.specs.Foreseen.{AllRight}
 use Rattle.life_counts.proofs.Eras.{era_steps, era_knows}

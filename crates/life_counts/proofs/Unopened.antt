@@ -1,11 +1,11 @@
 -- An epoch that was never opened gained nothing.
 use Rattle.std.proofs.Common.{◌≡◌, ℕ, ◌==◌, Bool, true, false, Option, Some, None, List, [], ◌∷◌, ◌++◌, refl, sym, ◌∙◌, if◌then◌else◌}
 use Rattle.std.specs.Prelude.{◌&&◌, nat_lt, length}
-use Rattle.exchange_model.specs.Exchange.{Speech}
-use Rattle.segment_model.specs.Slaves.{Datagram, Found}
-use Rattle.segment_model.specs.Record.{News}
-use Rattle.state_model.specs.Accounts.{Stage, Duty, Pick}
-use Rattle.life_model.specs.Lives.{Era, Life, Stand, Spot, Opening, life_next, life_back, life_lost, gives_up, era_back, opening_back, clears, opens, steps_on, shows_clear, last_step, is_shown, reopens, reopens_at, reopening, opens_state, returns_to_init, new_life}
+use Rattle.master_hand.specs.of_exchange_model.Exchange.{Speech}
+use Rattle.master_hand.specs.of_segment_model.Slaves.{Datagram, Found}
+use Rattle.master_hand.specs.of_segment_model.Record.{News}
+use Rattle.master_hand.specs.of_state_model.Accounts.{Stage, Duty, Pick}
+use Rattle.few_replies.specs.of_life_model.Lives.{Era, Life, Stand, Spot, Opening, life_next, life_back, life_lost, gives_up, era_back, opening_back, clears, opens, steps_on, shows_clear, last_step, is_shown, reopens, reopens_at, reopening, opens_state, returns_to_init, new_life}
 use Rattle.life_counts.specs.Begun.{IsUnopened, AllUnopened, AreUnopened}
 
 all_more : {M Q R : Type 0} (es : List (Era M Q R)) (e : Era M Q R) → AllUnopened es → IsUnopened e → AllUnopened (es ++ e ∷ [])

@@ -1,10 +1,10 @@
 -- A FRAME AND THE STEPS BEHIND IT, for a slave alone in its ring, where it is seen what is meant by mails.
 use Rattle.std.proofs.Common.{◌≡◌, ℕ, zero, suc, ◌≤◌, List, [], ◌∷◌, ◌++◌, refl, ap, ap₂, sym, ◌∙◌, arith}
-use Rattle.exchange_model.specs.Exchange.{Exchange}
-use Rattle.link_model.specs.Segment.{RingFate}
-use Rattle.segment_model.specs.Slaves.{Processor, Datagram, Slave, Ring, grams, slave_after, frame_after, first_meet, ring_after, ring_back, slave_steps, step_at, ring_steps}
-use Rattle.serving_model.specs.Erasing.{slave_as, all_as}
-use Rattle.serving_model.proofs.Erasing.{slave_after-as, frame_after-as}
+use Rattle.master_hand.specs.of_exchange_model.Exchange.{Exchange}
+use Rattle.few_replies.specs.of_link_model.Segment.{RingFate}
+use Rattle.master_hand.specs.of_segment_model.Slaves.{Processor, Datagram, Slave, Ring, grams, slave_after, frame_after, first_meet, ring_after, ring_back, slave_steps, step_at, ring_steps}
+use Rattle.master_hand.specs.of_serving_model.Erasing.{slave_as, all_as}
+use Rattle.few_replies.proofs.of_serving_model.Erasing.{slave_after-as, frame_after-as}
 use Rattle.life_counts.proofs.Frames.{ToIt, frame_to}
 use Rattle.life_counts.proofs.Overs.{asks, after_asks}
 

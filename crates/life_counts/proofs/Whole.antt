@@ -1,20 +1,20 @@
 -- What a whole life has gained.
 use Rattle.std.proofs.Common.{◌≡◌, ℕ, ◌+◌, ◌≤◌, false, List, [], ◌∷◌, take, length, refl, sym, ap, ◌∙◌, subst, arith}
-use Rattle.exchange_model.specs.Rows.{exec_all}
-use Rattle.link_mails.specs.Body.{Body}
-use Rattle.segment_model.specs.Record.{Frame}
-use Rattle.segment_model.specs.Slaves.{Registers, Slave}
-use Rattle.state_model.specs.States.{Table}
-use Rattle.state_model.specs.Stated.{Service, with_states}
-use Rattle.state_model.specs.Promise.{services_in}
-use Rattle.life_model.specs.Gains.{era_gains, eras_gains, gains}
-use Rattle.life_model.specs.Eras.{Clearing, EraIs, OpenEra}
-use Rattle.life_model.specs.Lives.{Spot, Era, Life, Opening, Stand}
+use Rattle.master_hand.specs.of_exchange_model.Rows.{exec_all}
+use Rattle.few_replies.specs.of_link_mails.Body.{Body}
+use Rattle.master_hand.specs.of_segment_model.Record.{Frame}
+use Rattle.master_hand.specs.of_segment_model.Slaves.{Registers, Slave}
+use Rattle.master_hand.specs.of_state_model.States.{Table}
+use Rattle.master_hand.specs.of_state_model.Stated.{Service, with_states}
+use Rattle.master_hand.specs.of_state_model.Promise.{services_in}
+use Rattle.few_replies.specs.of_life_model.Gains.{era_gains, eras_gains, gains}
+use Rattle.few_replies.specs.of_life_model.Eras.{Clearing, EraIs, OpenEra}
+use Rattle.few_replies.specs.of_life_model.Lives.{Spot, Era, Life, Opening, Stand}
 use Rattle.whole_ring.specs.of_slave_lives.Ends.{LeftEra, LeftEras}
 use Rattle.whole_ring.specs.of_slave_lives.Lived.{Behind, table_of, node_seen, LivesEra}
 use Rattle.whole_ring.specs.of_slave_lives.Opening.{Plan}
 use Rattle.whole_ring.specs.of_slave_lives.Stands.{opening_again}
-use Rattle.slave_node.specs.Node.{Node}
+use Rattle.slave_server.specs.of_slave_node.Node.{Node}
 use Rattle.whole_ring.specs.Whole.{OwesLaws, OpensAs, OpensBy, StandsAs, IsLived}
 use Rattle.life_counts.proofs.Epoch.{epoch_within, epoch_app}
 use Rattle.life_counts.proofs.Lasts.{idle_one, gains_last, most_last, all_before, the_last}

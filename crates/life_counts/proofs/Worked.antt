@@ -1,18 +1,18 @@
 -- What a life has gained whose epochs are sessions.
 use Rattle.std.proofs.Common.{◌≡◌, ℕ, ◌+◌, ◌≤◌, List, [], ◌∷◌, take, refl, sym, ap, ◌∙◌, subst, arith}
-use Rattle.exchange_model.specs.Exchange.{Exchange, IsLawful}
-use Rattle.exchange_model.specs.Rows.{exec_all}
+use Rattle.master_hand.specs.of_exchange_model.Exchange.{Exchange, IsLawful}
+use Rattle.master_hand.specs.of_exchange_model.Rows.{exec_all}
 use Rattle.life_counts.specs.Begun.{era_most, eras_most, life_most, IsUnopened, AllUnopened, AreUnopened}
 use Rattle.life_counts.proofs.Epoch.{epoch_within, epoch_app}
 use Rattle.life_counts.proofs.Lasts.{idle_one, gains_last, most_last, all_before, the_last}
-use Rattle.life_model.specs.Gains.{era_gains, eras_gains, gains}
-use Rattle.life_model.specs.Eras.{Clearing, WasOpen, OpenEra}
-use Rattle.life_model.specs.Lives.{Spot, Era, Life}
-use Rattle.segment_model.specs.Record.{Frame}
-use Rattle.segment_model.specs.Slaves.{Processor}
-use Rattle.state_model.specs.Stated.{Stated, IsStated, Service, with_states}
-use Rattle.state_model.specs.States.{Table}
-use Rattle.state_model.specs.Promise.{services_in}
+use Rattle.few_replies.specs.of_life_model.Gains.{era_gains, eras_gains, gains}
+use Rattle.few_replies.specs.of_life_model.Eras.{Clearing, WasOpen, OpenEra}
+use Rattle.few_replies.specs.of_life_model.Lives.{Spot, Era, Life}
+use Rattle.master_hand.specs.of_segment_model.Record.{Frame}
+use Rattle.master_hand.specs.of_segment_model.Slaves.{Processor}
+use Rattle.master_hand.specs.of_state_model.Stated.{Stated, IsStated, Service, with_states}
+use Rattle.master_hand.specs.of_state_model.States.{Table}
+use Rattle.master_hand.specs.of_state_model.Promise.{services_in}
 use Rattle.life_counts.specs.Worked.{KeepsAll, AllWorked, IsNewest, IsWorked}
 
 module _ {V A M Q R K : Type 0} (x : Exchange V A M Q R) (lawful : IsLawful x) (s : Stated V A Q) (stated : IsStated x s) (processor : Processor V) (table : ℕ → Table) (spot : Spot) (c : Clearing V A)

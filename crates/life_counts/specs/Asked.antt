@@ -1,7 +1,7 @@
 -- HOW MANY MAILS WHAT A MASTER ASKS FOR TAKES, by the shape of the slave.
 use Rattle.std.specs.Prelude.{ℕ}
 use Rattle.master_hand.specs.Spoken.{Asked, sdo, file, drive, net, passed}
-use Rattle.slave_model.specs.Profile.{Protocol, Profile}
+use Rattle.few_replies.specs.of_slave_model.Profile.{Protocol, Profile}
 use Rattle.few_replies.specs.Shapes.{Shape, shape_most}
 
 -- a mail that is passed on is no service of a plan

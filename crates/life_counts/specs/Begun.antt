@@ -1,11 +1,11 @@
 -- WHAT THE SERVICES COUNT THAT CAME INTO HAND, of which each by mails takes so many at most.
 use Rattle.std.specs.Prelude.{◌≡◌, ◌≢◌, ℕ, ◌+◌, None, List, [], ◌∷◌, sum_by, ⊤}
 use Rattle.few_replies.specs.RowCounts.{AreCounted}
-use Rattle.state_model.specs.Stated.{Service}
-use Rattle.state_model.specs.Promise.{services_in}
-use Rattle.life_model.specs.Gains.{era_gains}
-use Rattle.life_model.specs.Eras.{Clearing}
-use Rattle.life_model.specs.Lives.{Era, Life, Stand}
+use Rattle.master_hand.specs.of_state_model.Stated.{Service}
+use Rattle.master_hand.specs.of_state_model.Promise.{services_in}
+use Rattle.few_replies.specs.of_life_model.Gains.{era_gains}
+use Rattle.few_replies.specs.of_life_model.Eras.{Clearing}
+use Rattle.few_replies.specs.of_life_model.Lives.{Era, Life, Stand}
 use Rattle.whole_ring.specs.of_slave_lives.Lived.{Behind}
 
 -- one service: a state service has its control word and five steps

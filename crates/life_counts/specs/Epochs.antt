@@ -1,26 +1,26 @@
 -- AN EPOCH AS A MASTER LEADS IT, and the same with what is meant by its mails.
 use Rattle.std.specs.Prelude.{◌≡◌, ℕ, Bool, true, is_some, Option, Some, None, List, [], ◌∷◌, map, length, ⊤}
-use Rattle.exchange_model.specs.Exchange.{Exchange, IsLawful}
-use Rattle.exchange_model.specs.Rows.{ends_unheard}
-use Rattle.life_model.specs.Eras.{EraIs, era_frames}
-use Rattle.life_model.specs.Lives.{Spot, Era}
+use Rattle.master_hand.specs.of_exchange_model.Exchange.{Exchange, IsLawful}
+use Rattle.master_hand.specs.of_exchange_model.Rows.{ends_unheard}
+use Rattle.few_replies.specs.of_life_model.Eras.{EraIs, era_frames}
+use Rattle.few_replies.specs.of_life_model.Lives.{Spot, Era}
 use Rattle.few_replies.specs.Calm.{calm_tagged}
 use Rattle.few_replies.specs.Client.{ByContents}
 use Rattle.few_replies.specs.Erased.{frame_as, row_seen, OfRow, PlanOne, EndOne}
 use Rattle.few_replies.specs.Led.{IsLed, RepliesFirst}
 use Rattle.few_replies.specs.Silent.{is_passed}
 use Rattle.few_replies.specs.Heard.{EraPasses}
-use Rattle.segment_model.specs.Record.{Frame}
-use Rattle.segment_model.specs.Slaves.{Registers, Processor, Slave}
-use Rattle.serving_model.specs.Erasing.{slave_as}
-use Rattle.serving_model.specs.Passing.{LastTells}
-use Rattle.serving_model.specs.Tagged.{IsServed, Tagged, Asked, Rowed, real}
-use Rattle.serving_model.specs.TaggedStates.{IsStatedServed, tagged_states}
-use Rattle.state_model.specs.Stated.{Stated, Service}
-use Rattle.state_model.specs.States.{Table, carry}
+use Rattle.master_hand.specs.of_segment_model.Record.{Frame}
+use Rattle.master_hand.specs.of_segment_model.Slaves.{Registers, Processor, Slave}
+use Rattle.master_hand.specs.of_serving_model.Erasing.{slave_as}
+use Rattle.master_hand.specs.of_serving_model.Passing.{LastTells}
+use Rattle.master_hand.specs.of_serving_model.Tagged.{IsServed, Tagged, Asked, Rowed, real}
+use Rattle.master_hand.specs.of_serving_model.TaggedStates.{IsStatedServed, tagged_states}
+use Rattle.master_hand.specs.of_state_model.Stated.{Stated, Service}
+use Rattle.master_hand.specs.of_state_model.States.{Table, carry}
 use Rattle.life_counts.specs.Seen.{era_seen}
-use Rattle.state_model.specs.Accounts.{Started}
-use Rattle.state_model.specs.Promise.{services_in}
+use Rattle.master_hand.specs.of_state_model.Accounts.{Started}
+use Rattle.master_hand.specs.of_state_model.Promise.{services_in}
 use Rattle.life_counts.specs.Foreseen.{AllRight}
 use Rattle.life_counts.specs.Spoken.{Naming, IsPassed, Speaks}
 

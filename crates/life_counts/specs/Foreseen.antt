@@ -1,11 +1,11 @@
 -- WHICH MAILS THAT ARE PASSED ON ARE FORESEEN AS ANSWERED: just those that the server replies to that they come to.
 use Rattle.std.specs.Prelude.{List, [], ◌∷◌, ⊤}
-use Rattle.exchange_model.specs.Exchange.{Exchange}
+use Rattle.master_hand.specs.of_exchange_model.Exchange.{Exchange}
 use Rattle.few_replies.specs.Silent.{IsForeseenRight}
-use Rattle.serving_model.specs.Tagged.{Asked, asked_exec}
-use Rattle.state_model.specs.Stated.{Stated, Service}
-use Rattle.state_model.specs.Promises.{state_behind}
-use Rattle.state_model.specs.States.{Table}
+use Rattle.master_hand.specs.of_serving_model.Tagged.{Asked, asked_exec}
+use Rattle.master_hand.specs.of_state_model.Stated.{Stated, Service}
+use Rattle.master_hand.specs.of_state_model.Promises.{state_behind}
+use Rattle.master_hand.specs.of_state_model.States.{Table}
 
 module _ {V M Q R : Type 0} (x : Exchange V V M Q R) (s : Stated V V Q) (table : Table) where
   -- of one, at this server

@@ -1,11 +1,11 @@
 -- A LIFE AS ANOTHER SEES IT, who has other forms of its mails, other names of its services and other forms of their replies: as a master sees one in
 -- which mails have tags.
 use Rattle.std.specs.Prelude.{map}
-use Rattle.life_model.specs.Lives.{Era, Life}
+use Rattle.few_replies.specs.of_life_model.Lives.{Era, Life}
 use Rattle.few_replies.specs.Erased.{side_seen}
-use Rattle.segment_model.specs.Ends.{Outcome}
-use Rattle.state_model.specs.Stated.{Service}
-use Rattle.state_model.specs.Accounts.{Account, Change, Started}
+use Rattle.master_hand.specs.of_segment_model.Ends.{Outcome}
+use Rattle.master_hand.specs.of_state_model.Stated.{Service}
+use Rattle.master_hand.specs.of_state_model.Accounts.{Account, Change, Started}
 
 -- a service, by mails or of the AL state
 abbrev pub service_seen : {P Q : Type 0} → (P → Q) → Service P → Service Q

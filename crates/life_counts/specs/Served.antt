@@ -1,8 +1,8 @@
 -- WHAT A LIFE OF A SERVING HAS GAINED: its mails and the steps of its state services, and how far the mails that are passed on have come.
 use Rattle.std.specs.Prelude.{ℕ, ◌+◌, ◌*◌, Bool}
 use Rattle.life_counts.specs.Begun.{life_most}
-use Rattle.life_model.specs.Gains.{gains}
-use Rattle.life_model.specs.Lives.{Life}
+use Rattle.few_replies.specs.of_life_model.Gains.{gains}
+use Rattle.few_replies.specs.of_life_model.Lives.{Life}
 use Rattle.few_replies.specs.Steps.{life_steps, life_passed}
 
 -- both

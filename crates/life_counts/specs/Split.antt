@@ -1,12 +1,12 @@
 -- WHAT A SERVICE OF A PLAN COUNTS, its own mails apart from the packet that enters the switch by it.
 use Rattle.std.specs.Prelude.{ℕ, ◌+◌, ◌*◌, ◌==◌, ◌&&◌, if◌then◌else◌, length}
-use Rattle.eoe.specs.Cutting.{blocks_of}
-use Rattle.object_dictionary.specs.declared.service.SdoService.{SdoService}
-use Rattle.object_dictionary.specs.declared.service.SdoService.TheVariants.{Download}
-use Rattle.segment_plan.specs.Bound.{sdo_size, size_of, mails_of, busy_of, state_work}
-use Rattle.segment_plan.specs.declared.slave.SlaveSpec.{SlaveSpec}
-use Rattle.segment_plan.specs.declared.service.Service.{Service}
-use Rattle.segment_plan.specs.declared.service.Service.TheVariants.{Sdo, WriteFile, State, Forward}
+use Rattle.master_hand.specs.of_eoe.Cutting.{blocks_of}
+use Rattle.master_hand.specs.of_object_dictionary.declared.service.SdoService.{SdoService}
+use Rattle.master_hand.specs.of_object_dictionary.declared.service.SdoService.TheVariants.{Download}
+use Rattle.master_hand.specs.of_segment_plan.Bound.{sdo_size, size_of, mails_of, busy_of, state_work}
+use Rattle.master_hand.specs.of_segment_plan.declared.slave.SlaveSpec.{SlaveSpec}
+use Rattle.master_hand.specs.of_segment_plan.declared.service.Service.{Service}
+use Rattle.master_hand.specs.of_segment_plan.declared.service.Service.TheVariants.{Sdo, WriteFile, State, Forward}
 
 -- its own mails, or the steps of a change of state with what a return to Init takes
 abbrev pub own_work : SlaveSpec → Service → ℕ

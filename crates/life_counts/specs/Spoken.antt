@@ -1,8 +1,8 @@
 -- A MASTER'S NAMES of services and of mails that are passed on: what it speaks by them is what their own clients do.
 use Rattle.std.specs.Prelude.{◌≡◌, ◌⊎◌, Bool, true, false, if◌then◌else◌, Option, None, Some, option_map, List, [], ◌∷◌}
-use Rattle.exchange_model.specs.Exchange.{Speech}
-use Rattle.serving_model.specs.Passing.{ends_told}
-use Rattle.serving_model.specs.Tagged.{Asked}
+use Rattle.master_hand.specs.of_exchange_model.Exchange.{Speech}
+use Rattle.master_hand.specs.of_serving_model.Passing.{ends_told}
+use Rattle.master_hand.specs.of_serving_model.Tagged.{Asked}
 
 -- a master's speech, its names, and what it knows of services: which end with an acknowledgement, which pass a mail on, and which mails are followed by others
 pub record Naming (M Q T R : Type 0) : Type 0 where

@@ -1,13 +1,13 @@
 -- A LIFE WHOSE EPOCHS ARE SESSIONS of an exchange, whatever its mails are.
 use Rattle.std.specs.Prelude.{◌≡◌, ℕ, None, List, [], ◌∷◌, ◌++◌}
-use Rattle.exchange_model.specs.Exchange.{Exchange}
-use Rattle.life_model.specs.Eras.{Clearing, WasOpen}
-use Rattle.life_model.specs.Lives.{Spot, Era, Life}
+use Rattle.master_hand.specs.of_exchange_model.Exchange.{Exchange}
+use Rattle.few_replies.specs.of_life_model.Eras.{Clearing, WasOpen}
+use Rattle.few_replies.specs.of_life_model.Lives.{Spot, Era, Life}
 use Rattle.few_replies.specs.RowCounts.{AreCounted}
-use Rattle.segment_model.specs.Record.{Frame}
-use Rattle.segment_model.specs.Slaves.{Processor}
-use Rattle.state_model.specs.Stated.{Stated}
-use Rattle.state_model.specs.States.{Table}
+use Rattle.master_hand.specs.of_segment_model.Record.{Frame}
+use Rattle.master_hand.specs.of_segment_model.Slaves.{Processor}
+use Rattle.master_hand.specs.of_state_model.Stated.{Stated}
+use Rattle.master_hand.specs.of_state_model.States.{Table}
 
 -- WHAT NO SERVICE CHANGES of an application, nor a change of the AL state, nor a return to Init; and what each service takes at most by it
 pub record KeepsAll {V A M Q R K : Type 0} (x : Exchange V A M Q R) (s : Stated V A Q) (c : Clearing V A) (shape : A → K) (count : K → Q → ℕ) : Type 0 where

@@ -8,22 +8,24 @@ pub mod served_gains;
 pub mod tagged_epochs;
 pub mod tagged_lives;
 
-ghost use Rattle.exchange_model.specs.Exchange.{Speech};
+ghost use Rattle.master_hand.specs.of_exchange_model.Exchange.{Speech};
 ghost use Rattle.few_replies.specs.RowCounts.{AreCounted};
 ghost use Rattle.life_counts.specs.Begun.{begun_most, life_most, KeepsShape, AreUnopened};
-ghost use Rattle.life_model.specs.Gains.{era_gains, gains};
-ghost use Rattle.life_model.specs.Eras.{Clearing, OpenEra};
-ghost use Rattle.life_model.specs.Lives.{Spot, Life, new_life, life_next, life_back, life_lost, gives_up};
-ghost use Rattle.link_mails.specs.Body.{Body};
-ghost use Rattle.segment_model.specs.Record.{Frame, News};
-ghost use Rattle.segment_model.specs.Slaves.{Datagram, Found};
+ghost use Rattle.few_replies.specs.of_life_model.Gains.{era_gains, gains};
+ghost use Rattle.few_replies.specs.of_life_model.Eras.{Clearing, OpenEra};
+ghost use Rattle.few_replies.specs.of_life_model.Lives.{Spot, Life, new_life, life_next, life_back, life_lost, gives_up};
+ghost use Rattle.few_replies.specs.of_link_mails.Body.{Body};
+ghost use Rattle.master_hand.specs.of_segment_model.Record.{Frame, News};
+ghost use Rattle.master_hand.specs.of_segment_model.Slaves.{Datagram, Found};
 ghost use Rattle.whole_ring.specs.of_slave_lives.Lived.{Behind};
 ghost use Rattle.whole_ring.specs.of_slave_lives.Opening.{Plan};
-ghost use Rattle.slave_node.specs.Node.{Node};
+ghost use Rattle.slave_server.specs.of_slave_node.Node.{Node};
 ghost use Rattle.std.specs.Prelude.{◌≡◌, ◌≤◌, ◌+◌, ℕ, Bool, Option, List};
-ghost use Rattle.state_model.specs.Accounts.{Pick};
-ghost use Rattle.state_model.specs.Promise.{services_in};
+ghost use Rattle.master_hand.specs.of_state_model.Accounts.{Pick};
+ghost use Rattle.master_hand.specs.of_state_model.Promise.{services_in};
 ghost use Rattle.whole_ring.specs.Whole.{OwesLaws, IsLived};
+
+pub use few_replies;
 
 /// WHAT AN EPOCH HAS GAINED, in mails and in steps of state services, is no more than what its services count: each by mails what it takes at most, a
 /// state service six.

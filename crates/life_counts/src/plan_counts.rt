@@ -4,10 +4,10 @@
 ghost use Rattle.std.specs.Prelude.{◌≡◌, ◌≤◌, ◌+◌, ℕ, Some};
 ghost use Rattle.master_hand.specs.Spoken.{Asked};
 ghost use Rattle.master_hand.specs.Talk.{asked_of};
-ghost use Rattle.segment_plan.specs.declared.slave.SlaveSpec.{SlaveSpec};
-ghost use Rattle.segment_plan.specs.declared.service.Service as Plan;
-ghost use Rattle.segment_plan.specs.Bound.{work_of};
-ghost use Rattle.segment_plan.specs.Sound.{IsSlave, IsService};
+ghost use Rattle.master_hand.specs.of_segment_plan.declared.slave.SlaveSpec.{SlaveSpec};
+ghost use Rattle.master_hand.specs.of_segment_plan.declared.service.Service as Plan;
+ghost use Rattle.master_hand.specs.of_segment_plan.Bound.{work_of};
+ghost use Rattle.master_hand.specs.of_segment_plan.Sound.{IsSlave, IsService};
 ghost use Rattle.slave_server.specs.Spec.{core_of, profile_of};
 ghost use Rattle.few_replies.specs.Shapes.{shape_of};
 ghost use Rattle.life_counts.specs.Asked.{asked_most};

@@ -2,14 +2,14 @@
 //! contract states the law.
 
 ghost use Rattle.std.specs.Prelude.{◌≡◌, ◌≤◌, ◌+◌, ℕ, suc, Bool, Option, List};
-ghost use Rattle.exchange_model.specs.Exchange.{Speech};
+ghost use Rattle.master_hand.specs.of_exchange_model.Exchange.{Speech};
 ghost use Rattle.life_counts.specs.Begun.{life_most};
-ghost use Rattle.life_model.specs.Gains.{gains};
-ghost use Rattle.life_model.specs.Lives.{Stand, Life, Spot, life_next, life_back, life_lost, gives_up, passes};
+ghost use Rattle.few_replies.specs.of_life_model.Gains.{gains};
+ghost use Rattle.few_replies.specs.of_life_model.Lives.{Stand, Life, Spot, life_next, life_back, life_lost, gives_up, passes};
 ghost use Rattle.few_replies.specs.Steps.{steps_left, IsUnderWay};
-ghost use Rattle.segment_model.specs.Record.{News};
-ghost use Rattle.segment_model.specs.Slaves.{Datagram, Found};
-ghost use Rattle.state_model.specs.Accounts.{Pick};
+ghost use Rattle.master_hand.specs.of_segment_model.Record.{News};
+ghost use Rattle.master_hand.specs.of_segment_model.Slaves.{Datagram, Found};
+ghost use Rattle.master_hand.specs.of_state_model.Accounts.{Pick};
 ghost use Rattle.life_counts.specs.Served.{served_gains, served_most};
 
 /// WHAT A LIFE OF A SERVING HAS GAINED NEVER FALLS: a service or a mail that comes into hand and a give-up leave it, and a frame adds to it what its mails

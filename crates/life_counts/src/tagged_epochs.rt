@@ -2,15 +2,15 @@
 //! Definitions and laws, no running code: the functions here do nothing, and their contracts state the laws.
 
 ghost use Rattle.std.specs.Prelude.{◌≡◌, ℕ, Bool, true, Option, List, [], ◌∷◌};
-ghost use Rattle.exchange_model.specs.Exchange.{Exchange};
-ghost use Rattle.life_model.specs.Eras.{planned};
-ghost use Rattle.life_model.specs.Lives.{Spot, Era};
+ghost use Rattle.master_hand.specs.of_exchange_model.Exchange.{Exchange};
+ghost use Rattle.few_replies.specs.of_life_model.Eras.{planned};
+ghost use Rattle.few_replies.specs.of_life_model.Lives.{Spot, Era};
 ghost use Rattle.few_replies.specs.Led.{IsLed};
-ghost use Rattle.segment_model.specs.Record.{Frame};
-ghost use Rattle.segment_model.specs.Slaves.{Registers, Processor, Slave};
-ghost use Rattle.serving_model.specs.Tagged.{Rowed};
-ghost use Rattle.state_model.specs.States.{Table};
-ghost use Rattle.state_model.specs.Tasks.{IsTaskPlan};
+ghost use Rattle.master_hand.specs.of_segment_model.Record.{Frame};
+ghost use Rattle.master_hand.specs.of_segment_model.Slaves.{Registers, Processor, Slave};
+ghost use Rattle.master_hand.specs.of_serving_model.Tagged.{Rowed};
+ghost use Rattle.master_hand.specs.of_state_model.States.{Table};
+ghost use Rattle.master_hand.specs.of_state_model.Tasks.{IsTaskPlan};
 ghost use Rattle.life_counts.specs.Epochs.{Speaker, IsSpeaker, IsRun, IsSeen, AllFair, between, seeing, seeing_states};
 
 /// AN EPOCH IS A SESSION OF SERVICES AND FAIR MAILS, where each mail that was passed on in it is fair: there is what is meant by each of its mails, so that the

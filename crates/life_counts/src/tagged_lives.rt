@@ -2,17 +2,17 @@
 //! running code: the functions here do nothing, and their contracts state the laws.
 
 ghost use Rattle.std.specs.Prelude.{◌≡◌, ◌≤◌, ◌+◌, ℕ, Bool};
-ghost use Rattle.exchange_model.specs.Exchange.{Exchange, IsLawful};
+ghost use Rattle.master_hand.specs.of_exchange_model.Exchange.{Exchange, IsLawful};
 ghost use Rattle.life_counts.specs.Begun.{life_most, AreUnopened};
-ghost use Rattle.life_model.specs.Gains.{gains};
-ghost use Rattle.life_model.specs.Eras.{Clearing};
-ghost use Rattle.life_model.specs.Lives.{Spot, Life};
+ghost use Rattle.few_replies.specs.of_life_model.Gains.{gains};
+ghost use Rattle.few_replies.specs.of_life_model.Eras.{Clearing};
+ghost use Rattle.few_replies.specs.of_life_model.Lives.{Spot, Life};
 ghost use Rattle.few_replies.specs.Calm.{calm_tagged};
-ghost use Rattle.segment_model.specs.Slaves.{Processor};
-ghost use Rattle.serving_model.specs.Tagged.{tagged};
-ghost use Rattle.serving_model.specs.TaggedStates.{tagged_states};
-ghost use Rattle.state_model.specs.Stated.{Stated, IsStated};
-ghost use Rattle.state_model.specs.States.{Table};
+ghost use Rattle.master_hand.specs.of_segment_model.Slaves.{Processor};
+ghost use Rattle.master_hand.specs.of_serving_model.Tagged.{tagged};
+ghost use Rattle.master_hand.specs.of_serving_model.TaggedStates.{tagged_states};
+ghost use Rattle.master_hand.specs.of_state_model.Stated.{Stated, IsStated};
+ghost use Rattle.master_hand.specs.of_state_model.States.{Table};
 ghost use Rattle.life_counts.specs.Worked.{KeepsAll, IsWorked};
 ghost use Rattle.life_counts.specs.Seen.{life_seen};
 

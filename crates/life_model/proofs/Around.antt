@@ -1,10 +1,10 @@
 -- A frame that comes back brings each live slave nearer, or carries it.
 use Rattle.std.proofs.Common.{◌≡◌, ◌⊎◌, ℕ, zero, suc, ◌<◌, ◌≤◌, ◌==◌, Bool, true, false, cond, Option, Some, None, List, [], ◌∷◌, ◌++◌, length, filter, append_assoc, refl, sym, ap, ◌∙◌, subst, arith, if◌then◌else◌, eqb-true, eq-eqb, inl, inr}
 use Rattle.std.specs.Prelude.{map, nat_lt}
-use Rattle.link_model.specs.Segment.{RingFate}
-use Rattle.segment_model.specs.Slaves.{Datagram}
-use Rattle.segment_model.specs.Record.{Frame}
-use Rattle.segment_model.specs.Visits.{Stop, Fills, Carries, IsVisit, carried, split_behind, is_live, is_among, last_of, visited, opening_after}
+use Rattle.state_model.specs.of_link_model.Segment.{RingFate}
+use Rattle.state_model.specs.of_segment_model.Slaves.{Datagram}
+use Rattle.state_model.specs.of_segment_model.Record.{Frame}
+use Rattle.state_model.specs.of_segment_model.Visits.{Stop, Fills, Carries, IsVisit, carried, split_behind, is_live, is_among, last_of, visited, opening_after}
 use Rattle.life_model.specs.Tours.{Member, Tour, Visits, stops_of, is_live_in, round, tour_after, all_given_up, given_up, lose_one}
 use Rattle.life_model.specs.Rounds.{before, ahead, AreApart, AreOf, IsIn, ComeAgain, GoesRound, AllBack, IsCarriedIn}
 use Rattle.life_model.proofs.Turns.{ahead_less, nearer}

@@ -4,8 +4,8 @@ use Rattle.std.specs.Prelude.{nat_le}
 use Rattle.std.proofs.lemmas.Bool.{le-ltb}
 use Rattle.std.proofs.lemmas.Bool.Decides.{leb_tells}
 use Rattle.std.proofs.lemmas.List.{length-map, take-append-drop, take-append-le}
-use Rattle.exchange_model.specs.Exchange.{Exchange}
-use Rattle.segment_model.specs.Books.{Answer}
+use Rattle.state_model.specs.of_exchange_model.Exchange.{Exchange}
+use Rattle.state_model.specs.of_segment_model.Books.{Answer}
 use Rattle.state_model.specs.States.{Table}
 use Rattle.state_model.specs.Stated.{Stated, Service}
 use Rattle.state_model.specs.Accounts.{Started}

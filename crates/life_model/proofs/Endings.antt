@@ -1,10 +1,10 @@
 -- A slave that meets the word which returns it to Init stays as it stood until the step that carries the word out.
 use Rattle.std.proofs.Common.{◌≡◌, inl, inr, ℕ, zero, suc, ◌≤◌, ◌==◌, Bool, true, false, cond, Some, None, Option, List, [], ◌∷◌, ◌++◌, length, refl, ap, ap₂, sym, ◌∙◌, subst, arith, if◌then◌else◌}
-use Rattle.exchange_model.specs.Exchange.{Exchange}
-use Rattle.link_model.specs.Frames.{node_meets}
-use Rattle.link_model.specs.Segment.{RingFate}
-use Rattle.segment_model.specs.Slaves.{Registers, Processor, Slave, Datagram, Address, Access, Ring, is_meant, registers_met, slave_meets, slave_after, frame_after, slave_steps, first_meet, ring_after}
-use Rattle.segment_model.specs.Record.{is_for}
+use Rattle.state_model.specs.of_exchange_model.Exchange.{Exchange}
+use Rattle.state_model.specs.of_link_model.Frames.{node_meets}
+use Rattle.state_model.specs.of_link_model.Segment.{RingFate}
+use Rattle.state_model.specs.of_segment_model.Slaves.{Registers, Processor, Slave, Datagram, Address, Access, Ring, is_meant, registers_met, slave_meets, slave_after, frame_after, slave_steps, first_meet, ring_after}
+use Rattle.state_model.specs.of_segment_model.Record.{is_for}
 use Rattle.state_model.specs.States.{Table, decided, word_carried, carry}
 use Rattle.life_model.specs.Own.{own, IsSeen, AreSeen}
 use Rattle.life_model.specs.Eras.{Clearing, IsClearing}

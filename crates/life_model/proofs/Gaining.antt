@@ -1,15 +1,15 @@
 -- Gains never fall, and each visit that is done gains.
 use Rattle.std.proofs.Common.{◌≡◌, ℕ, suc, ◌+◌, ◌≤◌, ◌==◌, Bool, true, false, Option, Some, None, List, [], ◌∷◌, ◌++◌, length, refl, ap, ◌∙◌, arith, if◌then◌else◌, length-append, eq-eqb}
 use Rattle.std.specs.Prelude.{◌&&◌, not, option_map}
-use Rattle.exchange_model.specs.Exchange.{Speech}
-use Rattle.exchange_model.specs.Rows.{Row, begun, left, row_heard, row_told}
-use Rattle.link_model.specs.Mails.{LinkMail}
-use Rattle.link_model.specs.Link.{Halves}
-use Rattle.link_model.specs.Frames.{Ask, Gram, halves_after, halves_answered, halves_without, halves_lost, all_accepted}
-use Rattle.segment_model.specs.Slaves.{Datagram, Access, Found, grams}
-use Rattle.segment_model.specs.Record.{News, is_for}
-use Rattle.segment_model.specs.Ends.{Outcome}
-use Rattle.segment_model.specs.Seats.{Side, Choice, side_begins, side_holds, side_next, next_mail, first_left, is_over}
+use Rattle.state_model.specs.of_exchange_model.Exchange.{Speech}
+use Rattle.state_model.specs.of_exchange_model.Rows.{Row, begun, left, row_heard, row_told}
+use Rattle.state_model.specs.of_link_model.Mails.{LinkMail}
+use Rattle.state_model.specs.of_link_model.Link.{Halves}
+use Rattle.state_model.specs.of_link_model.Frames.{Ask, Gram, halves_after, halves_answered, halves_without, halves_lost, all_accepted}
+use Rattle.state_model.specs.of_segment_model.Slaves.{Datagram, Access, Found, grams}
+use Rattle.state_model.specs.of_segment_model.Record.{News, is_for}
+use Rattle.state_model.specs.of_segment_model.Ends.{Outcome}
+use Rattle.state_model.specs.of_segment_model.Seats.{Side, Choice, side_begins, side_holds, side_next, next_mail, first_left, is_over}
 use Rattle.state_model.specs.States.{Phase, Turn, shown}
 use Rattle.state_model.specs.Stated.{Service}
 use Rattle.state_model.specs.Accounts.{Stage, Duty, Change, Account, Pick, Progress, mails_choice, account_begins, account_back, account_met, account_by, access_done, word_done, found_done, turn_progress, is_free, is_acknowledged, starts, state_begins}

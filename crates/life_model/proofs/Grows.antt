@@ -3,9 +3,9 @@ use Rattle.std.proofs.Common.{◌≡◌, ℕ, suc, ◌-◌, ◌<◌, ◌≤◌, 
 use Rattle.std.specs.Prelude.{nat_le, nat_lt}
 use Rattle.std.proofs.lemmas.Bool.{le-ltb}
 use Rattle.std.proofs.lemmas.List.{length-drop, take-append-le}
-use Rattle.exchange_model.specs.Exchange.{Exchange, IsLawful, emitted}
-use Rattle.segment_model.specs.Slaves.{Processor}
-use Rattle.segment_model.specs.Record.{Frame, heard}
+use Rattle.state_model.specs.of_exchange_model.Exchange.{Exchange, IsLawful, emitted}
+use Rattle.state_model.specs.of_segment_model.Slaves.{Processor}
+use Rattle.state_model.specs.of_segment_model.Record.{Frame, heard}
 use Rattle.state_model.specs.States.{Table}
 use Rattle.state_model.specs.Stated.{Stated, IsStated}
 use Rattle.state_model.specs.Accounts.{Started}

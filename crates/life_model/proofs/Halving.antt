@@ -1,12 +1,12 @@
 -- The inward half finds its way back.
 use Rattle.std.proofs.Common.{◌≡◌, ◌⊎◌, ℕ, ◌+◌, ◌*◌, ◌≤◌, ◌==◌, Bool, true, false, Option, Some, None, List, [], ◌∷◌, refl, sym, ap, ◌∙◌, subst, arith, if◌then◌else◌, inl, inr, eq-eqb}
-use Rattle.exchange_model.specs.Exchange.{Speech}
-use Rattle.link_model.specs.Mails.{differs}
-use Rattle.link_model.specs.Master.{InState, InHalf}
-use Rattle.link_model.specs.Link.{Halves}
-use Rattle.link_model.specs.Frames.{Ask, Gram, halves_after, halves_answered, halves_without, halves_lost}
-use Rattle.segment_model.specs.Slaves.{Datagram, Found, grams}
-use Rattle.segment_model.specs.Record.{News}
+use Rattle.state_model.specs.of_exchange_model.Exchange.{Speech}
+use Rattle.state_model.specs.of_link_model.Mails.{differs}
+use Rattle.state_model.specs.of_link_model.Master.{InState, InHalf}
+use Rattle.state_model.specs.of_link_model.Link.{Halves}
+use Rattle.state_model.specs.of_link_model.Frames.{Ask, Gram, halves_after, halves_answered, halves_without, halves_lost}
+use Rattle.state_model.specs.of_segment_model.Slaves.{Datagram, Found, grams}
+use Rattle.state_model.specs.of_segment_model.Record.{News}
 use Rattle.life_model.specs.Own.{own}
 use Rattle.life_model.specs.Lives.{Stand, Life, Spot, life_back, life_lost, era_back, reopens, reopens_at, reopening, opens_state, returns_to_init}
 use Rattle.state_model.specs.Accounts.{Duty, Stage}

@@ -1,3 +1,5 @@
+pub use Rattle.state_model.proofs.of_link_model as of_link_model
+pub use Rattle.state_model.proofs.of_segment_model as of_segment_model
 pub use Rattle.state_model.proofs as of_state_model
 pub mod Owns
 pub mod Rings

@@ -1,7 +1,7 @@
 -- Worked measures: a ring of three slaves, of which the slowest makes a step behind each second frame.
 use Rattle.std.proofs.Common.{◌≡◌, true, false, Some, None, List, [], ◌∷◌, refl}
-use Rattle.link_model.specs.Master.{InState}
-use Rattle.segment_model.specs.Visits.{Stop}
+use Rattle.state_model.specs.of_link_model.Master.{InState}
+use Rattle.state_model.specs.of_segment_model.Visits.{Stop}
 use Rattle.life_model.specs.Lives.{Opening, new_life}
 use Rattle.life_model.specs.Tally.{broken, quiet}
 use Rattle.life_model.specs.Repairs.{opening_way, half_way, whole_way, way_of}

@@ -1,7 +1,7 @@
 -- Parts of lists, and the first answer that lists of news give.
 use Rattle.std.proofs.Common.{◌≡◌, ℕ, zero, suc, ◌+◌, ◌-◌, ◌≤◌, Option, Some, None, List, [], ◌∷◌, ◌++◌, take, drop, length, refl, ap, sym, ◌∙◌, arith, append-nil}
 use Rattle.std.specs.Prelude.{⊤}
-use Rattle.segment_model.specs.Record.{Frame, Kept, first_end, or_later, frame_news, news_each, kept_after, kept_all}
+use Rattle.state_model.specs.of_segment_model.Record.{Frame, Kept, first_end, or_later, frame_news, news_each, kept_after, kept_all}
 use Rattle.life_model.specs.Answers.{between}
 
 take-nil : {X : Type 0} (n : ℕ) → take {A = X} n [] ≡ []

@@ -2,9 +2,9 @@
 use Rattle.std.proofs.Common.{◌≡◌, ℕ, suc, ◌+◌, ◌-◌, ◌<◌, ◌≤◌, Bool, true, false, List, [], ◌∷◌, ◌++◌, take, drop, length, refl, ap, sym, ◌∙◌, subst, arith, append-nil, length-append, if◌then◌else◌}
 use Rattle.std.specs.Prelude.{nat_le, nat_lt}
 use Rattle.std.proofs.lemmas.Bool.{ltb-true, ltb-false, leb-true, leb-false}
-use Rattle.exchange_model.specs.Exchange.{Exchange, IsLawful}
-use Rattle.segment_model.specs.Slaves.{Processor}
-use Rattle.segment_model.specs.Record.{Frame}
+use Rattle.state_model.specs.of_exchange_model.Exchange.{Exchange, IsLawful}
+use Rattle.state_model.specs.of_segment_model.Slaves.{Processor}
+use Rattle.state_model.specs.of_segment_model.Record.{Frame}
 use Rattle.state_model.specs.States.{Table}
 use Rattle.state_model.specs.Stated.{Stated, IsStated}
 use Rattle.state_model.specs.Accounts.{Started}

@@ -1,8 +1,8 @@
 -- Openings, access by access.
 use Rattle.std.proofs.Common.{◌≡◌, ℕ, zero, suc, ◌+◌, ◌≤◌, Bool, true, false, Option, None, [], ◌∷◌, refl, sym, ap, subst, arith, if◌then◌else◌}
 use Rattle.std.specs.Prelude.{◌&&◌, ◌++◌, nat_lt, length}
-use Rattle.link_model.specs.Master.{InState}
-use Rattle.segment_model.specs.Slaves.{Found}
+use Rattle.state_model.specs.of_link_model.Master.{InState}
+use Rattle.state_model.specs.of_segment_model.Slaves.{Found}
 use Rattle.life_model.specs.Lives.{Opening, Stand, Life, Spot, opening_back, is_shown, clears, opens, steps_on, gives_up, reopening}
 use Rattle.life_model.specs.Tally.{broken}
 use Rattle.life_model.specs.Repairs.{half_way, whole_way, opening_rest, awaits_at, IsAt, IsDone, GoesOn}

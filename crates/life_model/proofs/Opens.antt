@@ -2,9 +2,9 @@
 use Rattle.std.proofs.Common.{◌≡◌, ℕ, ◌≤◌, ◌&&◌, ◌||◌, Bool, true, false, not, Some, None, List, [], ◌∷◌, ◌++◌, length, refl, ap, sym, ◌∙◌, subst, append-nil}
 use Rattle.std.specs.Prelude.{nat_le}
 use Rattle.std.proofs.lemmas.Bool.{le-leb}
-use Rattle.exchange_model.specs.Exchange.{Exchange, IsLawful}
-use Rattle.segment_model.specs.Slaves.{Processor}
-use Rattle.segment_model.specs.Record.{Frame}
+use Rattle.state_model.specs.of_exchange_model.Exchange.{Exchange, IsLawful}
+use Rattle.state_model.specs.of_segment_model.Slaves.{Processor}
+use Rattle.state_model.specs.of_segment_model.Record.{Frame}
 use Rattle.state_model.specs.States.{Table}
 use Rattle.state_model.specs.Stated.{Stated, IsStated, Service}
 use Rattle.state_model.specs.Accounts.{Started}
@@ -179,7 +179,7 @@ module _ {V A M Q R : Type 0} (x : Exchange V A M Q R) (lawful : IsLawful x) (s 
         emissions : body.received ≡ all_emits x s law cleared one (x.app e.server) body.lines
         ended : NoneInDoubt x s law cleared one body.lines
 
-      rested : (e : Opened) → e.tail ≡ [] → Rattle.segment_model.specs.Laws.IsSettled e.slave → Rattle.segment_model.specs.Laws.WantsNothing x.speech e.era.side → e.era.account.hand ≡ None → Rested e (book e)
+      rested : (e : Opened) → e.tail ≡ [] → Rattle.state_model.specs.of_segment_model.Laws.IsSettled e.slave → Rattle.state_model.specs.of_segment_model.Laws.WantsNothing x.speech e.era.side → e.era.account.hand ≡ None → Rested e (book e)
       rested e none settled wants hand =
           let w = open_era x lawful s stated processor table cleared more spot fs e in
           let q = session_of w in

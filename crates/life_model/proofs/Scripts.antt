@@ -2,10 +2,10 @@
 use Rattle.std.proofs.Common.{◌≡◌, ◌⊎◌, inl, inr, ℕ, ◌+◌, ◌==◌, ◌&&◌, Bool, true, false, cond, Option, Some, None, List, [], ◌∷◌, ◌++◌, map, filter, drop, length, refl, ap, sym, ◌∙◌, arith, append_assoc, append-nil, length-append, if◌then◌else◌}
 use Rattle.std.specs.Prelude.{nat_lt}
 use Rattle.std.proofs.lemmas.Bool.Decides.{nat_tests}
-use Rattle.exchange_model.specs.Exchange.{Speech}
-use Rattle.segment_model.specs.Slaves.{Datagram, Found}
-use Rattle.segment_model.specs.Record.{News}
-use Rattle.segment_model.specs.Seats.{Side}
+use Rattle.state_model.specs.of_exchange_model.Exchange.{Speech}
+use Rattle.state_model.specs.of_segment_model.Slaves.{Datagram, Found}
+use Rattle.state_model.specs.of_segment_model.Record.{News}
+use Rattle.state_model.specs.of_segment_model.Seats.{Side}
 use Rattle.state_model.specs.Stated.{Service}
 use Rattle.state_model.specs.Accounts.{Account, Duty, Stage, Pick, Started, account_begins, is_free, is_acknowledged, starts, state_begins}
 use Rattle.state_model.specs.Promise.{services_in}
@@ -15,7 +15,7 @@ use Rattle.life_model.specs.Lives.{Life, Era, Spot, Stand, Opening, granted, era
 use Rattle.life_model.specs.Eras.{frames_of}
 use Rattle.life_model.specs.Book.{Line, EpochBook, SlaveBook, line_of}
 use Rattle.life_model.proofs.Books.{map-append}
-use Rattle.segment_model.specs.Ends.{Passing}
+use Rattle.state_model.specs.of_segment_model.Ends.{Passing}
 use Rattle.life_model.specs.Answers.{return_of}
 use Rattle.life_model.specs.Chain.{Epoch, Written, Chained, open_era, booked}
 use Rattle.life_model.specs.Open.{Setting, Begun, IsOpenLife}

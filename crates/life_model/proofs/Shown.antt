@@ -1,11 +1,11 @@
 -- A return to Init that a state service wanted is answered by the first status that shows the state which it opens.
 use Rattle.std.proofs.Common.{◌≡◌, ℕ, zero, suc, ◌+◌, ◌-◌, ◌<◌, ◌==◌, ◌&&◌, ◌||◌, Bool, true, false, not, Option, Some, None, List, [], ◌∷◌, ◌++◌, map, take, drop, length, refl, ap, ap₂, ◌∙◌, subst, arith, if◌then◌else◌}
 use Rattle.std.proofs.lemmas.List.{drop-append-le}
-use Rattle.link_model.specs.Mails.{news}
-use Rattle.link_model.specs.Frames.{Ask, Gram}
-use Rattle.segment_model.specs.Slaves.{Datagram, Found, grams}
-use Rattle.segment_model.specs.Record.{Frame, News, Kept, first_end, or_later, frame_news, news_each, kept_after, kept_all, nothing_kept, is_for, all_told, gram_news, found_news, back_news, last_heard}
-use Rattle.segment_model.specs.Ends.{Outcome}
+use Rattle.state_model.specs.of_link_model.Mails.{news}
+use Rattle.state_model.specs.of_link_model.Frames.{Ask, Gram}
+use Rattle.state_model.specs.of_segment_model.Slaves.{Datagram, Found, grams}
+use Rattle.state_model.specs.of_segment_model.Record.{Frame, News, Kept, first_end, or_later, frame_news, news_each, kept_after, kept_all, nothing_kept, is_for, all_told, gram_news, found_news, back_news, last_heard}
+use Rattle.state_model.specs.of_segment_model.Ends.{Outcome}
 use Rattle.life_model.specs.Lives.{Spot, is_shown}
 use Rattle.life_model.specs.Answers.{all_news, between, shown_ends}
 use Rattle.life_model.specs.Chain.{any_shows, NoneShow, IsShownFirst}

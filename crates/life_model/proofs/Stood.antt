@@ -2,11 +2,11 @@
 use Rattle.std.proofs.Common.{◌≡◌, ℕ, suc, ◌+◌, ◌-◌, ◌<◌, ◌==◌, ◌&&◌, ◌||◌, Bool, true, false, not, Option, Some, None, List, [], ◌∷◌, ◌++◌, map, take, drop, length, refl, ap, ap₂, sym, ◌∙◌, subst, arith, append-nil, eq-eqb, if◌then◌else◌}
 use Rattle.std.specs.Prelude.{⊤, nat_le}
 use Rattle.std.proofs.lemmas.List.{take-append-drop}
-use Rattle.exchange_model.specs.Exchange.{Exchange}
-use Rattle.exchange_model.specs.Rows.{exec_all}
-use Rattle.segment_model.specs.Record.{Frame, News, first_end, or_later, news_from}
-use Rattle.segment_model.specs.Ends.{Outcome, state_ends}
-use Rattle.segment_model.specs.Books.{answer_from}
+use Rattle.state_model.specs.of_exchange_model.Exchange.{Exchange}
+use Rattle.state_model.specs.of_exchange_model.Rows.{exec_all}
+use Rattle.state_model.specs.of_segment_model.Record.{Frame, News, first_end, or_later, news_from}
+use Rattle.state_model.specs.of_segment_model.Ends.{Outcome, state_ends}
+use Rattle.state_model.specs.of_segment_model.Books.{answer_from}
 use Rattle.state_model.specs.States.{Table}
 use Rattle.state_model.specs.Stated.{Stated, IsStated, Service, with_states}
 use Rattle.state_model.specs.Accounts.{Started}

@@ -2,10 +2,10 @@
 use Rattle.std.proofs.Common.{◌≡◌, ℕ, zero, suc, ◌-◌, ◌<◌, ◌≤◌, ◌==◌, ◌%◌, ◌&&◌, Bool, true, false, not, Option, Some, None, option_map, List, [], ◌∷◌, ◌++◌, map, take, drop, length, refl, ap, ap₂, sym, ◌∙◌, arith, append_assoc, if◌then◌else◌}
 use Rattle.std.specs.Prelude.{replicate}
 use Rattle.std.proofs.lemmas.List.{drop-map, take-map}
-use Rattle.exchange_model.specs.Exchange.{Exchange, Speech, IsLawful, plain}
-use Rattle.segment_model.specs.Slaves.{Datagram, grams}
-use Rattle.segment_model.specs.Record.{Frame, News, Kept, first_end, or_later, news_each, kept_after, kept_all, nothing_kept, counted_each, without_empty, mails_heard, all_told, back_news, did_read, news_from}
-use Rattle.segment_model.specs.Ends.{Outcome, all_written, state_ends, mails_end, ends}
+use Rattle.state_model.specs.of_exchange_model.Exchange.{Exchange, Speech, IsLawful, plain}
+use Rattle.state_model.specs.of_segment_model.Slaves.{Datagram, grams}
+use Rattle.state_model.specs.of_segment_model.Record.{Frame, News, Kept, first_end, or_later, news_each, kept_after, kept_all, nothing_kept, counted_each, without_empty, mails_heard, all_told, back_news, did_read, news_from}
+use Rattle.state_model.specs.of_segment_model.Ends.{Outcome, all_written, state_ends, mails_end, ends}
 use Rattle.state_model.specs.Stated.{Service}
 use Rattle.state_model.specs.Promise.{task_of}
 use Rattle.life_model.specs.Own.{own_frame, blank}

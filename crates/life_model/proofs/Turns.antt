@@ -1,7 +1,7 @@
 -- How far it is to a slave, on rings.
 use Rattle.std.proofs.Common.{◌≡◌, ◌⊎◌, ℕ, suc, ◌+◌, ◌<◌, ◌≤◌, ◌==◌, Bool, true, false, Option, Some, None, List, [], ◌∷◌, ◌++◌, length, refl, sym, ap, ◌∙◌, arith, if◌then◌else◌, length-append, append_assoc, eqb-true, inl, inr}
 use Rattle.std.proofs.lemmas.Bool.{cases_lt}
-use Rattle.segment_model.specs.Visits.{Stop, split_behind, is_live}
+use Rattle.state_model.specs.of_segment_model.Visits.{Stop, split_behind, is_live}
 use Rattle.life_model.specs.Rounds.{before, ahead, AreApart, IsIn}
 
 -- a list of one more

@@ -1,12 +1,12 @@
 -- Of two visits behind a step one gains.
 use Rattle.std.proofs.Common.{◌≡◌, ◌≢◌, ◌⊎◌, ℕ, zero, suc, Bool, true, false, is_some, Option, Some, None, refl, sym, ap, ◌∙◌, subst, arith, if◌then◌else◌, inl, inr}
-use Rattle.link_model.specs.Mails.{LinkMail, differs, first_of}
-use Rattle.link_model.specs.Master.{InState}
-use Rattle.link_model.specs.Slave.{Server, Node, InSide, looked, repeated, noticed, served, offers, is_free, node_look, node_take}
-use Rattle.link_model.specs.Link.{Link, Fate, Event, happens}
-use Rattle.link_model.specs.Agree.{Agrees}
-use Rattle.link_model.specs.Gains.{gain_of, write_gain, read_gain, HasStepped, NothingLeft}
-use Rattle.link_model.proofs.Gains.{clear_gains, clear_settled, hold_gains}
+use Rattle.state_model.specs.of_link_model.Mails.{LinkMail, differs, first_of}
+use Rattle.state_model.specs.of_link_model.Master.{InState}
+use Rattle.state_model.specs.of_link_model.Slave.{Server, Node, InSide, looked, repeated, noticed, served, offers, is_free, node_look, node_take}
+use Rattle.state_model.specs.of_link_model.Link.{Link, Fate, Event, happens}
+use Rattle.state_model.specs.of_link_model.Agree.{Agrees}
+use Rattle.state_model.specs.of_link_model.Gains.{gain_of, write_gain, read_gain, HasStepped, NothingLeft}
+use Rattle.state_model.proofs.of_link_model.Gains.{clear_gains, clear_settled, hold_gains}
 use Rattle.life_model.specs.Visits.{Visit, empty_gain, mails_visit, drain_visit, visit_gain, visited, steps, is_full, next_mails}
 
 -- A STEP leaves a mail in mailbox 1

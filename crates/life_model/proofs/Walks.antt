@@ -3,11 +3,11 @@ use Rattle.std.proofs.Common.{◌≡◌, ℕ, suc, ◌-◌, ◌<◌, ◌==◌, �
 use Rattle.std.specs.Prelude.{nat_lt}
 use Rattle.std.proofs.lemmas.Bool.{le-ltb, lt-ltb}
 use Rattle.std.proofs.lemmas.List.{length-map}
-use Rattle.exchange_model.specs.Exchange.{Exchange, IsLawful}
-use Rattle.segment_model.specs.Slaves.{Processor}
-use Rattle.segment_model.specs.Record.{Frame}
-use Rattle.segment_model.specs.Ends.{Outcome}
-use Rattle.segment_model.specs.Books.{Answer}
+use Rattle.state_model.specs.of_exchange_model.Exchange.{Exchange, IsLawful}
+use Rattle.state_model.specs.of_segment_model.Slaves.{Processor}
+use Rattle.state_model.specs.of_segment_model.Record.{Frame}
+use Rattle.state_model.specs.of_segment_model.Ends.{Outcome}
+use Rattle.state_model.specs.of_segment_model.Books.{Answer}
 use Rattle.state_model.specs.States.{Table}
 use Rattle.state_model.specs.Promises.{state_behind, answer_of}
 use Rattle.state_model.specs.Stated.{Stated, IsStated, Service}

@@ -1,9 +1,9 @@
 -- THE ANSWERS OF A BOOK: what the frames of an epoch give for its rows, before the epoch's end and before its slave is given up.
 use Rattle.std.specs.Prelude.{◌≡◌, ℕ, suc, ◌-◌, ◌<◌, ◌==◌, Bool, true, nat_le, nat_lt, if◌then◌else◌, Option, Some, None, List, [], ◌∷◌, take, drop, ⊤}
-use Rattle.exchange_model.specs.Exchange.{Speech}
-use Rattle.segment_model.specs.Record.{Frame, News, first_end, news_each, nothing_kept, counted_each}
-use Rattle.segment_model.specs.Ends.{Outcome, ends}
-use Rattle.segment_model.specs.Books.{Answer, answer_from}
+use Rattle.state_model.specs.of_exchange_model.Exchange.{Speech}
+use Rattle.state_model.specs.of_segment_model.Record.{Frame, News, first_end, news_each, nothing_kept, counted_each}
+use Rattle.state_model.specs.of_segment_model.Ends.{Outcome, ends}
+use Rattle.state_model.specs.of_segment_model.Books.{Answer, answer_from}
 use Rattle.state_model.specs.Stated.{Service}
 use Rattle.state_model.specs.Promise.{task_of}
 use Rattle.life_model.specs.Lives.{Spot, returns_to_init, opens_state}

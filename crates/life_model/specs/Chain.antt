@@ -1,10 +1,10 @@
 -- The epochs of a life one behind the other, with the frames of the run, as a book has them.
 use Rattle.std.specs.Prelude.{◌≡◌, ℕ, suc, ◌<◌, ◌≤◌, ◌==◌, ◌&&◌, ◌||◌, Bool, true, false, not, is_some, if◌then◌else◌, Option, Some, None, List, [], ◌∷◌, ◌++◌, length, ⊤}
-use Rattle.exchange_model.specs.Exchange.{Exchange, IsLawful}
-use Rattle.segment_model.specs.Slaves.{Registers, Processor, Slave, Datagram}
-use Rattle.segment_model.specs.Record.{Frame, is_for}
-use Rattle.segment_model.specs.Ends.{Outcome}
-use Rattle.segment_model.specs.Books.{Answer}
+use Rattle.state_model.specs.of_exchange_model.Exchange.{Exchange, IsLawful}
+use Rattle.state_model.specs.of_segment_model.Slaves.{Registers, Processor, Slave, Datagram}
+use Rattle.state_model.specs.of_segment_model.Record.{Frame, is_for}
+use Rattle.state_model.specs.of_segment_model.Ends.{Outcome}
+use Rattle.state_model.specs.of_segment_model.Books.{Answer}
 use Rattle.state_model.specs.States.{Table}
 use Rattle.state_model.specs.Stated.{Stated, IsStated, Service}
 use Rattle.state_model.specs.Accounts.{Started}

@@ -1,8 +1,8 @@
 -- How an epoch ends: its slave meets, by its place, the word that returns it to Init, and the step that carries it out clears the server.
 use Rattle.std.specs.Prelude.{◌≡◌, ◌⊎◌, ℕ, ◌==◌, true, false, if◌then◌else◌, Some, None, List, [], ◌∷◌, ◌++◌, ⊤}
-use Rattle.exchange_model.specs.Exchange.{Exchange}
-use Rattle.link_model.specs.Slave.{Node}
-use Rattle.segment_model.specs.Slaves.{Serving, Registers, Processor, Slave, Datagram, Access, is_meant, slave_after, slave_steps}
+use Rattle.state_model.specs.of_exchange_model.Exchange.{Exchange}
+use Rattle.state_model.specs.of_link_model.Slave.{Node}
+use Rattle.state_model.specs.of_segment_model.Slaves.{Serving, Registers, Processor, Slave, Datagram, Access, is_meant, slave_after, slave_steps}
 use Rattle.life_model.specs.Own.{own, AreSeen}
 use Rattle.life_model.specs.Eras.{Clearing, IsClearing}
 

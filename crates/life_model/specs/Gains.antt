@@ -1,9 +1,9 @@
 -- WHAT A LIFE HAS GAINED: the mails that were told and heard, and the steps of its state services.
 use Rattle.std.specs.Prelude.{ℕ, ◌+◌, Option, Some, None, List, [], ◌∷◌, length}
-use Rattle.exchange_model.specs.Rows.{Row}
-use Rattle.link_model.specs.Mails.{LinkMail}
+use Rattle.state_model.specs.of_exchange_model.Rows.{Row}
+use Rattle.state_model.specs.of_link_model.Mails.{LinkMail}
 use Rattle.state_model.specs.States.{Phase}
-use Rattle.segment_model.specs.Seats.{Side}
+use Rattle.state_model.specs.of_segment_model.Seats.{Side}
 use Rattle.state_model.specs.Accounts.{Stage, Duty, Change, Account, Progress}
 use Rattle.life_model.specs.Lives.{Era, Life}
 

@@ -1,7 +1,6 @@
+pub use Rattle.state_model.specs.of_exchange_model as of_exchange_model
+pub use Rattle.state_model.specs.of_segment_model as of_segment_model
 pub use Rattle.state_model.specs as of_state_model
-pub use Rattle.exchange_model.specs as of_exchange_model
-pub use Rattle.link_model.specs as of_link_model
-pub use Rattle.segment_model.specs as of_segment_model
 pub mod Own
 pub mod Alone
 pub mod Lives

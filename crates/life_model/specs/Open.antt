@@ -1,9 +1,9 @@
 -- A life whose newest epoch is open, and one whose newest epoch isn't.
 use Rattle.std.specs.Prelude.{◌≡◌, ℕ, ◌+◌, ◌<◌, ◌≤◌, Bool, true, List, [], ◌∷◌, ◌++◌, Some, None, length, ⊤}
-use Rattle.exchange_model.specs.Exchange.{Exchange, IsLawful}
-use Rattle.segment_model.specs.Slaves.{Processor}
-use Rattle.segment_model.specs.Record.{Frame}
-use Rattle.segment_model.specs.Laws.{IsSettled, WantsNothing}
+use Rattle.state_model.specs.of_exchange_model.Exchange.{Exchange, IsLawful}
+use Rattle.state_model.specs.of_segment_model.Slaves.{Processor}
+use Rattle.state_model.specs.of_segment_model.Record.{Frame}
+use Rattle.state_model.specs.of_segment_model.Laws.{IsSettled, WantsNothing}
 use Rattle.state_model.specs.States.{Table}
 use Rattle.state_model.specs.Stated.{Stated, IsStated, Service}
 use Rattle.state_model.specs.Accounts.{Started}

@@ -1,9 +1,9 @@
 -- WHAT A LIFE HAS TO REPAIR before its mailboxes gain anything: it is opened, or its inward half finds its way back from a lost read.
 use Rattle.std.specs.Prelude.{◌≡◌, ℕ, ◌+◌, ◌*◌, ◌-◌, ◌≤◌, ◌==◌, ◌||◌, ◌&&◌, nat_lt, Bool, true, false, if◌then◌else◌, Option, Some, None}
-use Rattle.link_model.specs.Master.{InState}
-use Rattle.link_model.specs.Mails.{differs}
-use Rattle.link_model.specs.Frames.{in_ask}
-use Rattle.segment_model.specs.Slaves.{Datagram, Found}
+use Rattle.state_model.specs.of_link_model.Master.{InState}
+use Rattle.state_model.specs.of_link_model.Mails.{differs}
+use Rattle.state_model.specs.of_link_model.Frames.{in_ask}
+use Rattle.state_model.specs.of_segment_model.Slaves.{Datagram, Found}
 use Rattle.life_model.specs.Lives.{Opening, Stand, Life, last_step, shows_clear, is_shown}
 
 -- how far a repair is: in how many frames at most what comes behind its access in hand is done, and whether that access is in vain until the slave

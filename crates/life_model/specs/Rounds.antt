@@ -1,8 +1,8 @@
 -- THE TOUR OF A RING behind the first bring-up: how far it is to a slave.
 use Rattle.std.specs.Prelude.{◌≡◌, ◌⊎◌, ℕ, suc, ◌==◌, true, false, if◌then◌else◌, Option, Some, None, List, [], ◌∷◌, map, ⊤}
-use Rattle.link_model.specs.Segment.{RingFate}
-use Rattle.segment_model.specs.Record.{Frame}
-use Rattle.segment_model.specs.Visits.{Stop, Carries, carried, split_behind, is_live, is_among}
+use Rattle.state_model.specs.of_link_model.Segment.{RingFate}
+use Rattle.state_model.specs.of_segment_model.Record.{Frame}
+use Rattle.state_model.specs.of_segment_model.Visits.{Stop, Carries, carried, split_behind, is_live, is_among}
 use Rattle.life_model.specs.Tours.{Member, Tour, round}
 
 -- how many of these slaves come before the one of this station

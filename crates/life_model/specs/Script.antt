@@ -1,6 +1,6 @@
 -- What is addressed to a slave, and whether all of it has begun: its scripted services, and the packets that are forwarded to its port.
 use Rattle.std.specs.Prelude.{◌≡◌, ◌⊎◌, ℕ, ◌&&◌, Bool, true, nat_lt, if◌then◌else◌, Option, Some, None, List, [], ◌∷◌, ◌++◌, map, filter, drop, length, ⊤}
-use Rattle.exchange_model.specs.Prefix.{IsPrefixOf}
+use Rattle.state_model.specs.of_exchange_model.Prefix.{IsPrefixOf}
 use Rattle.state_model.specs.Stated.{Service}
 use Rattle.state_model.specs.Accounts.{Account, Pick}
 use Rattle.state_model.specs.Promise.{services_in}

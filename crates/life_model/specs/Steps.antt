@@ -1,6 +1,6 @@
 -- What a life does as a run goes on: an epoch opens, goes on by a frame, and is over.
 use Rattle.std.specs.Prelude.{◌≡◌, ℕ, suc, ◌<◌, Some, List, [], ◌∷◌, ◌++◌, length}
-use Rattle.segment_model.specs.Record.{Frame}
+use Rattle.state_model.specs.of_segment_model.Record.{Frame}
 use Rattle.state_model.specs.Accounts.{Started}
 use Rattle.life_model.specs.Eras.{EraIs}
 use Rattle.life_model.specs.Book.{EpochBook, SlaveBook}

@@ -1,9 +1,9 @@
 -- THE VISITS OF A SLAVE THAT IS OPEN AND CLEAR, as a master makes them one after the other, against what stands in its mailboxes.
 use Rattle.std.specs.Prelude.{ℕ, zero, suc, ◌&&◌, not, is_some, Bool, true, false, if◌then◌else◌, Option, Some, None}
-use Rattle.link_model.specs.Mails.{LinkMail}
-use Rattle.link_model.specs.Slave.{Server}
-use Rattle.link_model.specs.Link.{Link, Fate, Event, happens}
-use Rattle.link_model.specs.Gains.{gain_of}
+use Rattle.state_model.specs.of_link_model.Mails.{LinkMail}
+use Rattle.state_model.specs.of_link_model.Slave.{Server}
+use Rattle.state_model.specs.of_link_model.Link.{Link, Fate, Event, happens}
+use Rattle.state_model.specs.of_link_model.Gains.{gain_of}
 
 -- the write of the mail held, the read of mailbox 1, or the read of the status of mailbox 0
 pub data Visit : Type 0 where

@@ -1,8 +1,8 @@
 //! How an epoch ends.
 
 ghost use Rattle.std.specs.Prelude.{◌≡◌, ℕ, ◌≤◌, true, Some, None, List, [], ◌∷◌, ◌++◌, length};
-ghost use Rattle.link_model.specs.Segment.{RingFate};
-ghost use Rattle.segment_model.specs.Slaves.{Registers, Slave, Datagram, Ring, slave_after, first_meet, ring_after};
+ghost use Rattle.state_model.specs.of_link_model.Segment.{RingFate};
+ghost use Rattle.state_model.specs.of_segment_model.Slaves.{Registers, Slave, Datagram, Ring, slave_after, first_meet, ring_after};
 ghost use Rattle.state_model.specs.States.{Table, carry};
 ghost use Rattle.life_model.specs.Own.{own, AreSeen};
 ghost use Rattle.life_model.specs.Ending.{NoneMean, ReturnsIt, worded, AllClose, behind_all, Returning, EndsIt};

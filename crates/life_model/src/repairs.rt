@@ -1,9 +1,9 @@
 //! What a life has to repair, frame by frame.
 
 ghost use Rattle.std.specs.Prelude.{◌≡◌, ◌⊎◌, ◌≤◌, ◌<◌, ◌∷◌, [], ℕ, suc, Bool, Option, Some, List};
-ghost use Rattle.exchange_model.specs.Exchange.{Speech};
-ghost use Rattle.segment_model.specs.Slaves.{Datagram, Found};
-ghost use Rattle.segment_model.specs.Record.{News};
+ghost use Rattle.state_model.specs.of_exchange_model.Exchange.{Speech};
+ghost use Rattle.state_model.specs.of_segment_model.Slaves.{Datagram, Found};
+ghost use Rattle.state_model.specs.of_segment_model.Record.{News};
 ghost use Rattle.life_model.specs.Own.{own};
 ghost use Rattle.life_model.specs.Lives.{Opening, Stand, Life, Spot, life_back, life_lost, gives_up};
 ghost use Rattle.life_model.specs.Tally.{broken, quiet};

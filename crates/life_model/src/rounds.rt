@@ -1,9 +1,9 @@
 //! The tour of a ring, round by round.
 
 ghost use Rattle.std.specs.Prelude.{◌≡◌, ◌⊎◌, ◌≤◌, ◌<◌, ℕ, suc, true, List, length};
-ghost use Rattle.segment_model.specs.Slaves.{Datagram};
-ghost use Rattle.segment_model.specs.Record.{Frame};
-ghost use Rattle.segment_model.specs.Visits.{Stop, IsVisit, is_live, is_among, last_of};
+ghost use Rattle.state_model.specs.of_segment_model.Slaves.{Datagram};
+ghost use Rattle.state_model.specs.of_segment_model.Record.{Frame};
+ghost use Rattle.state_model.specs.of_segment_model.Visits.{Stop, IsVisit, is_live, is_among, last_of};
 ghost use Rattle.life_model.specs.Tours.{Tour, Visits, is_live_in, round, tour_after};
 ghost use Rattle.life_model.specs.Rounds.{ahead, AreApart, GoesRound, AllBack, IsCarriedIn};
 

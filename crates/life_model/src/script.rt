@@ -1,11 +1,11 @@
 //! What of a script has begun.
 
 ghost use Rattle.std.specs.Prelude.{◌≡◌, ℕ, Bool, Option, None, List, [], filter};
-ghost use Rattle.exchange_model.specs.Prefix.{IsPrefixOf};
-ghost use Rattle.exchange_model.specs.Exchange.{Speech};
-ghost use Rattle.link_model.specs.Segment.{RingFate};
-ghost use Rattle.segment_model.specs.Slaves.{Datagram, Found};
-ghost use Rattle.segment_model.specs.Record.{News};
+ghost use Rattle.state_model.specs.of_exchange_model.Prefix.{IsPrefixOf};
+ghost use Rattle.state_model.specs.of_exchange_model.Exchange.{Speech};
+ghost use Rattle.state_model.specs.of_link_model.Segment.{RingFate};
+ghost use Rattle.state_model.specs.of_segment_model.Slaves.{Datagram, Found};
+ghost use Rattle.state_model.specs.of_segment_model.Record.{News};
 ghost use Rattle.state_model.specs.Stated.{Service};
 ghost use Rattle.state_model.specs.Accounts.{Pick};
 ghost use Rattle.life_model.specs.Lives.{Life, Spot, new_life, life_next, life_back, life_lost, gives_up};

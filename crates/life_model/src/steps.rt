@@ -1,7 +1,7 @@
 //! How a life goes on.
 
 ghost use Rattle.std.specs.Prelude.{ℕ, ◌≤◌, List, [], ◌∷◌, ◌++◌, length};
-ghost use Rattle.segment_model.specs.Record.{Frame};
+ghost use Rattle.state_model.specs.of_segment_model.Record.{Frame};
 ghost use Rattle.life_model.specs.Book.{SlaveBook};
 ghost use Rattle.life_model.specs.Chain.{AllEnd, NoneBelow};
 ghost use Rattle.life_model.specs.Open.{Setting, IsOpenLife};

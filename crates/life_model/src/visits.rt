@@ -1,11 +1,11 @@
 //! What the visits of one slave gain, behind a step of it.
 
 ghost use Rattle.std.specs.Prelude.{◌≡◌, ◌⊎◌, ℕ, Bool, None, is_some};
-ghost use Rattle.link_model.specs.Slave.{Server};
-ghost use Rattle.link_model.specs.Master.{InState};
-ghost use Rattle.link_model.specs.Link.{Link};
-ghost use Rattle.link_model.specs.Agree.{Agrees};
-ghost use Rattle.link_model.specs.Gains.{HasStepped, NothingLeft};
+ghost use Rattle.state_model.specs.of_link_model.Slave.{Server};
+ghost use Rattle.state_model.specs.of_link_model.Master.{InState};
+ghost use Rattle.state_model.specs.of_link_model.Link.{Link};
+ghost use Rattle.state_model.specs.of_link_model.Agree.{Agrees};
+ghost use Rattle.state_model.specs.of_link_model.Gains.{HasStepped, NothingLeft};
 ghost use Rattle.life_model.specs.Visits.{mails_visit, drain_visit, visit_gain, visited, steps, is_full, next_mails};
 
 /// OF TWO VISITS BEHIND A STEP ONE GAINS, with nothing to repair: a write in vain leaves a mail in mailbox 1 for the read that follows, and a read in

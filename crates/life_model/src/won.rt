@@ -1,12 +1,12 @@
 //! What a life gains, frame by frame.
 
 ghost use Rattle.std.specs.Prelude.{◌≡◌, ◌≤◌, ◌==◌, ◌∷◌, [], ℕ, suc, Bool, true, false, Option, Some, List, length};
-ghost use Rattle.exchange_model.specs.Exchange.{Speech};
-ghost use Rattle.exchange_model.specs.Rows.{Row};
-ghost use Rattle.link_model.specs.Mails.{LinkMail};
-ghost use Rattle.link_model.specs.Frames.{Ask, all_accepted};
-ghost use Rattle.segment_model.specs.Slaves.{Datagram, Found, grams};
-ghost use Rattle.segment_model.specs.Record.{News, is_for};
+ghost use Rattle.state_model.specs.of_exchange_model.Exchange.{Speech};
+ghost use Rattle.state_model.specs.of_exchange_model.Rows.{Row};
+ghost use Rattle.state_model.specs.of_link_model.Mails.{LinkMail};
+ghost use Rattle.state_model.specs.of_link_model.Frames.{Ask, all_accepted};
+ghost use Rattle.state_model.specs.of_segment_model.Slaves.{Datagram, Found, grams};
+ghost use Rattle.state_model.specs.of_segment_model.Record.{News, is_for};
 ghost use Rattle.state_model.specs.Accounts.{Duty, Pick, access_done};
 ghost use Rattle.life_model.specs.Own.{own};
 ghost use Rattle.life_model.specs.Lives.{Stand, Life, Spot, life_next, life_back, life_lost, gives_up};

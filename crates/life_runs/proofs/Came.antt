@@ -2,25 +2,25 @@
 use Rattle.std.proofs.Common.{◌≡◌, ℕ, zero, suc, Bool, true, false, Option, Some, None, List, [], ◌∷◌, ◌++◌, map, length, refl, ap, sym, ◌∙◌, subst, append_assoc, append-nil}
 use Rattle.std.specs.Prelude.{◌&&◌, ◌==◌, if◌then◌else◌, All}
 use Rattle.std.proofs.lemmas.List.Elements.{All-nil, All-cons, All-head, All-tail}
-use Rattle.life_model.specs.Script.{eras_started, life_started}
-use Rattle.life_model.proofs.Scripts.{back_same, lost_same}
-use Rattle.frame_view.specs.of_exchange_model.Exchange.{Speech}
-use Rattle.frame_view.specs.of_life_model.Lives.{Spot, Life, Stand, Opening, granted, life_next, life_back, life_lost, era_back, opening_back, shows_clear, last_step, is_shown, clears, opens, steps_on, reopens, reopens_at, returns_to_init, reopening, opens_state}
-use Rattle.frame_view.specs.of_segment_model.Ends.{Passing}
-use Rattle.frame_view.specs.of_segment_model.Record.{News}
-use Rattle.frame_view.specs.of_segment_model.Slaves.{Datagram, Found}
-use Rattle.frame_view.specs.of_state_model.Stated.{Service}
-use Rattle.frame_view.specs.of_state_model.Accounts as Accounts
-use Rattle.frame_view.specs.of_state_model.Accounts.{Account, Duty, Pick, Started, account_begins}
-use Rattle.frame_view.specs.of_state_model.Promise.{services_in}
-use Rattle.segment_ring.specs.of_datagrams.Datagram as Raw
-use Rattle.frame_view.specs.View.{Lens}
-use Rattle.frame_view.specs.Seen.{seen}
-use Rattle.frame_view.specs.Shares.{came_at, given_where}
-use Rattle.frame_view.specs.of_link_mails.Body.{Body}
-use Rattle.master_hand.specs.of_master_duty.Reply.{Reply}
+use Rattle.master_tour.specs.of_life_model.Script.{eras_started, life_started}
+use Rattle.master_tour.proofs.of_life_model.Scripts.{back_same, lost_same}
+use Rattle.master_hand.specs.of_exchange_model.Exchange.{Speech}
+use Rattle.master_tour.specs.of_life_model.Lives.{Spot, Life, Stand, Opening, granted, life_next, life_back, life_lost, era_back, opening_back, shows_clear, last_step, is_shown, clears, opens, steps_on, reopens, reopens_at, returns_to_init, reopening, opens_state}
+use Rattle.master_hand.specs.of_segment_model.Ends.{Passing}
+use Rattle.master_hand.specs.of_segment_model.Record.{News}
+use Rattle.master_hand.specs.of_segment_model.Slaves.{Datagram, Found}
+use Rattle.master_hand.specs.of_state_model.Stated.{Service}
+use Rattle.master_hand.specs.of_state_model.Accounts as Accounts
+use Rattle.master_hand.specs.of_state_model.Accounts.{Account, Duty, Pick, Started, account_begins}
+use Rattle.master_hand.specs.of_state_model.Promise.{services_in}
+use Rattle.master_tour.specs.of_datagrams.Datagram as Raw
+use Rattle.master_tour.specs.of_frame_view.View.{Lens}
+use Rattle.master_tour.specs.of_frame_view.Seen.{seen}
+use Rattle.master_tour.specs.of_frame_view.Shares.{came_at, given_where}
+use Rattle.master_tour.specs.of_link_mails.Body.{Body}
+use Rattle.master_tour.specs.of_master_duty.Reply.{Reply}
 use Rattle.master_hand.specs.Spoken.{Asked, acknowledged, is_followed, is_passed}
-use Rattle.master_hand.specs.of_master_side.Passing.{news_back, news_lost}
+use Rattle.master_tour.specs.of_master_side.Passing.{news_back, news_lost}
 use Rattle.master_hand.specs.of_segment_plan.declared.service.Service as Plan
 use Rattle.segment_ring.specs.declared.wire.Fate.{Fate}
 use Rattle.segment_ring.specs.declared.wire.Fate.TheVariants.{Pass, Lost}

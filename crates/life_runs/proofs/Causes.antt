@@ -1,8 +1,8 @@
 -- WHY EACH EPOCH OF A LIFE BEGAN: it opens what the one before it leaves to it, and that has its cause there.
 use Rattle.std.proofs.Common.{inl, inr, ℕ, Option, Some, None, List, [], ◌∷◌, ◌++◌}
-use Rattle.frame_view.specs.of_life_model.Lives.{Era}
-use Rattle.frame_view.specs.of_link_mails.Body.{Body}
-use Rattle.master_hand.specs.of_master_duty.Reply.{Reply}
+use Rattle.master_tour.specs.of_life_model.Lives.{Era}
+use Rattle.master_tour.specs.of_link_mails.Body.{Body}
+use Rattle.master_tour.specs.of_master_duty.Reply.{Reply}
 use Rattle.master_hand.specs.Spoken.{Asked}
 use Rattle.life_runs.specs.Causes.{EndsBy, AllEndBy, AllHaveCause}
 use Rattle.life_runs.specs.Led.{Leads}

@@ -3,9 +3,9 @@ use Rattle.std.proofs.Common.{◌≡◌, ℕ, suc, ◌+◌, ◌==◌, ◌||◌, 
 use Rattle.std.specs.Prelude.{Some, None, if◌then◌else◌, map, ◌<◌}
 use Rattle.std.proofs.lemmas.Bool.{eq-eqb, ne_eqb}
 use Rattle.std.specs.List.{list_any}
-use Rattle.frame_view.specs.View.{Lens}
-use Rattle.frame_view.specs.Shares as Shares
-use Rattle.frame_view.specs.of_life_model.Lives.{Spot}
+use Rattle.master_tour.specs.of_frame_view.View.{Lens}
+use Rattle.master_tour.specs.of_frame_view.Shares as Shares
+use Rattle.master_tour.specs.of_life_model.Lives.{Spot}
 use Rattle.master_hand.specs.of_segment_plan.Sound.{repeated_from, is_same_station}
 use Rattle.master_hand.specs.of_segment_plan.declared.service.Service as Service
 use Rattle.master_hand.specs.of_segment_plan.declared.slave.SlaveSpec.{SlaveSpec}

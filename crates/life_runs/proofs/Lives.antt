@@ -3,21 +3,21 @@ use Rattle.std.proofs.Common.{◌≡◌, ℕ, suc, ◌==◌, List, [], ◌∷◌
 use Rattle.std.specs.Prelude.{◌&&◌, nat_lt, if◌then◌else◌}
 use Rattle.std.proofs.lemmas.Bool.Decides.{nat_tests}
 use Rattle.life_runs.specs.Lives.{StandsKept, LifeKept, is_left, came_so, lost_so}
-use Rattle.master_tour.specs.of_frame_view.of_exchange_model.Exchange.{Speech}
-use Rattle.master_tour.specs.of_frame_view.of_exchange_model.Rows.{Row}
-use Rattle.master_tour.specs.of_frame_view.of_link_model.Counters.{next_counter}
-use Rattle.master_tour.specs.of_frame_view.of_life_model.Lives.{Life, Opening, Spot, Stand, clears, era_back, gives_up, is_shown, last_step, life_back, life_lost, life_next, opening_back, opens, opens_state, reopening, reopens, reopens_at, returns_to_init, shows_clear, steps_on}
-use Rattle.master_tour.specs.of_frame_view.of_life_model.Own
-use Rattle.master_tour.specs.of_frame_view.of_link_mails.Body.{Body}
-use Rattle.master_tour.specs.of_frame_view.of_segment_model.Record.{Kept, News, nothing_kept, kept_after, told_behind, heard_behind, last_told, last_heard}
-use Rattle.master_tour.specs.of_frame_view.of_segment_model.Seats.{Side, side_back, side_lost}
-use Rattle.master_tour.specs.of_frame_view.of_segment_model.Slaves.{Datagram, Access, Found, grams}
-use Rattle.master_tour.specs.of_frame_view.of_state_model.Accounts
-use Rattle.master_tour.specs.of_frame_view.of_state_model.Accounts.{Pick, duty_access}
+use Rattle.master_hand.specs.of_exchange_model.Exchange.{Speech}
+use Rattle.master_hand.specs.of_exchange_model.Rows.{Row}
+use Rattle.master_tour.specs.of_link_model.Counters.{next_counter}
+use Rattle.master_tour.specs.of_life_model.Lives.{Life, Opening, Spot, Stand, clears, era_back, gives_up, is_shown, last_step, life_back, life_lost, life_next, opening_back, opens, opens_state, reopening, reopens, reopens_at, returns_to_init, shows_clear, steps_on}
+use Rattle.master_tour.specs.of_life_model.Own
+use Rattle.master_tour.specs.of_link_mails.Body.{Body}
+use Rattle.master_hand.specs.of_segment_model.Record.{Kept, News, nothing_kept, kept_after, told_behind, heard_behind, last_told, last_heard}
+use Rattle.master_hand.specs.of_segment_model.Seats.{Side, side_back, side_lost}
+use Rattle.master_hand.specs.of_segment_model.Slaves.{Datagram, Access, Found, grams}
+use Rattle.master_hand.specs.of_state_model.Accounts
+use Rattle.master_hand.specs.of_state_model.Accounts.{Pick, duty_access}
 use Rattle.master_tour.specs.of_master_side.Carried.{one}
 use Rattle.master_tour.specs.of_master_side.Passing.{IsKept}
 use Rattle.master_tour.specs.of_master_side.declared.carried.Carried.{Carried}
-use Rattle.master_tour.specs.of_master_side.of_master_duty.Reply.{Reply}
+use Rattle.master_tour.specs.of_master_duty.Reply.{Reply}
 use Rattle.master_tour.specs.Passing.{StandKept}
 use Rattle.master_tour.specs.Under.{Grams, mine, Under}
 use Rattle.master_tour.specs.declared.stop.Stand as Stop

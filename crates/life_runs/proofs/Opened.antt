@@ -4,26 +4,26 @@ use Rattle.std.specs.Prelude.{◌==◌, ◌&&◌, nat_lt, if◌then◌else◌, �
 use Rattle.std.specs.List.{All}
 use Rattle.std.proofs.lemmas.Bool.{lt-ltb}
 use Rattle.std.proofs.lemmas.List.Elements.{All-nil, All-push, All-weaker}
-use Rattle.segment_ring.specs.of_datagrams.Datagram as Raw
-use Rattle.frame_view.specs.of_exchange_model.Exchange.{Speech}
-use Rattle.frame_view.specs.View.{Lens}
-use Rattle.frame_view.specs.Seen.{seen}
-use Rattle.frame_view.specs.Shares.{Lived, IsNext, came_at, given_where, lived_back, lived_lost}
-use Rattle.frame_view.specs.Frames.{Share}
-use Rattle.frame_view.specs.of_life_model.Lives.{Spot, Era, Stand, Opening, life_next, life_back, life_lost, era_next, era_back, era_lost, new_era, new_life, opening_back, shows_clear, is_shown, last_step, clears, opens, steps_on, reopens, reopens_at, reopening, opens_state, returns_to_init}
+use Rattle.master_tour.specs.of_datagrams.Datagram as Raw
+use Rattle.master_hand.specs.of_exchange_model.Exchange.{Speech}
+use Rattle.master_tour.specs.of_frame_view.View.{Lens}
+use Rattle.master_tour.specs.of_frame_view.Seen.{seen}
+use Rattle.master_tour.specs.of_frame_view.Shares.{Lived, IsNext, came_at, given_where, lived_back, lived_lost}
+use Rattle.master_tour.specs.of_frame_view.Frames.{Share}
+use Rattle.master_tour.specs.of_life_model.Lives.{Spot, Era, Stand, Opening, life_next, life_back, life_lost, era_next, era_back, era_lost, new_era, new_life, opening_back, shows_clear, is_shown, last_step, clears, opens, steps_on, reopens, reopens_at, reopening, opens_state, returns_to_init}
 use Rattle.life_runs.specs.First.{first_leads, leads_from}
 use Rattle.life_runs.specs.Led.{Exchanged, Leads, Turn, AllTurn, IsLed, is_passed, speech_at, life_behind, led_behind, gives_up_at}
-use Rattle.frame_view.specs.of_link_mails.Body.{Body}
-use Rattle.master_hand.specs.of_master_duty.Reply.{Reply}
+use Rattle.master_tour.specs.of_link_mails.Body.{Body}
+use Rattle.master_tour.specs.of_master_duty.Reply.{Reply}
 use Rattle.master_hand.specs.Spoken.{Asked, acknowledged, is_followed}
-use Rattle.frame_view.specs.of_segment_model.Record.{News}
-use Rattle.frame_view.specs.of_segment_model.Slaves.{Datagram, Found}
+use Rattle.master_hand.specs.of_segment_model.Record.{News}
+use Rattle.master_hand.specs.of_segment_model.Slaves.{Datagram, Found}
 use Rattle.master_hand.specs.of_segment_plan.declared.plan.Scenario.{Scenario}
 use Rattle.master_hand.specs.of_segment_plan.declared.service.Service as Plan
 use Rattle.master_hand.specs.of_segment_plan.declared.slave.SlaveSpec.{SlaveSpec}
 use Rattle.segment_ring.specs.declared.wire.Fate.{Fate}
 use Rattle.segment_ring.specs.declared.wire.Fate.TheVariants.{Pass, Lost}
-use Rattle.frame_view.specs.of_state_model.Accounts.{Duty, Stage, Pick}
+use Rattle.master_hand.specs.of_state_model.Accounts.{Duty, Stage, Pick}
 use Rattle.life_runs.specs.Causes.{since, IsOwn, IsGivenUp}
 use Rattle.life_runs.specs.Opened.{OpensStart, OpensBehind, OpensIn, AllOpenIn, EachOpensIn, AllOpenTheirs}
 use Rattle.life_runs.specs.Spans.{is_leaving}

@@ -2,26 +2,26 @@
 use Rattle.std.proofs.Common.{◌≡◌, ℕ, ◌+◌, Bool, true, false, Option, Some, None, List, [], ◌∷◌, map, length, refl, ap, sym, ◌∙◌, subst}
 use Rattle.std.specs.Prelude.{◌&&◌, ◌%◌, nat_lt, if◌then◌else◌, All}
 use Rattle.std.proofs.lemmas.List.Elements.{All-head, All-tail}
-use Rattle.segment_ring.specs.of_datagrams.Datagram as Raw
+use Rattle.master_tour.specs.of_datagrams.Datagram as Raw
 use Rattle.master_hand.specs.of_protocol_models.EoeClient as EoeClient
-use Rattle.frame_view.specs.of_exchange_model.Exchange.{Speech}
-use Rattle.frame_view.specs.View.{Lens}
-use Rattle.frame_view.specs.Seen.{seen}
-use Rattle.frame_view.specs.Shares.{Lived, AllBoth, given_where, came_at}
-use Rattle.frame_view.specs.of_life_model.Lives as Lives
-use Rattle.frame_view.specs.of_life_model.Lives.{Life, Spot, passes, era_back, life_back, life_lost, reopens}
-use Rattle.frame_view.specs.of_link_mails.Body.{Body}
-use Rattle.master_hand.specs.of_master_duty.Reply.{Reply}
+use Rattle.master_hand.specs.of_exchange_model.Exchange.{Speech}
+use Rattle.master_tour.specs.of_frame_view.View.{Lens}
+use Rattle.master_tour.specs.of_frame_view.Seen.{seen}
+use Rattle.master_tour.specs.of_frame_view.Shares.{Lived, AllBoth, given_where, came_at}
+use Rattle.master_tour.specs.of_life_model.Lives as Lives
+use Rattle.master_tour.specs.of_life_model.Lives.{Life, Spot, passes, era_back, life_back, life_lost, reopens}
+use Rattle.master_tour.specs.of_link_mails.Body.{Body}
+use Rattle.master_tour.specs.of_master_duty.Reply.{Reply}
 use Rattle.master_hand.specs.Spoken.{Asked, net, acknowledged, is_followed, is_passed}
 use Rattle.master_hand.specs.Talk.{asked_of}
 use Rattle.master_hand.specs.of_segment_plan.declared.service.Service as Plan
 use Rattle.segment_ring.specs.declared.wire.Fate.{Fate}
 use Rattle.segment_ring.specs.declared.wire.Fate.TheVariants.{Pass, Lost}
 use Rattle.life_runs.specs.Led.{Comes, Exchanged, Leads, Turn, IsTurn, AllTurn, IsLed, gives_up_at, led_behind, life_behind, speech_at}
-use Rattle.frame_view.specs.of_segment_model.Record.{News}
-use Rattle.frame_view.specs.of_segment_model.Ends.{Passing}
-use Rattle.frame_view.specs.of_segment_model.Slaves.{Datagram, Found}
-use Rattle.frame_view.specs.of_state_model.Stated.{Service}
+use Rattle.master_hand.specs.of_segment_model.Record.{News}
+use Rattle.master_hand.specs.of_segment_model.Ends.{Passing}
+use Rattle.master_hand.specs.of_segment_model.Slaves.{Datagram, Found}
+use Rattle.master_hand.specs.of_state_model.Stated.{Service}
 use Rattle.master_tour.proofs.Unpassed.{unpassed_next, unpassed_back, unpassed_lost}
 use Rattle.life_runs.specs.Told.{Passed}
 use Rattle.life_runs.specs.Served.{Serves, ServedTurn, ServedComes, IsServedTurn, AllServedTurn, IsServedLed, IsQuiet, IsRunOf, all_serve, gives_it, served_behind, served_life}

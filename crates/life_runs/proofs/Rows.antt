@@ -1,11 +1,11 @@
 -- Worked rows: mails that are asked, come into hand and are told of; and when an empty read counts.
 use Rattle.std.proofs.Common.{◌≡◌, ℕ, true, false, Option, Some, None, List, [], ◌∷◌, ◌++◌, refl}
-use Rattle.frame_view.specs.of_link_mails.Body.{Body}
+use Rattle.master_tour.specs.of_link_mails.Body.{Body}
 use Rattle.master_hand.specs.Spoken.{passed}
 use Rattle.master_hand.specs.of_segment_plan.declared.service.Service as Plan
 use Rattle.life_runs.specs.Led.{Leads}
-use Rattle.frame_view.specs.of_segment_model.Ends.{Passing}
-use Rattle.frame_view.specs.of_state_model.Stated.{Service}
+use Rattle.master_hand.specs.of_segment_model.Ends.{Passing}
+use Rattle.master_hand.specs.of_state_model.Stated.{Service}
 use Rattle.master_tour.specs.of_master_side.Counts.{counts_behind}
 use Rattle.life_runs.specs.Served.{Keyed, ServedComes, asked_at, new_serves}
 use Rattle.life_runs.specs.Told.{Passed, told_on}

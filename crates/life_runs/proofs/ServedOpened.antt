@@ -1,9 +1,9 @@
 -- IN WHICH AL STATE EACH EPOCH OF A LIFE IS OPENED, over a serving: as over a run, whatever news the record has of a mail that is passed on.
 use Rattle.std.proofs.Common.{◌≡◌, ℕ, zero, suc, Bool, List, [], ◌∷◌, ◌++◌, map, length, length-append, refl, ap, sym, subst, arith}
-use Rattle.segment_ring.specs.of_datagrams.Datagram as Raw
-use Rattle.frame_view.specs.Seen.{seen}
-use Rattle.frame_view.specs.View.{Lens}
-use Rattle.master_hand.specs.of_master_side.Passing.{news_back, news_lost}
+use Rattle.master_tour.specs.of_datagrams.Datagram as Raw
+use Rattle.master_tour.specs.of_frame_view.Seen.{seen}
+use Rattle.master_tour.specs.of_frame_view.View.{Lens}
+use Rattle.master_tour.specs.of_master_side.Passing.{news_back, news_lost}
 use Rattle.master_hand.specs.of_segment_plan.declared.plan.Scenario.{Scenario}
 use Rattle.segment_ring.specs.declared.wire.Fate.{Fate}
 use Rattle.segment_ring.specs.declared.wire.Fate.TheVariants.{Pass, Lost}

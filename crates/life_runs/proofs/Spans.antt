@@ -3,21 +3,21 @@ use Rattle.std.proofs.Common.{◌≡◌, ℕ, suc, Bool, true, false, Option, So
 use Rattle.std.specs.Prelude.{◌==◌, ◌&&◌, nat_lt, if◌then◌else◌}
 use Rattle.std.proofs.lemmas.Bool.{eqb-true, ltb-true, ltb-false, lt-ltb}
 use Rattle.std.proofs.lemmas.List.{map-append}
-use Rattle.segment_ring.specs.of_datagrams.Datagram as Raw
-use Rattle.frame_view.specs.of_exchange_model.Exchange.{Speech}
-use Rattle.frame_view.specs.View.{Lens}
-use Rattle.frame_view.specs.Seen.{seen}
-use Rattle.frame_view.specs.Frames.{Share}
-use Rattle.frame_view.specs.Shares.{Lived, came_at, given_where}
-use Rattle.frame_view.specs.of_life_model.Lives.{Spot, Life, Stand, Opening, life_next, life_back, life_lost, era_back, opening_back, shows_clear, is_shown, last_step, clears, opens, steps_on, reopens, reopens_at, reopening, opens_state, returns_to_init}
+use Rattle.master_tour.specs.of_datagrams.Datagram as Raw
+use Rattle.master_hand.specs.of_exchange_model.Exchange.{Speech}
+use Rattle.master_tour.specs.of_frame_view.View.{Lens}
+use Rattle.master_tour.specs.of_frame_view.Seen.{seen}
+use Rattle.master_tour.specs.of_frame_view.Frames.{Share}
+use Rattle.master_tour.specs.of_frame_view.Shares.{Lived, came_at, given_where}
+use Rattle.master_tour.specs.of_life_model.Lives.{Spot, Life, Stand, Opening, life_next, life_back, life_lost, era_back, opening_back, shows_clear, is_shown, last_step, clears, opens, steps_on, reopens, reopens_at, reopening, opens_state, returns_to_init}
 use Rattle.life_runs.specs.Led.{Exchanged, Leads, Turn, IsTurn, is_passed, speech_at, life_behind}
-use Rattle.frame_view.specs.of_link_mails.Body.{Body}
-use Rattle.master_hand.specs.of_master_duty.Reply.{Reply}
+use Rattle.master_tour.specs.of_link_mails.Body.{Body}
+use Rattle.master_tour.specs.of_master_duty.Reply.{Reply}
 use Rattle.master_hand.specs.Spoken.{Asked, acknowledged, is_followed}
-use Rattle.frame_view.specs.of_segment_model.Record.{News}
-use Rattle.frame_view.specs.of_segment_model.Slaves.{Datagram, Found}
+use Rattle.master_hand.specs.of_segment_model.Record.{News}
+use Rattle.master_hand.specs.of_segment_model.Slaves.{Datagram, Found}
 use Rattle.segment_ring.specs.declared.wire.Fate.TheVariants.{Pass, Lost}
-use Rattle.frame_view.specs.of_state_model.Accounts.{Duty, Stage, Pick}
+use Rattle.master_hand.specs.of_state_model.Accounts.{Duty, Stage, Pick}
 use Rattle.life_runs.specs.Spans.{Span, is_leaving, is_open, span_of, spans_of, cleared_at, opened_at, spans_behind, SameEpochs, EpochsBack, EpochsLost}
 
 abbrev pub LifeOf : Type 0

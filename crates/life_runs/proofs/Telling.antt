@@ -2,16 +2,16 @@
 use Rattle.std.proofs.Common.{◌≡◌, ℕ, zero, suc, Bool, true, false, Option, Some, None, List, [], ◌∷◌, ◌++◌, map, length, refl, ap, sym, ◌∙◌, subst}
 use Rattle.std.specs.Prelude.{◌&&◌, if◌then◌else◌, All}
 use Rattle.std.proofs.lemmas.List.Elements.{All-nil, All-cons}
-use Rattle.frame_view.specs.of_life_model.Lives.{Life, life_lost, life_next}
-use Rattle.frame_view.specs.of_state_model.Stated.{Service}
-use Rattle.segment_ring.specs.of_datagrams.Datagram as Raw
-use Rattle.frame_view.specs.View.{Lens}
-use Rattle.frame_view.specs.Seen.{seen}
-use Rattle.frame_view.specs.Shares.{came_at, given_where}
-use Rattle.frame_view.specs.of_link_mails.Body.{Body}
-use Rattle.master_hand.specs.of_master_duty.Reply.{Reply}
+use Rattle.master_tour.specs.of_life_model.Lives.{Life, life_lost, life_next}
+use Rattle.master_hand.specs.of_state_model.Stated.{Service}
+use Rattle.master_tour.specs.of_datagrams.Datagram as Raw
+use Rattle.master_tour.specs.of_frame_view.View.{Lens}
+use Rattle.master_tour.specs.of_frame_view.Seen.{seen}
+use Rattle.master_tour.specs.of_frame_view.Shares.{came_at, given_where}
+use Rattle.master_tour.specs.of_link_mails.Body.{Body}
+use Rattle.master_tour.specs.of_master_duty.Reply.{Reply}
 use Rattle.master_hand.specs.Spoken.{Asked, acknowledged, is_followed, is_passed, passed}
-use Rattle.master_hand.specs.of_master_side.Passing.{news_back, news_lost}
+use Rattle.master_tour.specs.of_master_side.Passing.{news_back, news_lost}
 use Rattle.master_hand.specs.of_segment_plan.declared.service.Service as Plan
 use Rattle.segment_ring.specs.declared.wire.Fate.{Fate}
 use Rattle.segment_ring.specs.declared.wire.Fate.TheVariants.{Pass, Lost}

@@ -1,23 +1,23 @@
 -- What is told of a mail that is passed on are its own replies.
 use Rattle.std.proofs.Common.{◌≡◌, ℕ, Bool, true, false, Option, Some, None, List, [], ◌∷◌, ◌++◌, length, refl, ap, sym, ◌∙◌, subst, append_assoc, append-nil, length-append, arith, ◌+◌}
 use Rattle.std.specs.Prelude.{◌&&◌, is_some, option_map, if◌then◌else◌}
-use Rattle.frame_view.specs.of_exchange_model.Exchange.{Speech, plain}
-use Rattle.frame_view.specs.of_exchange_model.Rows.{Row, begun, row_told, row_heard}
-use Rattle.exchange_model.proofs.Words.{plain-append}
-use Rattle.frame_view.specs.of_life_model.Lives as Lives
-use Rattle.frame_view.specs.of_life_model.Lives.{Life, Era, Spot, granted, passes, era_next, life_next, life_back, life_lost, reopens}
-use Rattle.frame_view.specs.of_life_model.Own as Own
-use Rattle.frame_view.specs.of_link_model.Frames.{all_accepted}
-use Rattle.frame_view.specs.of_segment_model.Ends.{Passing}
-use Rattle.frame_view.specs.of_segment_model.Record.{News}
-use Rattle.frame_view.specs.of_segment_model.Seats.{Side, side_begins, side_holds, side_next, next_mail, is_over}
-use Rattle.frame_view.specs.of_segment_model.Slaves.{Datagram, Found, grams}
-use Rattle.frame_view.specs.of_state_model.Stated.{Service}
-use Rattle.frame_view.specs.of_state_model.Accounts as Accounts
-use Rattle.frame_view.specs.of_state_model.Accounts.{Account, Pick, account_back, account_begins, account_next, is_free, starts}
-use Rattle.frame_view.specs.of_link_mails.Body.{Body}
-use Rattle.master_hand.specs.of_mailbox_mail.declared.mail.Mail.{Mail}
-use Rattle.master_hand.specs.of_master_duty.Reply.{Reply}
+use Rattle.master_hand.specs.of_exchange_model.Exchange.{Speech, plain}
+use Rattle.master_hand.specs.of_exchange_model.Rows.{Row, begun, row_told, row_heard}
+use Rattle.master_hand.proofs.of_exchange_model.Words.{plain-append}
+use Rattle.master_tour.specs.of_life_model.Lives as Lives
+use Rattle.master_tour.specs.of_life_model.Lives.{Life, Era, Spot, granted, passes, era_next, life_next, life_back, life_lost, reopens}
+use Rattle.master_tour.specs.of_life_model.Own as Own
+use Rattle.master_tour.specs.of_link_model.Frames.{all_accepted}
+use Rattle.master_hand.specs.of_segment_model.Ends.{Passing}
+use Rattle.master_hand.specs.of_segment_model.Record.{News}
+use Rattle.master_hand.specs.of_segment_model.Seats.{Side, side_begins, side_holds, side_next, next_mail, is_over}
+use Rattle.master_hand.specs.of_segment_model.Slaves.{Datagram, Found, grams}
+use Rattle.master_hand.specs.of_state_model.Stated.{Service}
+use Rattle.master_hand.specs.of_state_model.Accounts as Accounts
+use Rattle.master_hand.specs.of_state_model.Accounts.{Account, Pick, account_back, account_begins, account_next, is_free, starts}
+use Rattle.master_tour.specs.of_link_mails.Body.{Body}
+use Rattle.master_tour.specs.of_mailbox_mail.declared.mail.Mail.{Mail}
+use Rattle.master_tour.specs.of_master_duty.Reply.{Reply}
 use Rattle.master_hand.specs.Spoken.{Asked, passed, emission, acknowledged, is_followed, is_passed}
 use Rattle.master_tour.specs.Brings.{accepted_at, accepted_in}
 use Rattle.life_runs.specs.Told.{Passed, TellsOwn, replies_in}

@@ -1,8 +1,8 @@
 -- WHAT CAME INTO HAND OF A SLAVE OF A SERVING: the services of its script, packets, and the mails that were passed on to it.
 use Rattle.std.specs.Prelude.{◌≡◌, ℕ, Some, List, [], ◌∷◌, ◌++◌}
-use Rattle.life_model.specs.Script.{life_started}
-use Rattle.frame_view.specs.of_state_model.Stated.{Service}
-use Rattle.frame_view.specs.View.{Lens}
+use Rattle.master_tour.specs.of_life_model.Script.{life_started}
+use Rattle.master_hand.specs.of_state_model.Stated.{Service}
+use Rattle.master_tour.specs.of_frame_view.View.{Lens}
 use Rattle.master_hand.specs.Spoken.{Asked, passed}
 use Rattle.master_hand.specs.of_segment_plan.declared.service.Service as Plan
 use Rattle.life_runs.specs.Led.{Comes, Leads}

@@ -1,8 +1,8 @@
 -- WHY EACH EPOCH OF A LIFE BEGAN.
 use Rattle.std.specs.Prelude.{◌≡◌, ◌⊎◌, ◌≤◌, ◌<◌, ℕ, true, Option, Some, None, List, [], ◌∷◌, ◌++◌, ⊤}
-use Rattle.frame_view.specs.of_life_model.Lives.{Era, Life, returns_to_init}
+use Rattle.master_tour.specs.of_life_model.Lives.{Era, Life, returns_to_init}
 use Rattle.life_runs.specs.Led.{Leads}
-use Rattle.frame_view.specs.of_state_model.Accounts.{Duty}
+use Rattle.master_hand.specs.of_state_model.Accounts.{Duty}
 
 -- the frame with which an epoch began; the first did before all frames
 abbrev pub since : Option ℕ → ℕ

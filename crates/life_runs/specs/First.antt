@@ -1,7 +1,7 @@
 -- THE SLAVES OF A PLAN before the first frame, as their master leads them.
 use Rattle.std.specs.Prelude.{◌≡◌, ℕ, suc, ◌==◌, false, if◌then◌else◌, List, [], ◌∷◌, ⊤}
-use Rattle.frame_view.specs.View.{Lens}
-use Rattle.frame_view.specs.of_life_model.Lives.{Spot}
+use Rattle.master_tour.specs.of_frame_view.View.{Lens}
+use Rattle.master_tour.specs.of_life_model.Lives.{Spot}
 use Rattle.master_hand.specs.of_segment_plan.declared.plan.Scenario.{Scenario}
 use Rattle.master_hand.specs.of_segment_plan.declared.service.Service as Plan
 use Rattle.master_hand.specs.of_segment_plan.declared.slave.SlaveSpec.{SlaveSpec}

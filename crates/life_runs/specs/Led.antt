@@ -1,17 +1,17 @@
 -- A MASTER LEADS THE LIVES OF ITS SLAVES, frame by frame: what comes into hand of each, what the frame has for it, and what the return or the loss
 -- of the frame makes of its life.
 use Rattle.std.specs.Prelude.{◌≡◌, ℕ, suc, ◌+◌, ◌%◌, Bool, not, nat_lt, if◌then◌else◌, Option, Some, None, List, [], ◌∷◌, ◌++◌, map, length, slice_get, ⊤}
-use Rattle.segment_ring.specs.of_datagrams.Datagram as Raw
-use Rattle.segment_ring.specs.of_datagrams.Frame.{IsFrame, chained}
+use Rattle.master_tour.specs.of_datagrams.Datagram as Raw
+use Rattle.master_tour.specs.of_datagrams.Frame.{IsFrame, chained}
 use Rattle.master_hand.specs.of_protocol_models.EoeClient as EoeClient
-use Rattle.frame_view.specs.of_exchange_model.Exchange.{Speech}
-use Rattle.frame_view.specs.View.{Lens}
-use Rattle.frame_view.specs.Seen.{seen}
-use Rattle.frame_view.specs.Frames.{Share}
-use Rattle.frame_view.specs.Shares.{Lived, IsNext, Asked, lived_back, lived_lost}
-use Rattle.frame_view.specs.of_life_model.Lives.{Spot, new_life}
-use Rattle.frame_view.specs.of_link_mails.Body.{Body}
-use Rattle.master_hand.specs.of_master_duty.Reply.{Reply}
+use Rattle.master_hand.specs.of_exchange_model.Exchange.{Speech}
+use Rattle.master_tour.specs.of_frame_view.View.{Lens}
+use Rattle.master_tour.specs.of_frame_view.Seen.{seen}
+use Rattle.master_tour.specs.of_frame_view.Frames.{Share}
+use Rattle.master_tour.specs.of_frame_view.Shares.{Lived, IsNext, Asked, lived_back, lived_lost}
+use Rattle.master_tour.specs.of_life_model.Lives.{Spot, new_life}
+use Rattle.master_tour.specs.of_link_mails.Body.{Body}
+use Rattle.master_tour.specs.of_master_duty.Reply.{Reply}
 use Rattle.master_hand.specs.Spoken as Spoken
 use Rattle.master_hand.specs.Spoken.{net, hand_speech, acknowledged, is_followed}
 pub use Rattle.master_hand.specs.Spoken.{is_passed}
@@ -19,8 +19,8 @@ use Rattle.master_hand.specs.Talk.{asked_of}
 use Rattle.master_hand.specs.of_segment_plan.declared.service.Service as Plan
 use Rattle.segment_ring.specs.declared.wire.Fate.{Fate}
 use Rattle.segment_ring.specs.declared.wire.Fate.TheVariants.{Pass, Lost}
-use Rattle.frame_view.specs.of_state_model.Stated.{Service}
-use Rattle.frame_view.specs.of_state_model.Accounts.{Account, starts}
+use Rattle.master_hand.specs.of_state_model.Stated.{Service}
+use Rattle.master_hand.specs.of_state_model.Accounts.{Account, starts}
 
 -- a frame as it went round: its octets, its fate, and what came back
 pub record Exchanged : Type 0 where

@@ -1,13 +1,13 @@
 -- THE RECORD'S COUNTERS ARE THE SIDE'S, all along the life of a slave.
 use Rattle.std.specs.Prelude.{◌≡◌, ◌&&◌, nat_lt, Bool, false, List, [], ⊤}
-use Rattle.master_tour.specs.of_frame_view.of_life_model.Lives.{Life, Opening, Stand}
-use Rattle.master_tour.specs.of_frame_view.of_link_mails.Body.{Body}
-use Rattle.master_tour.specs.of_frame_view.of_link_model.Segment.{RingFate}
-use Rattle.master_tour.specs.of_frame_view.of_segment_model.Record.{Frame, Kept, nothing_kept}
-use Rattle.master_tour.specs.of_frame_view.of_segment_model.Seats.{Side}
-use Rattle.master_tour.specs.of_frame_view.of_segment_model.Slaves.{Datagram}
+use Rattle.master_tour.specs.of_life_model.Lives.{Life, Opening, Stand}
+use Rattle.master_tour.specs.of_link_mails.Body.{Body}
+use Rattle.master_tour.specs.of_link_model.Segment.{RingFate}
+use Rattle.master_hand.specs.of_segment_model.Record.{Frame, Kept, nothing_kept}
+use Rattle.master_hand.specs.of_segment_model.Seats.{Side}
+use Rattle.master_hand.specs.of_segment_model.Slaves.{Datagram}
 use Rattle.master_tour.specs.of_master_side.Passing.{IsKept}
-use Rattle.master_tour.specs.of_master_side.of_master_duty.Reply.{Reply}
+use Rattle.master_tour.specs.of_master_duty.Reply.{Reply}
 
 -- an opening whose slave wasn't seen in Init yet
 abbrev pub is_left : Opening → Bool

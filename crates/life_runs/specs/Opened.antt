@@ -1,7 +1,7 @@
 -- IN WHICH AL STATE EACH EPOCH OF A LIFE IS OPENED.
 use Rattle.std.specs.Prelude.{◌≡◌, ◌⊎◌, ◌≤◌, ◌<◌, ℕ, Option, Some, None, List, [], ◌∷◌, ◌++◌, ⊤}
 use Rattle.std.specs.List.{All}
-use Rattle.frame_view.specs.of_life_model.Lives.{Era, Life, opens_state}
+use Rattle.master_tour.specs.of_life_model.Lives.{Era, Life, opens_state}
 use Rattle.life_runs.specs.Causes.{since, IsOwn, IsGivenUp}
 use Rattle.life_runs.specs.Led.{Leads}
 

@@ -1,26 +1,26 @@
 -- A MASTER LEADS THE LIVES OF ITS SLAVES ALSO WHILE MAILS ARE PASSED ON: besides what a run has of each slave there are the mails that wait to be passed
 -- on, the one in hand, and by what the record tells which mails of its epoch are new and whether an empty read of mailbox 1 counts.
 use Rattle.std.specs.Prelude.{◌≡◌, ◌<◌, ◌≤◌, ◌+◌, ℕ, zero, suc, ◌&&◌, Bool, true, false, Option, Some, None, List, [], ◌∷◌, ◌++◌, map, length, ⊤, if◌then◌else◌}
-use Rattle.segment_ring.specs.of_datagrams.Datagram as Raw
-use Rattle.segment_ring.specs.of_datagrams.Frame.{IsFrame, chained}
-use Rattle.frame_view.specs.View.{Lens}
-use Rattle.frame_view.specs.Seen.{seen}
-use Rattle.frame_view.specs.Shares.{Lived, AllBoth, IsNext, Asked, lived_back, lived_lost}
-use Rattle.frame_view.specs.of_link_mails.Body.{Body}
-use Rattle.master_hand.specs.of_mailbox_mail.declared.mail.Mail.{Mail}
-use Rattle.master_hand.specs.of_master_duty.Reply.{Reply}
+use Rattle.master_tour.specs.of_datagrams.Datagram as Raw
+use Rattle.master_tour.specs.of_datagrams.Frame.{IsFrame, chained}
+use Rattle.master_tour.specs.of_frame_view.View.{Lens}
+use Rattle.master_tour.specs.of_frame_view.Seen.{seen}
+use Rattle.master_tour.specs.of_frame_view.Shares.{Lived, AllBoth, IsNext, Asked, lived_back, lived_lost}
+use Rattle.master_tour.specs.of_link_mails.Body.{Body}
+use Rattle.master_tour.specs.of_mailbox_mail.declared.mail.Mail.{Mail}
+use Rattle.master_tour.specs.of_master_duty.Reply.{Reply}
 use Rattle.master_hand.specs.Spoken as Spoken
 use Rattle.master_hand.specs.Spoken.{passed, acknowledged, is_followed, is_passed}
-use Rattle.master_hand.specs.of_master_side.Passing.{news_back, news_lost}
+use Rattle.master_tour.specs.of_master_side.Passing.{news_back, news_lost}
 use Rattle.master_hand.specs.of_segment_plan.declared.plan.Scenario.{Scenario}
 use Rattle.master_hand.specs.of_segment_plan.declared.service.Service as Plan
 use Rattle.segment_ring.specs.declared.wire.Fate.{Fate}
 use Rattle.segment_ring.specs.declared.wire.Fate.TheVariants.{Pass, Lost}
 use Rattle.life_runs.specs.First.{first_leads, lens_of}
 use Rattle.life_runs.specs.Led.{Comes, Exchanged, Leads, Took, Turn, gives_up_at, missed_behind, speech_at}
-use Rattle.frame_view.specs.of_link_model.Segment.{RingFate}
-use Rattle.frame_view.specs.of_segment_model.Record.{Frame, Kept, nothing_kept}
-use Rattle.frame_view.specs.of_state_model.Stated.{Service}
+use Rattle.master_tour.specs.of_link_model.Segment.{RingFate}
+use Rattle.master_hand.specs.of_segment_model.Record.{Frame, Kept, nothing_kept}
+use Rattle.master_hand.specs.of_state_model.Stated.{Service}
 use Rattle.master_tour.specs.Brings.{accepted_in}
 use Rattle.master_tour.specs.of_master_side.Counts.{counts_on, kept_on}
 use Rattle.life_runs.specs.Told.{Passed, TellsOwn, told_on}

@@ -1,6 +1,6 @@
 -- THE EPOCHS OF A LIFE: when each was returned to Init, and when it was opened.
 use Rattle.std.specs.Prelude.{◌≡◌, ℕ, ◌&&◌, not, Bool, true, false, nat_lt, if◌then◌else◌, Option, Some, None, List, [], ◌∷◌, ◌++◌, map}
-use Rattle.frame_view.specs.of_life_model.Lives.{Era, Life, Stand}
+use Rattle.master_tour.specs.of_life_model.Lives.{Era, Life, Stand}
 
 -- a slave is to be returned to Init: an opening of it has begun, and hasn't shown Init yet
 abbrev pub is_leaving : Stand → Bool

@@ -1,11 +1,11 @@
 -- WHAT IS TOLD of a mail that is passed on: its replies, as frames bring them.
 use Rattle.std.specs.Prelude.{◌≡◌, ℕ, true, is_some, Option, Some, None, List, [], ◌++◌}
-use Rattle.frame_view.specs.of_exchange_model.Exchange.{plain}
-use Rattle.frame_view.specs.of_exchange_model.Rows.{Row}
-use Rattle.frame_view.specs.of_segment_model.Ends.{Passing}
-use Rattle.frame_view.specs.of_link_mails.Body.{Body}
-use Rattle.master_hand.specs.of_mailbox_mail.declared.mail.Mail.{Mail}
-use Rattle.master_hand.specs.of_master_duty.Reply.{Reply}
+use Rattle.master_hand.specs.of_exchange_model.Exchange.{plain}
+use Rattle.master_hand.specs.of_exchange_model.Rows.{Row}
+use Rattle.master_hand.specs.of_segment_model.Ends.{Passing}
+use Rattle.master_tour.specs.of_link_mails.Body.{Body}
+use Rattle.master_tour.specs.of_mailbox_mail.declared.mail.Mail.{Mail}
+use Rattle.master_tour.specs.of_master_duty.Reply.{Reply}
 use Rattle.master_hand.specs.Spoken.{Asked, passed, emission}
 
 -- THE MAIL THAT WAS PASSED ON LAST, as long as no other service has come into hand: the key of its asker, and what was told under it so far

@@ -3,16 +3,16 @@
 
 ghost use Rattle.std.specs.Prelude.{◌≡◌, ◌≤◌, ℕ, Bool, Option, List};
 ghost use Rattle.life_runs.specs.Lives.{LifeKept, came_so, lost_so};
-ghost use Rattle.master_tour.specs.of_frame_view.of_exchange_model.Exchange.{Speech};
+ghost use Rattle.master_hand.specs.of_exchange_model.Exchange.{Speech};
 ghost use Rattle.master_tour.specs.of_frame_view.Seen.{seen};
 ghost use Rattle.master_tour.specs.of_frame_view.View.{Lens};
-ghost use Rattle.master_tour.specs.of_frame_view.of_life_model.Lives.{Life, Spot, Stand, gives_up, life_back, life_lost, life_next, new_life};
-ghost use Rattle.master_tour.specs.of_frame_view.of_link_mails.Body.{Body};
-ghost use Rattle.master_tour.specs.of_frame_view.of_segment_model.Record.{Kept, News, nothing_kept};
-ghost use Rattle.master_tour.specs.of_frame_view.of_segment_model.Slaves.{Found};
-ghost use Rattle.master_tour.specs.of_frame_view.of_state_model.Accounts.{Pick, duty_access};
+ghost use Rattle.master_tour.specs.of_life_model.Lives.{Life, Spot, Stand, gives_up, life_back, life_lost, life_next, new_life};
+ghost use Rattle.master_tour.specs.of_link_mails.Body.{Body};
+ghost use Rattle.master_hand.specs.of_segment_model.Record.{Kept, News, nothing_kept};
+ghost use Rattle.master_hand.specs.of_segment_model.Slaves.{Found};
+ghost use Rattle.master_hand.specs.of_state_model.Accounts.{Pick, duty_access};
 ghost use Rattle.master_tour.specs.of_master_side.declared.carried.Carried.{Carried};
-ghost use Rattle.master_tour.specs.of_master_side.of_master_duty.Reply.{Reply};
+ghost use Rattle.master_tour.specs.of_master_duty.Reply.{Reply};
 ghost use Rattle.master_tour.specs.Passing.{StandKept};
 ghost use Rattle.master_tour.specs.Under.{Under};
 ghost use Rattle.master_tour.specs.declared.stop.Stand as Stop;

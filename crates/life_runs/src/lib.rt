@@ -7,15 +7,21 @@ pub mod counters_kept;
 pub mod served_runs;
 
 ghost use Rattle.std.specs.Prelude.{◌≡◌, ℕ, Bool, List, length};
-ghost use Rattle.frame_view.specs.View.{Lens};
+ghost use Rattle.master_tour.specs.of_frame_view.View.{Lens};
 ghost use Rattle.segment_ring.specs.declared.wire.Fate.TheVariants.{Pass, Lost};
 ghost use Rattle.life_runs.specs.Led.{missed_behind, Exchanged, Leads, Turn, IsTurn, IsLed, life_behind};
-ghost use Rattle.segment_ring.specs.of_datagrams.Datagram as Raw;
+ghost use Rattle.master_tour.specs.of_datagrams.Datagram as Raw;
 ghost use Rattle.life_runs.specs.Causes.{AllHaveCause};
 ghost use Rattle.life_runs.specs.Opened.{AllOpenTheirs};
 ghost use Rattle.life_runs.specs.Spans.{SameEpochs, EpochsBack, EpochsLost};
 ghost use Rattle.life_runs.specs.First.{first_leads};
 ghost use Rattle.master_hand.specs.of_segment_plan.declared.plan.Scenario.{Scenario};
+
+pub use master_hand;
+pub use master_hand::{mailbox_mail, object_dictionary, segment_plan};
+pub use master_tour;
+pub use master_tour::{al_state, frame_view, mailbox_master, master_duty, master_side};
+pub use segment_ring::datagrams;
 
 /// A frame that came back ends the lost ones in a row.
 pub fn returned_law()

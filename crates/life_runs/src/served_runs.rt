@@ -2,7 +2,7 @@
 //! nothing, and their contracts state the laws.
 
 ghost use Rattle.std.specs.Prelude.{◌≡◌, ℕ, None, List, All, map};
-ghost use Rattle.frame_view.specs.View.{Lens};
+ghost use Rattle.master_tour.specs.of_frame_view.View.{Lens};
 ghost use Rattle.master_hand.specs.of_segment_plan.declared.plan.Scenario.{Scenario};
 ghost use Rattle.life_runs.specs.Led.{Exchanged, Leads, IsLed};
 ghost use Rattle.life_runs.specs.Opened.{AllOpenTheirs};

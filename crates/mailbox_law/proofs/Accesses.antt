@@ -3,16 +3,16 @@ use Rattle.std.proofs.Common.{◌≡◌, ℕ, ◌+◌, ◌*◌, ◌≤◌, ◌==
 use Rattle.std.proofs.lemmas.List.{length-replicate}
 use Rattle.std.proofs.Math.Bool.{and-true}
 use Rattle.std.proofs.lemmas.Bool.{and_parts, and_from, and_right, eq-eqb, cond-true, cond-false}
-use Rattle.mailbox_mail.specs.declared.mail.Mail.{Mail}
-use Rattle.mailbox_mail.specs.Area.{mail_area}
-use Rattle.datagrams.specs.declared.head.Head.{Head}
-use Rattle.esc_registers.specs.declared.registers.Registers.{Registers}
-use Rattle.esc_registers.specs.declared.row.Row.{Row}
-use Rattle.esc_registers.specs.declared.row.Row.TheVariants.{OutArea, InArea, Activate, PdiControl}
-use Rattle.esc_registers.specs.declared.row.Mailbox.TheVariants.{Inward}
-use Rattle.esc_registers.specs.Registers.{are_areas_right}
-use Rattle.esc_registers.specs.Manager.{is_right, is_enabled}
-use Rattle.esc_registers.specs.Access.{Passed, passed_at, passed_by, row_of, is_meant, is_by_place, is_by_station, write_row, read_row}
+use Rattle.mailbox_master.specs.of_mailbox_mail.declared.mail.Mail.{Mail}
+use Rattle.mailbox_master.specs.of_mailbox_mail.Area.{mail_area}
+use Rattle.al_state.specs.of_datagrams.declared.head.Head.{Head}
+use Rattle.mailbox_slave.specs.of_esc_registers.declared.registers.Registers.{Registers}
+use Rattle.mailbox_slave.specs.of_esc_registers.declared.row.Row.{Row}
+use Rattle.mailbox_slave.specs.of_esc_registers.declared.row.Row.TheVariants.{OutArea, InArea, Activate, PdiControl}
+use Rattle.mailbox_slave.specs.of_esc_registers.declared.row.Mailbox.TheVariants.{Inward}
+use Rattle.mailbox_slave.specs.of_esc_registers.Registers.{are_areas_right}
+use Rattle.mailbox_slave.specs.of_esc_registers.Manager.{is_right, is_enabled}
+use Rattle.mailbox_slave.specs.of_esc_registers.Access.{Passed, passed_at, passed_by, row_of, is_meant, is_by_place, is_by_station, write_row, read_row}
 use Rattle.mailbox_master.specs.Access.{Access, access_head, write_access, read_access, request_access, acknowledge_access}
 use Rattle.mailbox_master.specs.Halves.{bit_number}
 use Rattle.mailbox_law.specs.Wire.{met_by}

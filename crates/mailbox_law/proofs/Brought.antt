@@ -2,11 +2,11 @@
 use Rattle.std.proofs.Common.{◌≡◌, ℕ, ◌<◌, ◌==◌, true, false, length, replicate, arith, refl, ap, sym, ◌∙◌, subst}
 use Rattle.std.proofs.lemmas.Bool.{and_from, eq-eqb}
 use Rattle.std.proofs.lemmas.List.{length-replicate}
-use Rattle.ec_fields.specs.Fields.{number_at}
-use Rattle.esc_registers.specs.declared.registers.Registers.{Registers}
-use Rattle.esc_registers.specs.Registers.{first_registers, are_areas_right}
-use Rattle.esc_registers.specs.Manager.{is_right}
-use Rattle.esc_registers.specs.Access.{access}
+use Rattle.al_state.specs.of_ec_fields.Fields.{number_at}
+use Rattle.mailbox_slave.specs.of_esc_registers.declared.registers.Registers.{Registers}
+use Rattle.mailbox_slave.specs.of_esc_registers.Registers.{first_registers, are_areas_right}
+use Rattle.mailbox_slave.specs.of_esc_registers.Manager.{is_right}
+use Rattle.mailbox_slave.specs.of_esc_registers.Access.{access}
 use Rattle.al_state.specs.declared.bringing.BringUp.{BringUp}
 use Rattle.al_state.specs.declared.bringing.BringStep.{BringStep}
 use Rattle.al_state.specs.declared.bringing.BringStep.TheVariants.{Address, OutManager, InManager}

@@ -1,18 +1,18 @@
 -- What the datagrams of a link do, in the words of the link.
 use Rattle.std.proofs.Common.{◌≡◌, ℕ, ◌==◌, Bool, true, false, ◌&&◌, Option, Some, None, List, length, Result, Ok, Err, refl, ap, sym, ◌∙◌, subst, if◌then◌else◌, replicate}
-use Rattle.mailbox_mail.specs.declared.mail.Mail.{Mail}
-use Rattle.mailbox_mail.specs.declared.mail.MailFault.{MailFault}
-use Rattle.mailbox_mail.specs.Mail.{mail_read}
-use Rattle.link_model.specs.Mails.{LinkMail, news, seen}
-use Rattle.link_model.specs.Master.{InHalf, InState, asked_answered}
-use Rattle.link_model.specs.Link.{Fate, written, write_counter, out_side_after}
-use Rattle.link_model.specs.Slave.{OutSide}
-use Rattle.link_mails.specs.Body.{Body, link_mail, link_read, bit_1, mail_brought}
-use Rattle.mailbox_mail.specs.Area.{mail_area}
-use Rattle.esc_registers.specs.declared.registers.Registers.{Registers}
-use Rattle.esc_registers.specs.Registers.{are_areas_right}
-use Rattle.esc_registers.specs.Manager.{is_right, is_enabled}
-use Rattle.esc_registers.specs.Access.{Passed}
+use Rattle.mailbox_master.specs.of_mailbox_mail.declared.mail.Mail.{Mail}
+use Rattle.mailbox_master.specs.of_mailbox_mail.declared.mail.MailFault.{MailFault}
+use Rattle.mailbox_master.specs.of_mailbox_mail.Mail.{mail_read}
+use Rattle.mailbox_master.specs.of_link_model.Mails.{LinkMail, news, seen}
+use Rattle.mailbox_master.specs.of_link_model.Master.{InHalf, InState, asked_answered}
+use Rattle.mailbox_master.specs.of_link_model.Link.{Fate, written, write_counter, out_side_after}
+use Rattle.mailbox_master.specs.of_link_model.Slave.{OutSide}
+use Rattle.mailbox_master.specs.of_link_mails.Body.{Body, link_mail, link_read, bit_1, mail_brought}
+use Rattle.mailbox_master.specs.of_mailbox_mail.Area.{mail_area}
+use Rattle.mailbox_slave.specs.of_esc_registers.declared.registers.Registers.{Registers}
+use Rattle.mailbox_slave.specs.of_esc_registers.Registers.{are_areas_right}
+use Rattle.mailbox_slave.specs.of_esc_registers.Manager.{is_right, is_enabled}
+use Rattle.mailbox_slave.specs.of_esc_registers.Access.{Passed}
 use Rattle.mailbox_master.specs.Access.{write_access, read_access, request_access, acknowledge_access}
 use Rattle.mailbox_master.specs.Any.{in_station, in_area_len, in_half_of, in_access_of}
 use Rattle.mailbox_master.specs.declared.halves.InwardHalf.{InwardHalf}

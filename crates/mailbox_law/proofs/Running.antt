@@ -2,16 +2,16 @@
 use Rattle.std.proofs.Common.{◌≡◌, Option, Some, None, List, [], ◌∷◌, ◌++◌, map, Result, Ok, Err, refl, ap, sym, ◌∙◌, append_assoc, append-nil, if◌then◌else◌, arith}
 use Rattle.std.specs.Prelude.{option_map}
 use Rattle.std.proofs.lemmas.Grind.{common_steps}
-use Rattle.mailbox_mail.specs.declared.mail.Mail.{Mail}
-use Rattle.mailbox_mail.specs.declared.mail.MailFault.{MailFault}
-use Rattle.mailbox_mail.specs.Mail.{mail_read}
-use Rattle.link_model.specs.Mails.{LinkMail}
-use Rattle.link_model.specs.Slave.{Server}
-use Rattle.link_model.specs.Link.{Link, Event, happens, run, held_after}
-use Rattle.link_model.specs.Agree.{Agrees, Accords}
-use Rattle.link_model.proofs.Priors.{run_accords, new_accords}
-use Rattle.link_mails.specs.Body.{Body, link_mail, link_read, uncounted}
-use Rattle.esc_registers.specs.declared.registers.Registers.{Registers}
+use Rattle.mailbox_master.specs.of_mailbox_mail.declared.mail.Mail.{Mail}
+use Rattle.mailbox_master.specs.of_mailbox_mail.declared.mail.MailFault.{MailFault}
+use Rattle.mailbox_master.specs.of_mailbox_mail.Mail.{mail_read}
+use Rattle.mailbox_master.specs.of_link_model.Mails.{LinkMail}
+use Rattle.mailbox_master.specs.of_link_model.Slave.{Server}
+use Rattle.mailbox_master.specs.of_link_model.Link.{Link, Event, happens, run, held_after}
+use Rattle.mailbox_master.specs.of_link_model.Agree.{Agrees, Accords}
+use Rattle.mailbox_master.proofs.of_link_model.Priors.{run_accords, new_accords}
+use Rattle.mailbox_master.specs.of_link_mails.Body.{Body, link_mail, link_read, uncounted}
+use Rattle.mailbox_slave.specs.of_esc_registers.declared.registers.Registers.{Registers}
 use Rattle.mailbox_slave.specs.Kept.{Kept, offered}
 use Rattle.mailbox_slave.specs.Node.{in_side}
 use Rattle.mailbox_slave.specs.Registers.{in_box}

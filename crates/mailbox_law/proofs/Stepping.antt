@@ -1,15 +1,14 @@
 -- A step of the processor over the keeper shows the step of the link.
 use Rattle.std.proofs.Common.{◌≡◌, ℕ, Option, Some, None, List, [], ◌∷◌, ◌++◌, Ok, Err, refl, ap, sym, ◌∙◌, subst, append_assoc, append-nil}
 use Rattle.std.specs.Prelude.{option_map, ⊤}
-use Rattle.mailbox_mail.specs.declared.mail.Mail.{Mail}
-use Rattle.link_model.specs.Mails.{LinkMail}
-use Rattle.link_model.specs.Slave.{Node, Server, SeenAs, node_seen, node_look, node_take, node_takes, node_offers, mail_offered, all_taken, all_given, processor_step}
-use Rattle.link_model.specs.Link.{Link, pdi}
-use Rattle.link_model.specs.Agree.{Agrees}
-use Rattle.link_model.proofs.Servers.{step_takes}
-use Rattle.link_model.proofs.Law.{happens_keeps, taken_of_held}
-use Rattle.link_model.specs.Link.{Event}
-use Rattle.link_mails.specs.Body.{Body, uncounted}
+use Rattle.mailbox_master.specs.of_mailbox_mail.declared.mail.Mail.{Mail}
+use Rattle.mailbox_master.specs.of_link_model.Mails.{LinkMail}
+use Rattle.mailbox_master.specs.of_link_model.Slave.{Node, Server, SeenAs, node_seen, node_look, node_take, node_takes, node_offers, mail_offered, all_taken, all_given, processor_step}
+use Rattle.mailbox_master.specs.of_link_model.Link.{Link, pdi, Event}
+use Rattle.mailbox_master.specs.of_link_model.Agree.{Agrees}
+use Rattle.mailbox_master.proofs.of_link_model.Servers.{step_takes}
+use Rattle.mailbox_master.proofs.of_link_model.Law.{happens_keeps, taken_of_held}
+use Rattle.mailbox_master.specs.of_link_mails.Body.{Body, uncounted}
 use Rattle.mailbox_slave.specs.Node.{server_of}
 use Rattle.mailbox_law.specs.Waiting.{Kept, keeper, bodies_of, first_of, others_of, keeps, gives}
 

@@ -1,8 +1,8 @@
 -- The steps of a run as events of the link.
 use Rattle.std.specs.Prelude.{ℕ, ◌+◌, ◌≤◌, List, [], ◌∷◌, ◌++◌, map, length, Ok, ⊤}
-use Rattle.mailbox_mail.specs.declared.mail.Mail.{Mail}
-use Rattle.link_model.specs.Link.{Fate, Event, Link, run, new_link}
-use Rattle.link_mails.specs.Body.{Body, uncounted}
+use Rattle.mailbox_master.specs.of_mailbox_mail.declared.mail.Mail.{Mail}
+use Rattle.mailbox_master.specs.of_link_model.Link.{Fate, Event, Link, run, new_link}
+use Rattle.mailbox_master.specs.of_link_mails.Body.{Body, uncounted}
 use Rattle.mailbox_law.specs.Waiting.{keeper}
 use Rattle.mailbox_law.specs.declared.steps.LinkFate.{LinkFate}
 use Rattle.mailbox_law.specs.declared.steps.LinkFate.TheVariants.{Pass, LostBefore, LostBehind}

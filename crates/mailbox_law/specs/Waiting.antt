@@ -1,8 +1,8 @@
 -- The server of a run of one link: it keeps the mails that it takes, answers none, and has mails waiting in order.
 use Rattle.std.specs.Prelude.{ℕ, ◌-◌, ◌≤◌, ◌++◌, length, Option, Some, None, List, [], ◌∷◌, map, Ok, Err}
-use Rattle.mailbox_mail.specs.declared.mail.Mail.{Mail}
-use Rattle.link_model.specs.Slave.{Server}
-use Rattle.link_mails.specs.Body.{Body, uncounted}
+use Rattle.mailbox_master.specs.of_mailbox_mail.declared.mail.Mail.{Mail}
+use Rattle.mailbox_master.specs.of_link_model.Slave.{Server}
+use Rattle.mailbox_master.specs.of_link_mails.Body.{Body, uncounted}
 
 -- mails without their counters, as a link carries them
 abbrev pub bodies_of : List Mail → List Body

@@ -1,18 +1,18 @@
 -- A link over the registers of its slave.
 use Rattle.std.specs.Prelude.{◌≡◌, ℕ, true, Option, Some, None, List, [], length, Ok}
-use Rattle.mailbox_mail.specs.declared.mail.Mail.{Mail}
-use Rattle.mailbox_mail.specs.Mail.{mail_read}
-use Rattle.link_model.specs.Mails.{LinkMail}
-use Rattle.link_model.specs.Link.{written, write_counter, in_met}
-use Rattle.link_mails.specs.Body.{Body, link_mail}
-use Rattle.link_model.specs.Master.{InHalf, in_answered, in_accepts}
+use Rattle.mailbox_master.specs.of_mailbox_mail.declared.mail.Mail.{Mail}
+use Rattle.mailbox_master.specs.of_mailbox_mail.Mail.{mail_read}
+use Rattle.mailbox_master.specs.of_link_model.Mails.{LinkMail}
+use Rattle.mailbox_master.specs.of_link_model.Link.{written, write_counter, in_met}
+use Rattle.mailbox_master.specs.of_link_mails.Body.{Body, link_mail}
+use Rattle.mailbox_master.specs.of_link_model.Master.{InHalf, in_answered, in_accepts}
 use Rattle.mailbox_slave.specs.Kept.{Kept}
 use Rattle.mailbox_slave.specs.Registers.{out_box, in_box, acknowledge_of}
 use Rattle.mailbox_slave.specs.Node.{out_side, in_side}
 use Rattle.mailbox_master.specs.Any.{in_returned, in_got}
-use Rattle.esc_registers.specs.declared.registers.Registers.{Registers}
-use Rattle.esc_registers.specs.Registers.{are_areas_right}
-use Rattle.esc_registers.specs.Access.{Passed, access}
+use Rattle.mailbox_slave.specs.of_esc_registers.declared.registers.Registers.{Registers}
+use Rattle.mailbox_slave.specs.of_esc_registers.Registers.{are_areas_right}
+use Rattle.mailbox_slave.specs.of_esc_registers.Access.{Passed, access}
 use Rattle.mailbox_master.specs.Access.{Access, access_head}
 use Rattle.mailbox_master.specs.Next.{accepted_by}
 use Rattle.mailbox_master.specs.declared.inward.Got.{Got}

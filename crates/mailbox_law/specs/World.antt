@@ -1,7 +1,7 @@
 -- A run in code, against the link that it shows.
 use Rattle.std.specs.Prelude.{◌≡◌, ℕ, ◌+◌, ◌-◌, List, ◌++◌, length, take}
-use Rattle.link_model.specs.Link.{Link}
-use Rattle.link_mails.specs.Body.{Body}
+use Rattle.mailbox_master.specs.of_link_model.Link.{Link}
+use Rattle.mailbox_master.specs.of_link_mails.Body.{Body}
 use Rattle.mailbox_master.specs.Any.{out_half_of, out_station, out_len, in_half_of, in_station, in_area_len}
 use Rattle.mailbox_slave.specs.Kept.{KeptFits}
 use Rattle.mailbox_slave.specs.Node.{out_side, in_side, node_of}

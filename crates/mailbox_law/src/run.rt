@@ -1,17 +1,17 @@
 //! A run of one link over any list of steps.
 
 ghost use Rattle.std.specs.Prelude.{◌≡◌, ◌≤◌, ◌↔◌, All, IsTrue, IfOk};
-ghost use Rattle.link_model.specs.Mails.{IsPrefixOf};
-ghost use Rattle.link_model.specs.Agree.{Accords};
-ghost use Rattle.link_model.specs.Numbers.{Numbered};
+ghost use Rattle.mailbox_master.specs.of_link_model.Mails.{IsPrefixOf};
+ghost use Rattle.mailbox_master.specs.of_link_model.Agree.{Accords};
+ghost use Rattle.mailbox_master.specs.of_link_model.Numbers.{Numbered};
 ghost use Rattle.mailbox_law.specs.Waiting.{bodies_of};
 ghost use Rattle.mailbox_law.specs.Steps.{FitsLink, link_behind, given};
 ghost use Rattle.mailbox_law.specs.World.{IsSound, Shows, link_of};
 
 use crate::steps::{LinkRun, LinkStep};
 use crate::world::{World, add};
-use ec_fields::{NoMemory, Rows};
-use mailbox_mail::Mail;
+use al_state::ec_fields::{NoMemory, Rows};
+use mailbox_master::mailbox_mail::Mail;
 use std::alloc::Global;
 
 // The same mails in rows.

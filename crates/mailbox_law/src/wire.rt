@@ -2,7 +2,7 @@
 
 ghost use Rattle.std.specs.Prelude.{◌≡◌, ℕ, List, length};
 ghost use Rattle.mailbox_master.specs.Halves.{held_mail};
-ghost use Rattle.link_model.specs.Link.{Fate, out_half_after, out_side_after, in_half_after, in_side_after, in_news};
+ghost use Rattle.mailbox_master.specs.of_link_model.Link.{Fate, out_half_after, out_side_after, in_half_after, in_side_after, in_news};
 ghost use Rattle.mailbox_master.specs.Any.{out_half_of, out_station, out_len, in_half_of, in_station, in_area_len, in_access_of};
 ghost use Rattle.mailbox_slave.specs.Kept.{Kept};
 ghost use Rattle.mailbox_slave.specs.Registers.{out_box, in_box, in_len, acknowledge_of};
@@ -11,10 +11,10 @@ ghost use Rattle.mailbox_law.specs.Wire.{IsLinked, IsReadable, met_by, accepted_
 ghost use Rattle.mailbox_law.specs.Steps.{fate_of};
 
 use crate::steps::LinkFate;
+use al_state::datagrams::Head;
 use arrayvec::ArrayVec;
-use datagrams::Head;
-use esc_registers::Esc;
 use mailbox_master::{Got, Holding, InwardHalf, LinkState, Outward, OutwardHalf};
+use mailbox_slave::esc_registers::Esc;
 
 // The datagram of a half meets the slave: its head and its body behind it.
 fn send<L: LinkState>(esc: &mut Esc, half: &L, body: &mut ArrayVec<u8, 1486>) -> Head

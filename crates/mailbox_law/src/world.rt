@@ -1,9 +1,9 @@
 //! The world of one link: halves, slave and server, with the mails held, given and accepted so far.
 
 ghost use Rattle.std.specs.Prelude.{◌≡◌, ℕ, ◌+◌, ◌≤◌, List, ◌∷◌, [], ◌++◌, Ok, IfOk, length};
-ghost use Rattle.link_model.specs.Link.{Link, Event, happens, new_link};
-ghost use Rattle.link_model.specs.Agree.{Agrees};
-ghost use Rattle.link_mails.specs.Body.{Body, uncounted};
+ghost use Rattle.mailbox_master.specs.of_link_model.Link.{Link, Event, happens, new_link};
+ghost use Rattle.mailbox_master.specs.of_link_model.Agree.{Agrees};
+ghost use Rattle.mailbox_master.specs.of_link_mails.Body.{Body, uncounted};
 ghost use Rattle.mailbox_law.specs.Waiting.{keeper, bodies_of, HasRoom};
 ghost use Rattle.mailbox_law.specs.Wire.{IsReadable, accepted_in};
 ghost use Rattle.mailbox_master.specs.Any.{out_len};
@@ -15,11 +15,11 @@ use crate::keeper::{Keeper, copy_of};
 use crate::steps::{LinkFate, LinkStep};
 use crate::wire::{in_sent, out_sent};
 use al_state::PRE_OP;
-use ec_fields::{NoMemory, Rows};
-use esc_registers::Esc;
-use mailbox_mail::Mail;
+use al_state::ec_fields::{NoMemory, Rows};
+use mailbox_master::mailbox_mail::Mail;
 use mailbox_master::{Got, InwardHalf, OutwardHalf, new_inward, new_outward};
 use mailbox_slave::SlaveBox;
+use mailbox_slave::esc_registers::Esc;
 use std::alloc::Global;
 
 /// A link as it runs.

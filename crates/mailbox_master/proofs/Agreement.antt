@@ -1,7 +1,7 @@
 -- The steps of the link agreement, as the halves make them.
 use Rattle.std.proofs.Common.{◌≡◌, ℕ, ◌==◌, Bool, true, false, Option, Some, None, List, [], ◌∷◌, ◌++◌, Result, Ok, Err, refl, ap, sym, subst, if◌then◌else◌}
-use Rattle.mailbox_mail.specs.declared.mail.Mail.{Mail}
-use Rattle.mailbox_mail.specs.declared.mail.MailFault.{MailFault}
+use Rattle.link_mails.specs.of_mailbox_mail.declared.mail.Mail.{Mail}
+use Rattle.link_mails.specs.of_mailbox_mail.declared.mail.MailFault.{MailFault}
 use Rattle.link_mails.specs.of_link_model.Mails.{LinkMail, news}
 use Rattle.link_mails.specs.of_link_model.Master.{OutHalf, InHalf, InState, read_answered}
 use Rattle.link_mails.specs.of_link_model.Slave.{OutSide, InSide}

@@ -1,7 +1,7 @@
 -- The register accesses of the halves (ETG.1000.4, sync manager registers).
 use Rattle.std.specs.Prelude.{ℕ, ◌+◌, ◌*◌, Bool, false, List, [], ◌∷◌, length, replicate}
-use Rattle.mailbox_mail.specs.declared.mail.Mail.{Mail}
-use Rattle.mailbox_mail.specs.Area.{mail_area}
+use Rattle.link_mails.specs.of_mailbox_mail.declared.mail.Mail.{Mail}
+use Rattle.link_mails.specs.of_mailbox_mail.Area.{mail_area}
 use Rattle.datagrams.specs.declared.command.Command.{Command}
 use Rattle.datagrams.specs.declared.command.Command.TheVariants.{Fprd, Fpwr}
 use Rattle.datagrams.specs.declared.head.Head.{Head}

@@ -1,7 +1,7 @@
 -- A half in whichever state.
 use Rattle.std.specs.Prelude.{ℕ, Bool, Option, Some, None, List, slice_index}
-use Rattle.mailbox_mail.specs.declared.mail.Mail.{Mail}
-use Rattle.mailbox_mail.specs.Mail.{mail_read}
+use Rattle.link_mails.specs.of_mailbox_mail.declared.mail.Mail.{Mail}
+use Rattle.link_mails.specs.of_mailbox_mail.Mail.{mail_read}
 use Rattle.link_mails.specs.of_link_model.Mails.{LinkMail}
 use Rattle.link_mails.specs.of_link_model.Master.{OutHalf, InHalf, InState, out_hold, out_answered, read_answered, doubt_answered, asked_answered}
 use Rattle.link_mails.specs.Body.{Body, mail_brought, bit_1}

@@ -1,6 +1,6 @@
 -- The halves of the link model that the typed halves are.
 use Rattle.std.specs.Prelude.{◌≡◌, ℕ, ◌==◌, Bool, if◌then◌else◌, Some, None}
-use Rattle.mailbox_mail.specs.declared.mail.Mail.{Mail}
+use Rattle.link_mails.specs.of_mailbox_mail.declared.mail.Mail.{Mail}
 use Rattle.link_mails.specs.of_link_model.Master.{OutHalf, InHalf, InState}
 use Rattle.link_mails.specs.of_link_model.Slave.{InSide}
 use Rattle.link_mails.specs.Body.{Body, link_mail}

@@ -1,7 +1,7 @@
 -- What a half has become by an answer, and what a read of mailbox 1 gave.
 use Rattle.std.specs.Prelude.{ℕ, ◌==◌, Bool, true, false, if◌then◌else◌, List, [], ◌∷◌, Result, Ok, Err}
-use Rattle.mailbox_mail.specs.declared.mail.Mail.{Mail}
-use Rattle.mailbox_mail.specs.declared.mail.MailFault.{MailFault}
+use Rattle.link_mails.specs.of_mailbox_mail.declared.mail.Mail.{Mail}
+use Rattle.link_mails.specs.of_mailbox_mail.declared.mail.MailFault.{MailFault}
 use Rattle.link_mails.specs.of_link_model.Master.{OutHalf, InHalf, InState}
 use Rattle.link_mails.specs.Body.{Body, uncounted}
 use Rattle.link_mails.specs.of_link_model.Counters.{repeats}

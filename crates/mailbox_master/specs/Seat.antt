@@ -1,10 +1,10 @@
 -- Halves that are kept in a place of their own, and what they read without a copy.
 use Rattle.std.specs.Prelude.{◌≡◌, Ok, ℕ, Option, Some, None, option_map, List, length, replicate, ◌≤◌, ⊤}
-use Rattle.mailbox_mail.specs.declared.mail.Kind.{Kind}
-use Rattle.mailbox_mail.specs.declared.mail.Mail.{Mail}
-use Rattle.mailbox_mail.specs.Area.{mail_area}
-use Rattle.mailbox_mail.specs.Mail.{mail_read}
-use Rattle.mailbox_mail.specs.View.{mail_seen}
+use Rattle.link_mails.specs.of_mailbox_mail.declared.mail.Kind.{Kind}
+use Rattle.link_mails.specs.of_mailbox_mail.declared.mail.Mail.{Mail}
+use Rattle.link_mails.specs.of_mailbox_mail.Area.{mail_area}
+use Rattle.link_mails.specs.of_mailbox_mail.Mail.{mail_read}
+use Rattle.link_mails.specs.of_mailbox_mail.View.{mail_seen}
 use Rattle.link_mails.specs.of_link_model.Master.{OutHalf}
 use Rattle.link_mails.specs.Body.{Body, link_mail}
 use Rattle.mailbox_master.specs.Links.{OutLink}

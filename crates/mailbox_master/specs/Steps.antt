@@ -1,6 +1,6 @@
 -- The steps of the link agreement that the halves make, whatever slave and mails they agree with.
 use Rattle.std.specs.Prelude.{◌≡◌, ℕ, false, None, List, [], ◌∷◌, ◌++◌}
-use Rattle.mailbox_mail.specs.Mail.{mail_read}
+use Rattle.link_mails.specs.of_mailbox_mail.Mail.{mail_read}
 use Rattle.link_mails.specs.of_link_model.Mails.{LinkMail}
 use Rattle.link_mails.specs.of_link_model.Master.{OutHalf, InHalf}
 use Rattle.link_mails.specs.of_link_model.Slave.{OutSide, InSide}

@@ -1,8 +1,8 @@
 //! A half in whichever state, for whoever keeps halves.
 
 ghost use Rattle.std.specs.Prelude.{◌≡◌, ◌+◌, ◌≤◌, None, Some, Ok, is_none, IsSome, length, option_map};
-ghost use Rattle.mailbox_mail.specs.Mail.{mail_read};
-ghost use Rattle.mailbox_mail.specs.Area.{mail_area};
+ghost use Rattle.link_mails.specs.of_mailbox_mail.Mail.{mail_read};
+ghost use Rattle.link_mails.specs.of_mailbox_mail.Area.{mail_area};
 ghost use Rattle.std.specs.Option.{ForSome};
 ghost use Rattle.mailbox_master.specs.Seat.{got_seen, IsWithin};
 ghost use Rattle.link_mails.specs.of_link_model.Master.{in_lost};
@@ -17,7 +17,7 @@ use crate::seat::GotView;
 use crate::states;
 use arrayvec::ArrayVec;
 use datagrams::Head;
-use mailbox_mail::Mail;
+use link_mails::mailbox_mail::Mail;
 
 /// The outward half of a link in whichever state.
 #[derive(Drop)]

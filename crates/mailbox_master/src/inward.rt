@@ -1,7 +1,7 @@
 //! The inward half: it reads mailbox 1, and after a lost read makes the repeat handshake first.
 
 ghost use Rattle.std.specs.Prelude.{◌≡◌, ◌≢◌, ◌≤◌, ◌==◌, ◌||◌, false, None, List, [], ◌++◌, length, replicate};
-ghost use Rattle.mailbox_mail.specs.Mail.{mail_read};
+ghost use Rattle.link_mails.specs.of_mailbox_mail.Mail.{mail_read};
 ghost use Rattle.link_mails.specs.of_link_model.Mails.{differs};
 ghost use Rattle.link_mails.specs.of_link_model.Master.{InState, read_answered, read_lost, doubt_answered, asked_answered};
 ghost use Rattle.link_mails.specs.of_link_model.Slave.{InSide};
@@ -17,11 +17,11 @@ use crate::access::{ACTIVATE, ENABLE, LinkState, PDI_CONTROL, REPEAT, fill_blank
 use crate::seat::GotView;
 use crate::states::{Asked, Clear, Doubt, Refetch};
 use arrayvec::ArrayVec;
+use datagrams::ec_fields::buffer_of;
 use datagrams::register::IN_AREA;
 use datagrams::{Command, Head};
-use ec_fields::buffer_of;
 use link_mails::is_repeat;
-use mailbox_mail::{Mail, MailFault, view};
+use link_mails::mailbox_mail::{Mail, MailFault, view};
 use std::marker::Model;
 
 /// The inward half of a link in the state `S`: it reads mailbox 1 of one slave.

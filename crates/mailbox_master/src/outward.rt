@@ -1,14 +1,14 @@
 //! The outward half: it holds one mail until the write of mailbox 0 is known to be done.
 
 ghost use Rattle.std.specs.Prelude.{◌≡◌, ◌+◌, ◌≤◌, ◌==◌, List, ◌∷◌, [], ◌++◌, None, Ok, length, replicate};
-ghost use Rattle.mailbox_mail.specs.Mail.{mail_read};
+ghost use Rattle.link_mails.specs.of_mailbox_mail.Mail.{mail_read};
 ghost use Rattle.link_mails.specs.of_link_model.Counters.{next_counter};
 ghost use Rattle.link_mails.specs.of_link_model.Master.{out_hold, out_answered};
 ghost use Rattle.link_mails.specs.of_link_model.Slave.{OutSide};
 ghost use Rattle.link_mails.specs.of_link_model.Link.{written, write_counter};
 ghost use Rattle.link_mails.specs.of_link_model.Agree.{OutAgree};
 ghost use Rattle.link_mails.specs.Body.{Body, uncounted, counted_as, link_mail};
-ghost use Rattle.mailbox_mail.specs.Area.{mail_area};
+ghost use Rattle.link_mails.specs.of_mailbox_mail.Area.{mail_area};
 ghost use Rattle.mailbox_master.specs.Halves.{idle_half, holding_half, held_mail, SameOut};
 ghost use Rattle.mailbox_master.specs.Steps.{AgreesHolding, AgreesWritten, AgreesUnmet, AgreesMet};
 ghost use Rattle.mailbox_master.specs.Access.{access_head, write_access};
@@ -19,8 +19,8 @@ use crate::states::{Holding, Idle};
 use arrayvec::ArrayVec;
 use datagrams::register::OUT_AREA;
 use datagrams::{Command, Head};
+use link_mails::mailbox_mail::{Mail, write};
 use link_mails::next_counter;
-use mailbox_mail::{Mail, write};
 use std::marker::Model;
 
 /// A state of the outward half.

@@ -2,9 +2,9 @@
 
 ghost use Rattle.std.specs.Prelude.{◌≡◌, ◌+◌, ◌≤◌, None, Some, Ok, is_none, length, option_map, IsSome, OnSome};
 ghost use Rattle.std.specs.Option.{ForSome};
-ghost use Rattle.mailbox_mail.specs.Mail.{mail_read};
+ghost use Rattle.link_mails.specs.of_mailbox_mail.Mail.{mail_read};
 ghost use Rattle.link_mails.specs.Body.{uncounted, mail_brought};
-ghost use Rattle.mailbox_mail.specs.Area.{mail_area};
+ghost use Rattle.link_mails.specs.of_mailbox_mail.Area.{mail_area};
 ghost use Rattle.mailbox_master.specs.Access.{access_head, write_access};
 ghost use Rattle.mailbox_master.specs.Any.{out_held, out_returned, in_half_of, in_station, in_area_len, in_returned, in_got, in_access_of};
 ghost use Rattle.mailbox_master.specs.Halves.{in_half, SameIn};
@@ -15,11 +15,11 @@ ghost use Rattle.link_mails.specs.of_link_model.Master.{InState, read_answered, 
 use crate::access::{ACTIVATE, ENABLE, PDI_CONTROL, REPEAT, head_of};
 use crate::halves::InwardHalf;
 use crate::inward::{Got, new_inward};
+use datagrams::ec_fields::refill;
 use datagrams::register::{IN_AREA, OUT_AREA};
 use datagrams::{Body, Command, Head};
-use ec_fields::refill;
+use link_mails::mailbox_mail::{Kind, Mail, MailFault, MailView, error_mail, mail_of, write};
 use link_mails::next_counter;
-use mailbox_mail::{Kind, Mail, MailFault, MailView, error_mail, mail_of, write};
 use std::marker::Model;
 use std::mem;
 
@@ -35,7 +35,7 @@ pub struct OutwardSeat {
 
 impl Model for OutwardSeat {
     ghost use Rattle.std.specs.Prelude.{◌≡◌, ◌≤◌, ◌+◌, true, length, Option, Some, None, if◌then◌else◌};
-    ghost use Rattle.mailbox_mail.specs.declared.mail.Mail.{Mail};
+    ghost use Rattle.link_mails.specs.of_mailbox_mail.declared.mail.Mail.{Mail};
     ghost use Rattle.mailbox_master.specs.Links.{OutLink};
 
     ghost Value = { OutLink (Option Mail) };

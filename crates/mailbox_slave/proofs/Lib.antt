@@ -1,2 +1,2 @@
-pub use Rattle.mailbox_mail.proofs as of_mailbox_mail
+pub use Rattle.link_mails.proofs.of_link_model as of_link_model
 pub mod Offering

@@ -2,12 +2,12 @@
 use Rattle.std.proofs.Common.{◌≡◌, ℕ, true, false, Option, Some, None, is_some, ap, sym, ◌∙◌, arith}
 use Rattle.std.specs.Prelude.{option_map}
 use Rattle.std.proofs.lemmas.Grind.{common_steps}
-use Rattle.mailbox_mail.specs.declared.mail.Mail.{Mail}
+use Rattle.esc_registers.specs.of_mailbox_mail.declared.mail.Mail.{Mail}
 use Rattle.link_mails.specs.of_link_model.Counters.{next_counter}
 use Rattle.link_mails.specs.of_link_model.Slave.{node_offer}
 use Rattle.link_mails.specs.Body.{Body, counted_as, link_mail}
 use Rattle.esc_registers.specs.declared.registers.Registers.{Registers}
-use Rattle.mailbox_mail.specs.Area.{mail_area}
+use Rattle.esc_registers.specs.of_mailbox_mail.Area.{mail_area}
 use Rattle.mailbox_slave.specs.Kept.{Kept, offered}
 use Rattle.mailbox_slave.specs.Registers.{in_box, in_len}
 use Rattle.mailbox_slave.specs.Node.{node_of, server_of, IsSpelled}

@@ -1,11 +1,11 @@
 -- What the processor's step does to the registers, to what the box keeps and to the server, octet by octet.
 use Rattle.std.specs.Prelude.{ℕ, Bool, true, false, not, ◌&&◌, if◌then◌else◌, is_some, is_none, Option, Some, None}
-use Rattle.mailbox_mail.specs.declared.mail.Mail.{Mail}
-use Rattle.mailbox_mail.specs.Mail.{mail_read}
+use Rattle.esc_registers.specs.of_mailbox_mail.declared.mail.Mail.{Mail}
+use Rattle.esc_registers.specs.of_mailbox_mail.Mail.{mail_read}
 use Rattle.link_mails.specs.of_link_model.Counters.{next_counter, repeats}
 use Rattle.link_mails.specs.of_link_model.Mails.{LinkMail, first_of}
 use Rattle.link_mails.specs.Body.{Body, counted_as, link_read}
-use Rattle.mailbox_mail.specs.Area.{mail_area}
+use Rattle.esc_registers.specs.of_mailbox_mail.Area.{mail_area}
 use Rattle.esc_registers.specs.Manager.{is_repeat_asked}
 use Rattle.esc_registers.specs.declared.registers.Registers.{Registers}
 use Rattle.mailbox_slave.specs.Kept.{Kept}

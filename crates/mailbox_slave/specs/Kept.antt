@@ -1,7 +1,7 @@
 -- What the box of a slave keeps beside the registers.
 use Rattle.std.specs.Prelude.{◌≡◌, ℕ, ◌+◌, ◌≤◌, Bool, true, if◌then◌else◌, is_none, ◌&&◌, Option, Some, None, IsSome, length}
 use Rattle.std.specs.Option.{ForSome}
-use Rattle.mailbox_mail.specs.declared.mail.Mail.{Mail}
+use Rattle.esc_registers.specs.of_mailbox_mail.declared.mail.Mail.{Mail}
 
 -- the counter of the last mail taken; the counter of the newest mail offered; whether the mail offered is the last
 -- read one again; the last mail read; a new mail offered; a new mail withdrawn

@@ -1,9 +1,9 @@
 -- The node of the link model that a box is with its registers and its server.
 use Rattle.std.specs.Prelude.{◌≡◌, ℕ, true, Option, Some, option_map, Ok}
-use Rattle.mailbox_mail.specs.declared.mail.Mail.{Mail}
+use Rattle.esc_registers.specs.of_mailbox_mail.declared.mail.Mail.{Mail}
 use Rattle.link_mails.specs.of_link_model.Slave.{OutSide, InSide, Node, Server}
 use Rattle.link_mails.specs.Body.{Body, uncounted, link_mail}
-use Rattle.mailbox_mail.specs.Area.{mail_area}
+use Rattle.esc_registers.specs.of_mailbox_mail.Area.{mail_area}
 use Rattle.esc_registers.specs.declared.registers.Registers.{Registers}
 use Rattle.mailbox_slave.specs.Kept.{Kept, offered}
 use Rattle.mailbox_slave.specs.Registers.{out_box, in_box, in_len, request_of, acknowledge_of}

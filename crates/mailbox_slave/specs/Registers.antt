@@ -1,6 +1,6 @@
 -- What the link has of a slave's registers: the mails in both mailboxes, and the bits of the repeat handshake.
 use Rattle.std.specs.Prelude.{◌≡◌, ℕ, Bool, if◌then◌else◌, Option, Some, None, length}
-use Rattle.mailbox_mail.specs.Mail.{mail_read}
+use Rattle.esc_registers.specs.of_mailbox_mail.Mail.{mail_read}
 use Rattle.link_mails.specs.of_link_model.Mails.{LinkMail}
 use Rattle.link_mails.specs.Body.{Body, link_read}
 use Rattle.esc_registers.specs.declared.registers.Registers.{Registers}

@@ -5,5 +5,6 @@
 mod server;
 mod slave_box;
 
+pub use esc_registers;
 pub use server::Server;
 pub use slave_box::SlaveBox;

@@ -3,12 +3,12 @@
 ghost use Rattle.std.specs.Prelude.{◌≡◌, ◌≤◌, None, Some, is_some, IsSome, length};
 ghost use Rattle.link_mails.specs.Body.{link_read};
 
-use mailbox_mail::{Mail, MailFault};
+use esc_registers::mailbox_mail::{Mail, MailFault};
 
 /// The services of a slave: they take mails, and have mails waiting to be offered.
 pub trait Server {
     ghost use Rattle.std.specs.Prelude.{ℕ, Option};
-    ghost use Rattle.mailbox_mail.specs.declared.mail.Mail.{Mail};
+    ghost use Rattle.esc_registers.specs.of_mailbox_mail.declared.mail.Mail.{Mail};
     ghost use Rattle.link_mails.specs.Body.{Body};
 
     ghost room: { Self → ℕ };

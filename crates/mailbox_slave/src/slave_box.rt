@@ -3,19 +3,19 @@
 ghost use Rattle.std.specs.Prelude.{◌≡◌, ℕ, MatchOption, ◌+◌, ◌≤◌, None, Some, true, false, is_some, IsSome, length, option_map};
 ghost use Rattle.std.specs.Option.{ForSome};
 ghost use Rattle.link_mails.specs.of_link_model.Counters.{next_counter};
-ghost use Rattle.mailbox_mail.specs.Mail.{mail_read};
+ghost use Rattle.esc_registers.specs.of_mailbox_mail.Mail.{mail_read};
 ghost use Rattle.link_mails.specs.of_link_model.Slave.{noticed, repeated, looked, node_take, node_offer, node_serve, processor_step};
 ghost use Rattle.link_mails.specs.Body.{counted_as, link_mail, link_read};
 ghost use Rattle.mailbox_slave.specs.Kept.{IsCounted, FitsArea, KeptFits, is_at_rest};
 ghost use Rattle.mailbox_slave.specs.Registers.{in_box, in_len, acknowledge_of, ChangesIn, ChangesOut, ChangesBoxes};
-ghost use Rattle.mailbox_mail.specs.Area.{mail_area};
+ghost use Rattle.esc_registers.specs.of_mailbox_mail.Area.{mail_area};
 ghost use Rattle.mailbox_slave.specs.Node.{in_side, node_of, server_of, IsSpelled};
 ghost use Rattle.mailbox_slave.specs.Exact.{with_mail, kept_noticed, last_repeated, boxes_looked, mail_served, mail_offered, slave_served, slave_stepped};
 
 use crate::server::Server;
 use esc_registers::Esc;
+use esc_registers::mailbox_mail::{Mail, MailFault, error_mail, read_into, view};
 use link_mails::{is_repeat, next_counter};
-use mailbox_mail::{Mail, MailFault, error_mail, read_into, view};
 use std::marker::Model;
 
 /// What a slave keeps of its mails: which was taken last, and which it may have to offer again. The

@@ -1,6 +1,6 @@
 -- The stages of a state service as the model has them.
 use Rattle.std.specs.Prelude.{ℕ, ◌==◌, ◌&&◌, nat_lt, Bool, true, false, if◌then◌else◌, Option, Some, None, option_map}
-use Rattle.al_state.specs.of_ec_fields.Fields.{bits_of}
+use Rattle.mailbox_mail.specs.of_ec_fields.Fields.{bits_of}
 use Rattle.al_state.specs.declared.climbing.Climb.{Climb}
 use Rattle.al_state.specs.declared.climbing.Climb.TheVariants.{Ask, Await, Acknowledge, Recover, Arrived, Refused}
 use Rattle.al_state.specs.declared.climbing.ClimbNext.{ClimbNext}

@@ -4,12 +4,12 @@ use Rattle.std.specs.Prelude.{map, length, nat_lt, nat_le, if◌then◌else◌}
 use Rattle.std.proofs.lemmas.Bool.{ltb-false}
 use Rattle.foe_client.specs.of_exchange_model.Areas.{Areas}
 use Rattle.foe_client.specs.of_exchange_model.Dialogue.{Turn, said}
-use Rattle.coe_client.specs.of_protocol_models.CoeClient as CoeClient
-use Rattle.coe_client.specs.of_protocol_models.CoeMeaning as CoeMeaning
-use Rattle.coe_client.specs.of_protocol_models.CoeServer.{is_expedited}
-use Rattle.foe_client.specs.of_protocol_models.FoeClient as FoeClient
-use Rattle.foe_client.specs.of_protocol_models.FoeMeaning as FoeMeaning
-use Rattle.soe_client.specs.of_protocol_models.SoeClient as SoeClient
+use Rattle.eoe_client.specs.of_protocol_models.CoeClient as CoeClient
+use Rattle.eoe_client.specs.of_protocol_models.CoeMeaning as CoeMeaning
+use Rattle.eoe_client.specs.of_protocol_models.CoeServer.{is_expedited}
+use Rattle.eoe_client.specs.of_protocol_models.FoeClient as FoeClient
+use Rattle.eoe_client.specs.of_protocol_models.FoeMeaning as FoeMeaning
+use Rattle.eoe_client.specs.of_protocol_models.SoeClient as SoeClient
 use Rattle.eoe_client.specs.of_protocol_models.EoeClient as EoeClient
 use Rattle.master_hand.specs.Spoken.{Asked, sdo, file, drive, net, passed, planned, valid, told_sdo, told_file, told_drive, told_net}
 

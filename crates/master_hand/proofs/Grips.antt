@@ -3,7 +3,7 @@ use Rattle.std.proofs.Common.{◌≡◌, ℕ, List, [], ◌∷◌, ◌++◌, Boo
 use Rattle.std.specs.Prelude.{is_some, option_map}
 use Rattle.foe_client.specs.of_exchange_model.Exchange.{Speech, plain}
 use Rattle.foe_client.specs.of_exchange_model.Rows.{Row, begun, answer_after, row_heard, row_told, left}
-use Rattle.foe_client.proofs.of_exchange_model.Words.{plain-append}
+use Rattle.serving_model.proofs.of_exchange_model.Words.{plain-append}
 use Rattle.serving_model.specs.of_segment_model.Seats.{next_mail, first_left}
 use Rattle.master_hand.specs.Grips.{Talks, Going, Hearing, HasIt}
 

@@ -1,20 +1,20 @@
 -- The hand's steps, over its clients.
 use Rattle.std.proofs.Common.{◌≡◌, ℕ, List, [], ◌∷◌, Bool, true, false, Option, Some, None, refl, sym, ap, ◌∙◌, subst, inl, inr}
 use Rattle.std.specs.Prelude.{is_some, is_none, option_map, Ok, not, ◌&&◌, if◌then◌else◌, ◌⊎◌}
-use Rattle.mailbox_mail.specs.declared.outcome.Took.{Took}
+use Rattle.eoe_client.specs.of_mailbox_mail.declared.outcome.Took.{Took}
 use Rattle.foe_client.specs.of_exchange_model.Areas.{Areas}
 use Rattle.foe_client.specs.of_exchange_model.Exchange.{Speech, plain}
 use Rattle.foe_client.specs.of_exchange_model.Rows.{Row, begun, row_heard, row_told}
 use Rattle.master_side.specs.of_link_mails.Body.{Body}
 use Rattle.serving_model.specs.of_segment_model.Seats.{Side, is_none_left, next_mail}
-use Rattle.master_side.specs.of_state_model.Accounts as Accounts
-use Rattle.master_side.specs.of_state_model.Accounts.{is_free}
+use Rattle.serving_model.specs.of_state_model.Accounts as Accounts
+use Rattle.serving_model.specs.of_state_model.Accounts.{is_free}
 use Rattle.master_side.specs.of_master_duty.Reply.{Reply}
 use Rattle.master_side.specs.Fits.{Tells}
-use Rattle.foe_client.specs.of_protocol_models.FoeMeaning as FoeMeaning
+use Rattle.eoe_client.specs.of_protocol_models.FoeMeaning as FoeMeaning
 use Rattle.eoe_client.specs.of_protocol_models.EoeClient as EoeClient
-use Rattle.coe_client.proofs.of_protocol_models.CoeClosing.{ends_none}
-use Rattle.soe_client.specs.of_protocol_models.SoeClient as SoeClient
+use Rattle.foe_client.proofs.of_protocol_models.CoeClosing.{ends_none}
+use Rattle.eoe_client.specs.of_protocol_models.SoeClient as SoeClient
 use Rattle.master_hand.specs.Spoken.{Asked, sdo, file, drive, net, passed, emission, ends, handed, replied, acknowledged, hand_speech}
 use Rattle.master_hand.specs.Passed.{mail_of}
 use Rattle.master_hand.specs.Grips.{Going, Hearing}

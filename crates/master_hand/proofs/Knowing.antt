@@ -3,12 +3,12 @@ use Rattle.std.proofs.Common.{◌≡◌, ◌⊎◌, inl, inr, ◌∷◌, [], Lis
 use Rattle.std.specs.Prelude.{◌&&◌, not, is_some, is_none, if◌then◌else◌}
 use Rattle.foe_client.specs.of_exchange_model.Exchange.{Speech}
 use Rattle.foe_client.specs.of_exchange_model.Rows.{Row, left}
-use Rattle.mailbox_mail.specs.declared.outcome.Took.{Took}
+use Rattle.eoe_client.specs.of_mailbox_mail.declared.outcome.Took.{Took}
 use Rattle.master_side.specs.Due.{IsDue, IsReply}
 use Rattle.master_side.specs.of_link_mails.Body.{Body}
 use Rattle.master_side.specs.of_master_duty.Reply.{Reply}
-use Rattle.master_side.specs.of_state_model.Accounts as Accounts
-use Rattle.master_side.specs.of_state_model.Accounts.{is_free}
+use Rattle.serving_model.specs.of_state_model.Accounts as Accounts
+use Rattle.serving_model.specs.of_state_model.Accounts.{is_free}
 use Rattle.serving_model.specs.of_segment_model.Seats.{Side, next_mail, first_left, is_none_left}
 use Rattle.master_hand.specs.Grips.{Going}
 use Rattle.master_hand.specs.Shown.{HandShows, Shows, course_behind, is_awaiting, knows}

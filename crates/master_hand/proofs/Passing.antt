@@ -2,7 +2,7 @@
 use Rattle.std.proofs.Common.{◌≡◌, ℕ, ◌+◌, List, [], ◌∷◌, Bool, true, false, Option, Some, None, refl, sym, ap, ◌∙◌, subst, length}
 use Rattle.std.specs.Prelude.{is_some, Ok, not, ◌≤◌, ◌↔◌, if◌then◌else◌}
 use Rattle.std.specs.Bool.{OnTrue, OnFalse}
-use Rattle.mailbox_mail.specs.declared.outcome.Took.{Took}
+use Rattle.eoe_client.specs.of_mailbox_mail.declared.outcome.Took.{Took}
 use Rattle.master_side.specs.of_link_mails.Body.{Body}
 use Rattle.serving_model.specs.Passing.{ends_told}
 use Rattle.master_side.specs.of_master_duty.Reply.{Reply}

@@ -2,26 +2,26 @@
 use Rattle.std.proofs.Common.{◌≡◌, ℕ, ◌+◌, ◌<◌, List, [], ◌∷◌, Bool, true, false, Option, Some, None, refl, sym, ap, ◌∙◌, subst, map, length, arith, inl, inr}
 use Rattle.std.specs.Prelude.{is_some, Ok, ◌≤◌, ◌↔◌, if◌then◌else◌, zero, suc, ◌&&◌, ◌⊎◌, nat_le, nat_lt}
 use Rattle.std.specs.Bool.{OnTrue, OnFalse}
-use Rattle.mailbox_mail.specs.declared.mail.Mail.{Mail}
-use Rattle.mailbox_mail.specs.declared.mail.Kind.{Kind}
-use Rattle.mailbox_mail.specs.declared.outcome.Took.{Took}
+use Rattle.eoe_client.specs.of_mailbox_mail.declared.mail.Mail.{Mail}
+use Rattle.eoe_client.specs.of_mailbox_mail.declared.mail.Kind.{Kind}
+use Rattle.eoe_client.specs.of_mailbox_mail.declared.outcome.Took.{Took}
 use Rattle.foe_client.specs.of_exchange_model.Areas.{Areas}
 use Rattle.master_side.specs.of_link_mails.Body.{Body}
-use Rattle.coe_client.specs.of_protocol_models.CoeMails as CoeMails
-use Rattle.coe_client.specs.of_protocol_models.CoeOctets as CoeOctets
+use Rattle.eoe_client.specs.of_protocol_models.CoeMails as CoeMails
+use Rattle.eoe_client.specs.of_protocol_models.CoeOctets as CoeOctets
 use Rattle.coe_client.specs.Talk as CoeTalk
 use Rattle.coe_client.specs.Hear as CoeHear
 use Rattle.coe_client.specs.Send as CoeSend
 use Rattle.coe_client.specs.declared.state.Awaits as CoeAwaits
-use Rattle.foe_client.specs.of_protocol_models.FoeMails as FoeMails
-use Rattle.foe_client.specs.of_protocol_models.FoeOctets as FoeOctets
+use Rattle.eoe_client.specs.of_protocol_models.FoeMails as FoeMails
+use Rattle.eoe_client.specs.of_protocol_models.FoeOctets as FoeOctets
 use Rattle.foe_client.specs.Talk as FoeTalk
 use Rattle.foe_client.specs.Hear as FoeHear
 use Rattle.foe_client.specs.Send as FoeSend
 use Rattle.foe_client.specs.declared.state.Awaits as FoeAwaits
 use Rattle.foe_client.specs.declared.state.Unsent as FoeUnsent
-use Rattle.soe_client.specs.of_protocol_models.SoeMails as SoeMails
-use Rattle.soe_client.specs.of_protocol_models.SoeOctets as SoeOctets
+use Rattle.eoe_client.specs.of_protocol_models.SoeMails as SoeMails
+use Rattle.eoe_client.specs.of_protocol_models.SoeOctets as SoeOctets
 use Rattle.soe_client.specs.Talk as SoeTalk
 use Rattle.soe_client.specs.Hear as SoeHear
 use Rattle.soe_client.specs.declared.state.Awaits as SoeAwaits
@@ -30,17 +30,17 @@ use Rattle.eoe_client.specs.of_protocol_models.EoeOctets as EoeOctets
 use Rattle.eoe_client.specs.Talk as EoeTalk
 use Rattle.eoe_client.specs.Hear as EoeHear
 use Rattle.eoe_client.specs.declared.address.Awaits as EoeAwaits
-use Rattle.object_dictionary.specs.declared.service.SdoService.{SdoService}
-use Rattle.coe_client.specs.of_protocol_models.CoeClient as CoeClient
-use Rattle.coe_client.specs.of_protocol_models.CoeModel as CoeModel
-use Rattle.foe_client.specs.of_protocol_models.FoeMeaning as FoeMeaning
-use Rattle.foe_client.specs.of_protocol_models.FoeClient as FoeClient
-use Rattle.foe_client.specs.of_protocol_models.FoeModel as FoeModel
-use Rattle.soe_client.specs.of_protocol_models.SoeClient as SoeClient
+use Rattle.coe_client.specs.of_object_dictionary.declared.service.SdoService.{SdoService}
+use Rattle.eoe_client.specs.of_protocol_models.CoeClient as CoeClient
+use Rattle.eoe_client.specs.of_protocol_models.CoeModel as CoeModel
+use Rattle.eoe_client.specs.of_protocol_models.FoeMeaning as FoeMeaning
+use Rattle.eoe_client.specs.of_protocol_models.FoeClient as FoeClient
+use Rattle.eoe_client.specs.of_protocol_models.FoeModel as FoeModel
+use Rattle.eoe_client.specs.of_protocol_models.SoeClient as SoeClient
 use Rattle.eoe_client.specs.of_protocol_models.EoeClient as EoeClient
 use Rattle.eoe_client.specs.of_protocol_models.EoeMails.{packet_mails}
-use Rattle.ec_fields.proofs.Cells.{AreOctets}
-use Rattle.soe_client.specs.of_protocol_models.Elements.{target}
+use Rattle.coe_client.proofs.of_ec_fields.Cells.{AreOctets}
+use Rattle.eoe_client.specs.of_protocol_models.Elements.{target}
 use Rattle.segment_plan.specs.Sound.{IsSdo}
 use Rattle.master_hand.specs.Spoken.{sdo, file, drive, net, told_sdo, heard_sdo, told_file, heard_file, told_drive, heard_drive, told_net, heard_net, replied}
 use Rattle.master_hand.specs.Passed.{body_of, mail_of}

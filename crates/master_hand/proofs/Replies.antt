@@ -1,30 +1,28 @@
 -- What a reply is to a mail that is passed on: others follow it, or it is the last.
 use Rattle.std.proofs.Common.{◌≡◌, List, [], ◌∷◌, Bool, true, false, Option, Some, None, refl, sym, ap, ◌∙◌}
-use Rattle.std.specs.Prelude.{◌&&◌, not, is_some, is_none, if◌then◌else◌, Err}
-use Rattle.mailbox_mail.specs.declared.outcome.Took.{Took}
-use Rattle.mailbox_mail.specs.declared.mail.MailFault.TheVariants.{Short}
+use Rattle.std.specs.Prelude.{◌&&◌, not, is_some, is_none, if◌then◌else◌, Err, option_map}
+use Rattle.eoe_client.specs.of_mailbox_mail.declared.outcome.Took.{Took}
+use Rattle.eoe_client.specs.of_mailbox_mail.declared.mail.MailFault.TheVariants.{Short}
 use Rattle.foe_client.specs.of_exchange_model.Areas.{Areas}
 use Rattle.foe_client.specs.of_exchange_model.Exchange.{Speech, plain}
 use Rattle.master_side.specs.of_link_mails.Body.{Body}
 use Rattle.master_side.specs.of_master_duty.Reply.{Reply}
 use Rattle.master_side.specs.Passing.{told_as, goes_on}
 use Rattle.master_hand.specs.Spoken.{Asked, sdo, file, drive, net, passed, emission, is_followed, is_passed, hand_speech, passed_ends}
-use Rattle.master_hand.specs.Passed.{at_end, passed_awaits}
+use Rattle.master_hand.specs.Passed.{at_end, passed_awaits, body_of}
 use Rattle.master_hand.specs.Talk.{Talking, which_of, is_mail, client_awaits, Begins, IsSent, ClientTook}
 use Rattle.master_hand.specs.Shown.{is_awaiting, awaits_reply, course_behind, heard_as}
 use Rattle.master_hand.specs.declared.course.Course.{Course}
 use Rattle.master_hand.specs.declared.clients.Which.{Which}
 use Rattle.master_hand.specs.declared.passed.Content.{Content}
 use Rattle.master_hand.specs.declared.passed.PassedMail.{PassedMail}
-use Rattle.mailbox_mail.specs.declared.mail.Mail.{Mail}
+use Rattle.eoe_client.specs.of_mailbox_mail.declared.mail.Mail.{Mail}
 use Rattle.master_side.specs.declared.hand.Heard.{Heard}
 use Rattle.master_side.specs.Heard.{Brought}
 use Rattle.master_hand.specs.Brings.{as_list}
-use Rattle.master_hand.specs.Passed.{body_of}
 use Rattle.master_hand.specs.Replied.{reply_kept, kept_where, is_reply, Replies, replies_of}
 use Rattle.master_hand.specs.declared.found.Found.{Found}
 use Rattle.master_hand.proofs.Passing.{by_over}
-use Rattle.std.specs.Prelude.{option_map}
 use Rattle.master_hand.proofs.Hands.{none_ends}
 
 both_left : (a b : Bool) → a && b ≡ true → a ≡ true

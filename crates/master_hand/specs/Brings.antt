@@ -1,6 +1,6 @@
 -- What a mail brings besides a reply.
 use Rattle.std.specs.Prelude.{◌≡◌, ℕ, List, [], ◌∷◌, ◌++◌, Option, Some, None}
-use Rattle.coe_client.specs.of_protocol_models.CoeMails as CoeMails
+use Rattle.eoe_client.specs.of_protocol_models.CoeMails as CoeMails
 use Rattle.master_side.specs.of_link_mails.Body.{Body}
 use Rattle.master_hand.specs.Spoken.{heard_sdo}
 use Rattle.master_hand.specs.declared.found.Brought.{Brought}

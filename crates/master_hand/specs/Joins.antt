@@ -1,10 +1,10 @@
 -- The packets that a slave sends: joined from the fragments among the mails accepted of it.
 use Rattle.std.specs.Prelude.{◌≡◌, ℕ, List, [], ◌∷◌, ◌++◌, Option, Some, None}
-use Rattle.eoe.specs.Joining.{taken}
-use Rattle.eoe.specs.declared.joining.Joined.{Joined}
-use Rattle.eoe.specs.declared.joining.Joined.TheVariants.{More, Whole, Dropped}
-use Rattle.eoe.specs.declared.joining.Unfinished.{Unfinished}
-use Rattle.eoe.specs.declared.message.Fragment.{Fragment}
+use Rattle.eoe_client.specs.of_eoe.Joining.{taken}
+use Rattle.eoe_client.specs.of_eoe.declared.joining.Joined.{Joined}
+use Rattle.eoe_client.specs.of_eoe.declared.joining.Joined.TheVariants.{More, Whole, Dropped}
+use Rattle.eoe_client.specs.of_eoe.declared.joining.Unfinished.{Unfinished}
+use Rattle.eoe_client.specs.of_eoe.declared.message.Fragment.{Fragment}
 use Rattle.eoe_client.specs.of_protocol_models.EoeMails as EoeMails
 use Rattle.master_side.specs.of_link_mails.Body.{Body}
 use Rattle.master_hand.specs.Brings.{as_list}

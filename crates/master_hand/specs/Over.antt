@@ -2,7 +2,7 @@
 use Rattle.std.specs.Prelude.{◌&&◌, not, Bool, true, false, Option, Some, None, [], if◌then◌else◌}
 use Rattle.serving_model.specs.of_segment_model.Seats.{is_none_left}
 use Rattle.foe_client.specs.Talk.{is_value}
-use Rattle.mailbox_mail.specs.declared.outcome.ReplyKind.{ReplyKind}
+use Rattle.eoe_client.specs.of_mailbox_mail.declared.outcome.ReplyKind.{ReplyKind}
 use Rattle.master_hand.specs.Hears.{kind_in}
 use Rattle.master_hand.specs.Talk.{Talking, client_awaits, client_later, is_handed, is_read}
 use Rattle.master_hand.specs.declared.course.Course.{Course}

@@ -1,7 +1,7 @@
 -- A mail that is passed on as it is.
 use Rattle.std.specs.Prelude.{◌≡◌, true, is_some, List, [], ◌∷◌, Option, Some, None, Ok, if◌then◌else◌}
-use Rattle.mailbox_mail.specs.declared.mail.Mail.{Mail}
-use Rattle.mailbox_mail.specs.declared.outcome.Took.{Took}
+use Rattle.eoe_client.specs.of_mailbox_mail.declared.mail.Mail.{Mail}
+use Rattle.eoe_client.specs.of_mailbox_mail.declared.outcome.Took.{Took}
 use Rattle.master_side.specs.of_link_mails.Body.{Body, uncounted}
 use Rattle.master_side.specs.of_master_duty.Reply.{Reply}
 use Rattle.master_hand.specs.Spoken.{passed_ends}

@@ -1,7 +1,7 @@
 -- WHAT IS KEPT OF A REPLY to a mail that is passed on, so that it can be handed on.
 use Rattle.std.specs.Prelude.{◌≡◌, ◌&&◌, not, Bool, true, false, List, [], Option, Some, None, option_map, if◌then◌else◌}
-use Rattle.mailbox_mail.specs.declared.mail.Mail.{Mail}
-use Rattle.mailbox_mail.specs.declared.outcome.Took.{Took}
+use Rattle.eoe_client.specs.of_mailbox_mail.declared.mail.Mail.{Mail}
+use Rattle.eoe_client.specs.of_mailbox_mail.declared.outcome.Took.{Took}
 use Rattle.master_side.specs.of_link_mails.Body.{Body}
 use Rattle.master_side.specs.declared.hand.Heard.{Heard}
 use Rattle.master_hand.specs.Brings.{as_list}

@@ -3,7 +3,7 @@ use Rattle.std.specs.Prelude.{◌≡◌, ◌&&◌, Bool, true, false, is_some, i
 use Rattle.foe_client.specs.of_exchange_model.Exchange.{Speech}
 use Rattle.foe_client.specs.of_exchange_model.Rows.{Row}
 use Rattle.master_side.specs.of_link_mails.Body.{Body}
-use Rattle.mailbox_mail.specs.declared.outcome.Took.{Took}
+use Rattle.eoe_client.specs.of_mailbox_mail.declared.outcome.Took.{Took}
 use Rattle.master_side.specs.of_master_duty.Reply.{Reply}
 use Rattle.master_side.specs.declared.hand.Heard.{Heard}
 use Rattle.master_hand.specs.Spoken.{Asked, hand_speech}

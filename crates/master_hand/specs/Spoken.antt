@@ -1,26 +1,26 @@
 -- What a master speaks with one slave, whose mailboxes have these lengths: the services of all protocols, packets, and mails that are passed on.
 use Rattle.std.specs.Prelude.{ℕ, Bool, true, false, List, [], ◌∷◌, Option, Some, None, option_map, if◌then◌else◌, Ok, Err}
-use Rattle.mailbox_mail.specs.declared.mail.Mail.{Mail}
-use Rattle.mailbox_mail.specs.declared.mail.Kind.{Kind}
-use Rattle.mailbox_mail.specs.declared.mail.Kind.TheVariants.{CoE, SoE}
+use Rattle.eoe_client.specs.of_mailbox_mail.declared.mail.Mail.{Mail}
+use Rattle.eoe_client.specs.of_mailbox_mail.declared.mail.Kind.{Kind}
+use Rattle.eoe_client.specs.of_mailbox_mail.declared.mail.Kind.TheVariants.{CoE, SoE}
 use Rattle.master_side.specs.of_link_mails.Body.{Body}
 use Rattle.foe_client.specs.of_exchange_model.Areas.{Areas}
 use Rattle.foe_client.specs.of_exchange_model.Exchange.{Speech}
 use Rattle.foe_client.specs.of_exchange_model.Lifted.{lifted_speech}
 use Rattle.serving_model.specs.Passing.{ends_told}
-use Rattle.coe_client.specs.of_protocol_models.CoeMails as CoeMails
-use Rattle.coe_client.specs.of_protocol_models.CoeMeaning as CoeMeaning
-use Rattle.coe_client.specs.of_protocol_models.CoeClient as CoeClient
-use Rattle.coe_client.specs.of_protocol_models.CoeModel as CoeModel
-use Rattle.coe_client.specs.of_protocol_models.CoeOctets as CoeOctets
-use Rattle.foe_client.specs.of_protocol_models.FoeMails as FoeMails
-use Rattle.foe_client.specs.of_protocol_models.FoeMeaning as FoeMeaning
-use Rattle.foe_client.specs.of_protocol_models.FoeModel as FoeModel
-use Rattle.foe_client.specs.of_protocol_models.FoeOctets as FoeOctets
-use Rattle.soe_client.specs.of_protocol_models.SoeMails as SoeMails
-use Rattle.soe_client.specs.of_protocol_models.SoeClient as SoeClient
-use Rattle.soe_client.specs.of_protocol_models.SoeModel as SoeModel
-use Rattle.soe_client.specs.of_protocol_models.SoeOctets as SoeOctets
+use Rattle.eoe_client.specs.of_protocol_models.CoeMails as CoeMails
+use Rattle.eoe_client.specs.of_protocol_models.CoeMeaning as CoeMeaning
+use Rattle.eoe_client.specs.of_protocol_models.CoeClient as CoeClient
+use Rattle.eoe_client.specs.of_protocol_models.CoeModel as CoeModel
+use Rattle.eoe_client.specs.of_protocol_models.CoeOctets as CoeOctets
+use Rattle.eoe_client.specs.of_protocol_models.FoeMails as FoeMails
+use Rattle.eoe_client.specs.of_protocol_models.FoeMeaning as FoeMeaning
+use Rattle.eoe_client.specs.of_protocol_models.FoeModel as FoeModel
+use Rattle.eoe_client.specs.of_protocol_models.FoeOctets as FoeOctets
+use Rattle.eoe_client.specs.of_protocol_models.SoeMails as SoeMails
+use Rattle.eoe_client.specs.of_protocol_models.SoeClient as SoeClient
+use Rattle.eoe_client.specs.of_protocol_models.SoeModel as SoeModel
+use Rattle.eoe_client.specs.of_protocol_models.SoeOctets as SoeOctets
 use Rattle.eoe_client.specs.of_protocol_models.EoeMails as EoeMails
 use Rattle.eoe_client.specs.of_protocol_models.EoeClient as EoeClient
 use Rattle.eoe_client.specs.of_protocol_models.EoeModel as EoeModel

@@ -1,18 +1,18 @@
 -- What the clients of a slave have to say and to hear, by the one whose service is the newest.
 use Rattle.std.specs.Prelude.{◌≡◌, ℕ, Bool, true, false, is_some, List, [], ◌∷◌, map, Option, Some, None, Ok, if◌then◌else◌, length, ◌+◌, ◌≤◌, nat_lt}
-use Rattle.mailbox_mail.specs.declared.outcome.Took.{Took}
+use Rattle.eoe_client.specs.of_mailbox_mail.declared.outcome.Took.{Took}
 use Rattle.master_hand.specs.declared.passed.Content.{Content}
 use Rattle.foe_client.specs.of_exchange_model.Areas.{Areas}
 use Rattle.master_side.specs.of_link_mails.Body.{Body}
-use Rattle.foe_client.specs.of_protocol_models.FoeMeaning as FoeMeaning
-use Rattle.soe_client.specs.of_protocol_models.SoeClient as SoeClient
-use Rattle.soe_client.specs.of_protocol_models.Elements.{target}
+use Rattle.eoe_client.specs.of_protocol_models.FoeMeaning as FoeMeaning
+use Rattle.eoe_client.specs.of_protocol_models.SoeClient as SoeClient
+use Rattle.eoe_client.specs.of_protocol_models.Elements.{target}
 use Rattle.eoe_client.specs.of_protocol_models.EoeClient as EoeClient
 use Rattle.coe_client.specs.Talk as CoeTalk
 use Rattle.foe_client.specs.Talk as FoeTalk
 use Rattle.soe_client.specs.Talk as SoeTalk
 use Rattle.eoe_client.specs.Talk as EoeTalk
-use Rattle.object_dictionary.specs.declared.service.SdoService.{SdoService}
+use Rattle.coe_client.specs.of_object_dictionary.declared.service.SdoService.{SdoService}
 use Rattle.segment_plan.specs.declared.service.Service.{Service}
 use Rattle.master_side.specs.of_master_duty.Reply.{Reply}
 use Rattle.master_hand.specs.Spoken.{Asked, sdo, file, drive, net, passed, heard_sdo, told_sdo, heard_file, told_file, heard_drive, told_drive, heard_net, told_net, replied, valid, planned, ends}

@@ -1,11 +1,11 @@
 ghost use Rattle.std.specs.Prelude.{◌≡◌, ◌≤◌, false, length, None};
-ghost use Rattle.mailbox_mail.specs.View.{mail_seen};
-ghost use Rattle.coe_codec.specs.View.{coe_seen, IsCapped};
-ghost use Rattle.coe_client.specs.of_protocol_models.CoeMails.{is_emission, mail as sdo_mail};
-ghost use Rattle.coe_client.specs.of_protocol_models.CoeOctets.{body_heard, is_fragment};
+ghost use Rattle.eoe_client.specs.of_mailbox_mail.View.{mail_seen};
+ghost use Rattle.coe_client.specs.of_coe_codec.View.{coe_seen, IsCapped};
+ghost use Rattle.eoe_client.specs.of_protocol_models.CoeMails.{is_emission, mail as sdo_mail};
+ghost use Rattle.eoe_client.specs.of_protocol_models.CoeOctets.{body_heard, is_fragment};
 ghost use Rattle.master_hand.specs.Spoken.{emission};
 ghost use Rattle.master_hand.specs.Passed.{body_of};
-ghost use Rattle.eoe.specs.Message.{eoe_read};
+ghost use Rattle.eoe_client.specs.of_eoe.Message.{eoe_read};
 ghost use Rattle.eoe_client.specs.of_protocol_models.EoeOctets.{heard};
 ghost use Rattle.master_hand.specs.Brings.{emergency_of, emergency_kept, Brings};
 ghost use Rattle.master_hand.specs.Replied.{reply_kept, is_reply, KeepsReply};
@@ -13,10 +13,12 @@ ghost use Rattle.master_hand.specs.Joins.{fragment_of, unfinished_by, completed_
 
 use crate::clients::Which;
 use arrayvec::ArrayVec;
-use coe_codec::CoeView;
-use ec_fields::refill;
-use eoe::{Came, EoeView, Packet, Reassembler};
-use mailbox_mail::{Kind, Mail, MailView, Took};
+use coe_client::coe_codec;
+use coe_client::coe_codec::CoeView;
+use coe_client::ec_fields::refill;
+use eoe_client::eoe;
+use eoe_client::eoe::{Came, EoeView, Packet, Reassembler};
+use eoe_client::mailbox_mail::{Kind, Mail, MailView, Took};
 
 /// What the mail heard last brought besides a reply to a service of the master's own.
 #[derive(Clone, Copy)]

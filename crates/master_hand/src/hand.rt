@@ -7,8 +7,8 @@ use crate::course::Course;
 use crate::found::{Brought, Found};
 use crate::laying::Laying;
 use crate::passed::Content;
-use ec_fields::{NoMemory, Rows};
-use mailbox_mail::{Kind, MailView, ReplyKind, Took};
+use coe_client::ec_fields::{NoMemory, Rows};
+use eoe_client::mailbox_mail::{Kind, MailView, ReplyKind, Took};
 use master_side::{Hand, Heard};
 use segment_plan::Service;
 use std::alloc::Global;
@@ -33,7 +33,7 @@ pub struct InHand {
 
 impl InHand {
     ghost use Rattle.std.specs.Prelude.{◌≡◌, ◌≤◌, [], true, false, length, IfOk, None, All, if◌then◌else◌, ◌&&◌, not, is_some};
-    ghost use Rattle.mailbox_mail.specs.View.{mail_seen};
+    ghost use Rattle.eoe_client.specs.of_mailbox_mail.View.{mail_seen};
     ghost use Rattle.segment_plan.specs.Sound.{IsService};
     ghost use Rattle.master_side.specs.Passing.{told_as, goes_on};
     ghost use Rattle.master_hand.specs.Spoken.{is_followed, hand_speech};
@@ -176,7 +176,7 @@ impl Hand for InHand {
     ghost use Rattle.master_hand.specs.Passed.{mail_of};
     ghost use Rattle.master_hand.specs.Laying.{ready_of, Scripted, scripted, scripted_behind};
     ghost use Rattle.std.specs.Prelude.{Option, None};
-    ghost use Rattle.eoe.specs.declared.joining.Unfinished.{Unfinished};
+    ghost use Rattle.eoe_client.specs.of_eoe.declared.joining.Unfinished.{Unfinished};
     ghost use Rattle.master_hand.specs.Brings.{Brings};
     ghost use Rattle.master_hand.specs.Joins.{unfinished_behind, Completes};
     ghost use Rattle.master_hand.specs.Replied.{Replies};

@@ -1,19 +1,21 @@
 ghost use Rattle.std.specs.Prelude.{◌≡◌, ◌≤◌, [], ◌∷◌, true, false, length, Ok, None, Some, is_some, ⊤, List};
 ghost use Rattle.std.specs.Bool.{OnTrue, OnFalse};
-ghost use Rattle.coe_codec.specs.View.{coe_seen};
-ghost use Rattle.coe_client.specs.of_protocol_models.CoeMails.{mail as sdo_mail};
-ghost use Rattle.coe_client.specs.of_protocol_models.CoeOctets.{body_heard as sdo_heard};
-ghost use Rattle.coe_client.specs.of_protocol_models.CoeClient.{is_incomplete as is_sdo_incomplete};
-ghost use Rattle.soe_client.specs.of_protocol_models.SoeOctets.{body_heard as drive_heard};
-ghost use Rattle.soe_client.specs.of_protocol_models.SoeClient.{is_incomplete as is_drive_incomplete};
+ghost use Rattle.coe_client.specs.of_coe_codec.View.{coe_seen};
+ghost use Rattle.eoe_client.specs.of_protocol_models.CoeMails.{mail as sdo_mail};
+ghost use Rattle.eoe_client.specs.of_protocol_models.CoeOctets.{body_heard as sdo_heard};
+ghost use Rattle.eoe_client.specs.of_protocol_models.CoeClient.{is_incomplete as is_sdo_incomplete};
+ghost use Rattle.eoe_client.specs.of_protocol_models.SoeOctets.{body_heard as drive_heard};
+ghost use Rattle.eoe_client.specs.of_protocol_models.SoeClient.{is_incomplete as is_drive_incomplete};
 ghost use Rattle.master_side.specs.of_link_mails.Body.{Body};
 ghost use Rattle.master_hand.specs.Spoken.{followed_by};
 ghost use Rattle.master_hand.specs.Passed.{body_of, mail_of, passed_left, passed_awaits, PassedTook};
 
 use arrayvec::ArrayVec;
-use coe_codec::CoeView;
-use ec_fields::refill;
-use mailbox_mail::{Kind, Mail, Took};
+use coe_client::coe_codec;
+use coe_client::coe_codec::CoeView;
+use coe_client::ec_fields::refill;
+use eoe_client::mailbox_mail::{Kind, Mail, Took};
+use soe_client::soe_codec;
 
 /// A mail to nobody that isn't counted.
 #[derive(Drop)]

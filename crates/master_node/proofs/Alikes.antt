@@ -1,15 +1,15 @@
 -- A SLAVE THAT STAYS is served as before.
 use Rattle.std.proofs.Common.{◌≡◌, ℕ, true, Option, List, refl, sym, ap, ◌∙◌, subst}
 use Rattle.life_runs.specs.of_frame_view.View.{Lens}
-use Rattle.master_duty.specs.of_state_model.Stated.{Service}
-use Rattle.master_hand.specs.Laying.{scripted}
-use Rattle.master_hand.specs.Shown.{awaits_reply, knows}
-use Rattle.master_hand.specs.Spoken.{Asked}
-use Rattle.master_hand.specs.declared.hand.InHand.{InHand}
-use Rattle.master_side.specs.declared.hand.Hand.{Ghosts}
-use Rattle.master_tour.specs.Counting.{ReadStays, StandCounts}
-use Rattle.master_tour.specs.Passing.{StandPassing}
-use Rattle.master_tour.specs.declared.stop.Stop.{Stop}
+use Rattle.life_runs.specs.of_state_model.Stated.{Service}
+use Rattle.life_runs.specs.of_master_hand.Laying.{scripted}
+use Rattle.life_runs.specs.of_master_hand.Shown.{awaits_reply, knows}
+use Rattle.life_runs.specs.of_master_hand.Spoken.{Asked}
+use Rattle.life_runs.specs.of_master_hand.declared.hand.InHand.{InHand}
+use Rattle.life_runs.specs.of_master_side.declared.hand.Hand.{Ghosts}
+use Rattle.life_runs.specs.of_master_tour.Counting.{ReadStays, StandCounts}
+use Rattle.life_runs.specs.of_master_tour.Passing.{StandPassing}
+use Rattle.life_runs.specs.of_master_tour.declared.stop.Stop.{Stop}
 use Rattle.life_runs.specs.Served.{Keyed, Serves, ServedComes}
 use Rattle.master_node.specs.Passes.{IsServing}
 use Rattle.master_node.proofs.Mailed.{stand_awaits}

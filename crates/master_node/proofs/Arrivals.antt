@@ -2,20 +2,20 @@
 use Rattle.std.proofs.Common.{◌≡◌, ℕ, zero, suc, ◌+◌, ◌<◌, ◌≤◌, List, [], ◌∷◌, ◌++◌, Bool, true, false, Option, Some, None, refl, sym, ap, ◌∙◌, arith, length, take, get_or, append_assoc, append-nil, add-one, length-append}
 use Rattle.std.specs.Prelude.{nat_lt, slice_get}
 use Rattle.std.proofs.Math.Seq.{take-suc}
-use Rattle.eoe.specs.declared.joining.Unfinished.{Unfinished}
+use Rattle.eoe_switch.specs.of_eoe.declared.joining.Unfinished.{Unfinished}
 use Rattle.life_runs.specs.Led.{Turn}
 use Rattle.life_runs.specs.of_frame_view.Shares.{AllThree}
-use Rattle.master_duty.specs.of_segment_model.Slaves.{Datagram}
-use Rattle.master_hand.specs.Brings.{as_list}
-use Rattle.master_hand.specs.Joins.{Completes, packet_kept, packets_in}
-use Rattle.master_hand.specs.declared.found.Found.{Found}
-use Rattle.master_hand.specs.declared.hand.InHand.{InHand}
-use Rattle.master_side.specs.Heard.{Brought}
-use Rattle.master_side.specs.of_link_mails.Body.{Body}
-use Rattle.master_side.specs.declared.hand.Hand.{Ghosts}
-use Rattle.master_side.specs.declared.hand.Heard.{Heard}
-use Rattle.master_tour.specs.Walks.{EachPair}
-use Rattle.master_tour.specs.declared.stop.Stop.{Stop}
+use Rattle.life_runs.specs.of_segment_model.Slaves.{Datagram}
+use Rattle.life_runs.specs.of_master_hand.Brings.{as_list}
+use Rattle.life_runs.specs.of_master_hand.Joins.{Completes, packet_kept, packets_in}
+use Rattle.life_runs.specs.of_master_hand.declared.found.Found.{Found}
+use Rattle.life_runs.specs.of_master_hand.declared.hand.InHand.{InHand}
+use Rattle.life_runs.specs.of_master_side.Heard.{Brought}
+use Rattle.life_runs.specs.of_link_mails.Body.{Body}
+use Rattle.life_runs.specs.of_master_side.declared.hand.Hand.{Ghosts}
+use Rattle.life_runs.specs.of_master_side.declared.hand.Heard.{Heard}
+use Rattle.life_runs.specs.of_master_tour.Walks.{EachPair}
+use Rattle.life_runs.specs.of_master_tour.declared.stop.Stop.{Stop}
 use Rattle.master_node.specs.Arrivals.{arrive_where, arrive_at, arrive_by, arrivals_in, packets_of, packets_kept, kept_at, heard_at, completed_at}
 use Rattle.master_node.specs.Forwards.{port_by}
 use Rattle.master_node.specs.Joined.{StopCompleted, mails_back}

@@ -1,34 +1,34 @@
 -- A FRAME ASKS BY THE INWARD HALF FIRST: what is under way of a slave is that half's datagram, or the half is clear.
 use Rattle.std.proofs.Common.{◌≡◌, ◌-◌, ◌==◌, ℕ, Bool, true, false, List, [], ◌∷◌, Option, refl, sym, ap, ◌∙◌, subst}
 use Rattle.std.specs.Prelude.{if◌then◌else◌, cond, nat_le, map, Result, Ok, Err}
-use Rattle.datagrams.specs.declared.command.Command.{Command}
-use Rattle.datagrams.specs.declared.command.Command.TheVariants.{Nop, Aprd, Apwr, Aprw, Fprd, Fpwr, Fprw, Brd, Bwr, Brw, Lrd, Lwr, Lrw, Armw, Frmw, Other}
-use Rattle.datagrams.specs.declared.frame.Frame.{Frame}
-use Rattle.datagrams.specs.declared.frame.FrameFault.{FrameFault}
-use Rattle.datagrams.specs.declared.frame.Part.{Part}
-use Rattle.datagrams.specs.Frame.{frame_read}
+use Rattle.life_runs.specs.of_datagrams.declared.command.Command.{Command}
+use Rattle.life_runs.specs.of_datagrams.declared.command.Command.TheVariants.{Nop, Aprd, Apwr, Aprw, Fprd, Fpwr, Fprw, Brd, Bwr, Brw, Lrd, Lwr, Lrw, Armw, Frmw, Other}
+use Rattle.life_runs.specs.of_datagrams.declared.frame.Frame.{Frame}
+use Rattle.life_runs.specs.of_datagrams.declared.frame.FrameFault.{FrameFault}
+use Rattle.life_runs.specs.of_datagrams.declared.frame.Part.{Part}
+use Rattle.life_runs.specs.of_datagrams.Frame.{frame_read}
 use Rattle.life_runs.specs.of_frame_view.View.{Lens, address_of, place_of, station_of}
 use Rattle.life_runs.specs.of_frame_view.Seen.{seen, part_seen, parts_seen}
 use Rattle.life_runs.specs.of_frame_view.Shares.{AllBoth}
 use Rattle.life_runs.specs.Led.{Turn}
-use Rattle.mailbox_master.specs.declared.halves.InwardHalf.{InwardHalf}
-use Rattle.mailbox_master.specs.Any.{in_half_of}
-use Rattle.mailbox_master.specs.of_link_model.Link.{Halves}
-use Rattle.mailbox_master.specs.of_link_model.Master.{InHalf}
-use Rattle.master_duty.specs.of_segment_model.Slaves as Slaves
-use Rattle.master_duty.specs.of_segment_model.Slaves.{Access, Datagram}
-use Rattle.master_duty.specs.of_segment_model.Record.{is_for}
-use Rattle.master_duty.specs.of_state_model.Accounts.{duty_access}
-use Rattle.master_hand.specs.declared.hand.InHand.{InHand}
-use Rattle.master_side.specs.Carried.{Meant, is_clear, is_by_half}
-use Rattle.master_side.specs.declared.carried.Carried.{Carried}
-use Rattle.master_side.specs.declared.hand.Hand.{Ghosts}
-use Rattle.master_side.specs.of_link_mails.Body.{Body}
-use Rattle.master_tour.specs.of_life_model.Own.{own}
-use Rattle.master_tour.specs.Stands.{StandShows, StandUnder}
-use Rattle.master_tour.specs.Under.{Grams, mine, Under}
-use Rattle.master_tour.specs.declared.stop.Stand.{Stand}
-use Rattle.master_tour.specs.declared.stop.Stop.{Stop}
+use Rattle.life_runs.specs.of_mailbox_master.declared.halves.InwardHalf.{InwardHalf}
+use Rattle.life_runs.specs.of_mailbox_master.Any.{in_half_of}
+use Rattle.life_runs.specs.of_link_model.Link.{Halves}
+use Rattle.life_runs.specs.of_link_model.Master.{InHalf}
+use Rattle.life_runs.specs.of_segment_model.Slaves as Slaves
+use Rattle.life_runs.specs.of_segment_model.Slaves.{Access, Datagram}
+use Rattle.life_runs.specs.of_segment_model.Record.{is_for}
+use Rattle.life_runs.specs.of_state_model.Accounts.{duty_access}
+use Rattle.life_runs.specs.of_master_hand.declared.hand.InHand.{InHand}
+use Rattle.life_runs.specs.of_master_side.Carried.{Meant, is_clear, is_by_half}
+use Rattle.life_runs.specs.of_master_side.declared.carried.Carried.{Carried}
+use Rattle.life_runs.specs.of_master_side.declared.hand.Hand.{Ghosts}
+use Rattle.life_runs.specs.of_link_mails.Body.{Body}
+use Rattle.life_runs.specs.of_life_model.Own.{own}
+use Rattle.life_runs.specs.of_master_tour.Stands.{StandShows, StandUnder}
+use Rattle.life_runs.specs.of_master_tour.Under.{Grams, mine, Under}
+use Rattle.life_runs.specs.of_master_tour.declared.stop.Stand.{Stand}
+use Rattle.life_runs.specs.of_master_tour.declared.stop.Stop.{Stop}
 use Rattle.master_node.specs.Asks.{AsksHalf, EachAsks, AsksFirst, AllAsk}
 use Rattle.master_node.specs.Shows.{IsOnFrame, side_shows}
 

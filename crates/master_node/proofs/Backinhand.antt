@@ -1,33 +1,33 @@
 -- BEHIND A FRAME THAT CAME BACK a post has in hand what the life behind it has, and just what the lives tell was told.
 use Rattle.std.proofs.Common.{◌≡◌, ◌==◌, ℕ, suc, Bool, true, false, Option, Some, None, List, [], ◌∷◌, ◌++◌, length, refl, sym, ap, ◌∙◌, subst, append_assoc, append-nil}
 use Rattle.std.specs.Prelude.{◌&&◌, is_some, option_map, if◌then◌else◌}
-use Rattle.life_runs.specs.of_frame_view.of_exchange_model.Areas.{Areas}
-use Rattle.master_duty.specs.Reply.{Reply}
-use Rattle.master_duty.specs.of_exchange_model.Exchange.{Speech}
-use Rattle.master_duty.specs.of_exchange_model.Rows.{row_heard}
-use Rattle.master_duty.specs.of_segment_model.Record.{News}
-use Rattle.master_duty.specs.of_segment_model.Slaves.{Datagram, Found, grams}
-use Rattle.master_duty.specs.of_state_model.Accounts.{Account, Change, Duty, is_free}
-use Rattle.master_duty.specs.declared.stage.Met.{Met}
-use Rattle.master_hand.specs.Brings.{Brings, emergencies_in}
-use Rattle.master_hand.specs.Replied.{Replies}
-use Rattle.master_hand.specs.Shown.{Shows, knows}
-use Rattle.master_hand.specs.Spoken.{Asked, acknowledged, hand_speech, is_followed, is_passed}
-use Rattle.master_hand.specs.contracts.hand.InHandHand.TheImpl as Impl
-use Rattle.master_hand.specs.declared.hand.InHand.{InHand}
-use Rattle.master_side.specs.Heard.{Brought}
-use Rattle.master_side.specs.Carried.{in_hand}
-use Rattle.master_side.specs.Shown.{DutyShows, OverShows, SideShows}
-use Rattle.master_side.specs.declared.hand.Heard.{Heard}
-use Rattle.master_side.specs.of_link_mails.Body.{Body}
-use Rattle.master_tour.specs.Brings.{accepted_at, accepted_in}
-use Rattle.master_tour.specs.Stands.{turned}
-use Rattle.master_tour.specs.declared.stop.Stand.{Stand}
-use Rattle.master_tour.specs.declared.stop.Stop.{Stop}
-use Rattle.master_tour.specs.declared.stop.Turned.{Turned}
-use Rattle.master_tour.specs.of_life_model.Lives
-use Rattle.master_tour.specs.of_life_model.Lives.{Era, Life, Spot, life_back, passes}
-use Rattle.master_tour.specs.of_life_model.Own
+use Rattle.life_runs.specs.of_exchange_model.Areas.{Areas}
+use Rattle.life_runs.specs.of_master_duty.Reply.{Reply}
+use Rattle.life_runs.specs.of_exchange_model.Exchange.{Speech}
+use Rattle.life_runs.specs.of_exchange_model.Rows.{row_heard}
+use Rattle.life_runs.specs.of_segment_model.Record.{News}
+use Rattle.life_runs.specs.of_segment_model.Slaves.{Datagram, Found, grams}
+use Rattle.life_runs.specs.of_state_model.Accounts.{Account, Change, Duty, is_free}
+use Rattle.life_runs.specs.of_master_duty.declared.stage.Met.{Met}
+use Rattle.life_runs.specs.of_master_hand.Brings.{Brings, emergencies_in}
+use Rattle.life_runs.specs.of_master_hand.Replied.{Replies}
+use Rattle.life_runs.specs.of_master_hand.Shown.{Shows, knows}
+use Rattle.life_runs.specs.of_master_hand.Spoken.{Asked, acknowledged, hand_speech, is_followed, is_passed}
+use Rattle.life_runs.specs.of_master_hand.contracts.hand.InHandHand.TheImpl as Impl
+use Rattle.life_runs.specs.of_master_hand.declared.hand.InHand.{InHand}
+use Rattle.life_runs.specs.of_master_side.Heard.{Brought}
+use Rattle.life_runs.specs.of_master_side.Carried.{in_hand}
+use Rattle.life_runs.specs.of_master_side.Shown.{DutyShows, OverShows, SideShows}
+use Rattle.life_runs.specs.of_master_side.declared.hand.Heard.{Heard}
+use Rattle.life_runs.specs.of_link_mails.Body.{Body}
+use Rattle.life_runs.specs.of_master_tour.Brings.{accepted_at, accepted_in}
+use Rattle.life_runs.specs.of_master_tour.Stands.{turned}
+use Rattle.life_runs.specs.of_master_tour.declared.stop.Stand.{Stand}
+use Rattle.life_runs.specs.of_master_tour.declared.stop.Stop.{Stop}
+use Rattle.life_runs.specs.of_master_tour.declared.stop.Turned.{Turned}
+use Rattle.life_runs.specs.of_life_model.Lives
+use Rattle.life_runs.specs.of_life_model.Lives.{Era, Life, Spot, life_back, passes}
+use Rattle.life_runs.specs.of_life_model.Own
 use Rattle.life_runs.specs.Told.{Passed}
 use Rattle.master_node.specs.Backtold.{HasInHand, IsFresh, NewestHas, OpenHas, OpeningHas, answer_told, changes_told, emergencies_told, has_packet, kind_of, open_told, packet_told, passed_told, returned_told, turned_told}
 use Rattle.master_node.specs.Besides.{Does, back_does, behind, heard_does, is_state, met_at, met_where, opened_where, over_does, stays, then_does, turned_does, turned_where}

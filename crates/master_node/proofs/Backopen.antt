@@ -1,29 +1,29 @@
 -- WHAT AN OPEN SLAVE TELLS behind a frame that came back, by its side and account, and what its post has in hand then.
 use Rattle.std.proofs.Common.{◌≡◌, ℕ, Bool, true, false, Option, Some, None, List, [], ◌++◌, length, refl, sym, ap, ◌∙◌, subst, append_assoc, append-nil}
 use Rattle.std.specs.Prelude.{◌&&◌, not, is_some, option_map}
-use Rattle.life_runs.specs.of_frame_view.of_exchange_model.Areas.{Areas}
-use Rattle.mailbox_mail.specs.declared.mail.Mail.{Mail}
-use Rattle.master_duty.specs.Reply.{Reply}
-use Rattle.master_duty.specs.of_exchange_model.Exchange.{Speech, plain}
-use Rattle.master_duty.specs.of_exchange_model.Rows.{Row}
-use Rattle.master_duty.specs.of_segment_model.Ends as Ends
-use Rattle.master_duty.specs.of_segment_model.Seats.{Side}
-use Rattle.master_duty.specs.of_state_model.Accounts.{Account, Duty, is_free}
-use Rattle.master_hand.proofs.Replies.{replies_are}
-use Rattle.master_hand.specs.Brings.{Brings, as_list, emergencies_in, emergency_in}
-use Rattle.master_hand.specs.Passed.{body_of}
-use Rattle.master_hand.specs.Replied.{Replies, replies_of, reply_kept}
-use Rattle.master_hand.specs.Shown.{Shows, knows}
-use Rattle.master_hand.specs.Spoken.{Asked, emission, ends, hand_speech}
-use Rattle.master_hand.specs.contracts.hand.InHandHand.TheImpl as Impl
-use Rattle.master_hand.specs.declared.hand.InHand.{InHand}
-use Rattle.master_side.specs.Heard.{Brought}
-use Rattle.master_side.specs.Shown.{SideShows}
-use Rattle.master_side.specs.declared.hand.Heard.{Heard}
-use Rattle.master_side.specs.declared.passing.Passing.{Passing}
-use Rattle.master_side.specs.of_link_mails.Body.{Body}
-use Rattle.master_tour.specs.declared.stop.Stand.{Stand}
-use Rattle.master_tour.specs.declared.stop.Stop.{Stop}
+use Rattle.life_runs.specs.of_exchange_model.Areas.{Areas}
+use Rattle.life_runs.specs.of_mailbox_mail.declared.mail.Mail.{Mail}
+use Rattle.life_runs.specs.of_master_duty.Reply.{Reply}
+use Rattle.life_runs.specs.of_exchange_model.Exchange.{Speech, plain}
+use Rattle.life_runs.specs.of_exchange_model.Rows.{Row}
+use Rattle.life_runs.specs.of_segment_model.Ends as Ends
+use Rattle.life_runs.specs.of_segment_model.Seats.{Side}
+use Rattle.life_runs.specs.of_state_model.Accounts.{Account, Duty, is_free}
+use Rattle.life_runs.proofs.of_master_hand.Replies.{replies_are}
+use Rattle.life_runs.specs.of_master_hand.Brings.{Brings, as_list, emergencies_in, emergency_in}
+use Rattle.life_runs.specs.of_master_hand.Passed.{body_of}
+use Rattle.life_runs.specs.of_master_hand.Replied.{Replies, replies_of, reply_kept}
+use Rattle.life_runs.specs.of_master_hand.Shown.{Shows, knows}
+use Rattle.life_runs.specs.of_master_hand.Spoken.{Asked, emission, ends, hand_speech}
+use Rattle.life_runs.specs.of_master_hand.contracts.hand.InHandHand.TheImpl as Impl
+use Rattle.life_runs.specs.of_master_hand.declared.hand.InHand.{InHand}
+use Rattle.life_runs.specs.of_master_side.Heard.{Brought}
+use Rattle.life_runs.specs.of_master_side.Shown.{SideShows}
+use Rattle.life_runs.specs.of_master_side.declared.hand.Heard.{Heard}
+use Rattle.life_runs.specs.of_master_side.declared.passing.Passing.{Passing}
+use Rattle.life_runs.specs.of_link_mails.Body.{Body}
+use Rattle.life_runs.specs.of_master_tour.declared.stop.Stand.{Stand}
+use Rattle.life_runs.specs.of_master_tour.declared.stop.Stop.{Stop}
 use Rattle.life_runs.specs.Told.{Passed, replies_in}
 use Rattle.master_node.specs.Backtold.{HasPassed, NewestHas, OpenHas, ServiceHas, answer_told, changes_told, emergencies_told, ended_told, has_packet, kind_of, packet_told, passed_told}
 use Rattle.master_node.specs.Begins.{is_other}

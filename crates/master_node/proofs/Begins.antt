@@ -8,21 +8,21 @@ use Rattle.eoe_switch.specs.declared.switching.SwitchEvent.{SwitchEvent}
 use Rattle.life_runs.specs.of_frame_view.View.{Lens}
 use Rattle.life_runs.specs.of_frame_view.Shares.{AllFrom, IsElsewhere, AreDistinct}
 use Rattle.life_runs.specs.Led.{Leads, Turn}
-use Rattle.master_duty.specs.of_state_model.Stated.{Service}
-use Rattle.master_hand.specs.Laying.{Waiting, asked_next, ready_by, ready_of}
-use Rattle.master_hand.specs.Spoken.{Asked, net}
-use Rattle.master_hand.specs.of_protocol_models.EoeClient as EoeClient
-use Rattle.master_hand.specs.Talk.{asked_of}
-use Rattle.master_hand.specs.declared.hand.InHand.{InHand}
-use Rattle.master_hand.specs.declared.laying.Laid.{Laid}
-use Rattle.master_side.specs.Shown.{wish_begun, wished, takes_ready}
-use Rattle.master_side.specs.declared.carried.Wish.{Wish}
-use Rattle.master_side.specs.declared.hand.Hand.{Ghosts}
-use Rattle.master_tour.specs.Made.{is_in}
-use Rattle.master_tour.specs.of_life_model.Lives.{Spot}
-use Rattle.master_tour.specs.Walks.{StepsAt}
-use Rattle.master_tour.specs.declared.stop.Stop.{Stop}
-use Rattle.segment_plan.specs.declared.service.Service as Plan
+use Rattle.life_runs.specs.of_state_model.Stated.{Service}
+use Rattle.life_runs.specs.of_master_hand.Laying.{Waiting, asked_next, ready_by, ready_of}
+use Rattle.life_runs.specs.of_master_hand.Spoken.{Asked, net}
+use Rattle.life_runs.specs.of_protocol_models.EoeClient as EoeClient
+use Rattle.life_runs.specs.of_master_hand.Talk.{asked_of}
+use Rattle.life_runs.specs.of_master_hand.declared.hand.InHand.{InHand}
+use Rattle.life_runs.specs.of_master_hand.declared.laying.Laid.{Laid}
+use Rattle.life_runs.specs.of_master_side.Shown.{wish_begun, wished, takes_ready}
+use Rattle.life_runs.specs.of_master_side.declared.carried.Wish.{Wish}
+use Rattle.life_runs.specs.of_master_side.declared.hand.Hand.{Ghosts}
+use Rattle.life_runs.specs.of_master_tour.Made.{is_in}
+use Rattle.life_runs.specs.of_life_model.Lives.{Spot}
+use Rattle.life_runs.specs.of_master_tour.Walks.{StepsAt}
+use Rattle.life_runs.specs.of_master_tour.declared.stop.Stop.{Stop}
+use Rattle.life_runs.specs.of_segment_plan.declared.service.Service as Plan
 use Rattle.master_node.specs.Begins.{Taken, switch_on, switch_behind, oldest_by, taken_by, taken_in, begins_by, begins_in, begun_of, begun_for, HasTaken, TakesOn, taken_where, LaysOldest, NoneMore, PacketFirst, begins_other, HasBegun, PacketsBegin}
 use Rattle.master_node.specs.Coming.{IsComing, IsLaid, next_of, wish_of}
 use Rattle.master_node.specs.Filling.{IsAmong}

@@ -3,17 +3,17 @@ use Rattle.std.proofs.Common.{◌≡◌, ◌==◌, take, ℕ, zero, suc, ◌+◌
 use Rattle.std.specs.Prelude.{if◌then◌else◌, is_some, ◌||◌}
 use Rattle.std.proofs.lemmas.Bool.{eq-eqb, eqb-true}
 use Rattle.std.proofs.lemmas.List.{length-append}
-use Rattle.mailbox_mail.specs.declared.mail.Mail.{Mail}
-use Rattle.mailbox_mail.specs.declared.outcome.ReplyKind.{ReplyKind}
-use Rattle.master_hand.specs.declared.hand.InHand.{InHand}
-use Rattle.master_hand.specs.contracts.hand.InHandHand.TheImpl as Impl
-use Rattle.master_side.specs.declared.hand.Hand.{Ghosts}
-use Rattle.master_side.specs.declared.passing.Passing.{Passing}
-use Rattle.master_tour.specs.Made.{is_in}
-use Rattle.master_tour.specs.Orders.{AreOnce}
-use Rattle.master_tour.specs.Walks.{StepsAt}
-use Rattle.master_tour.specs.declared.stop.Stop.{Stop}
-use Rattle.master_tour.specs.declared.stop.Turned.{Turned}
+use Rattle.life_runs.specs.of_mailbox_mail.declared.mail.Mail.{Mail}
+use Rattle.life_runs.specs.of_mailbox_mail.declared.outcome.ReplyKind.{ReplyKind}
+use Rattle.life_runs.specs.of_master_hand.declared.hand.InHand.{InHand}
+use Rattle.life_runs.specs.of_master_hand.contracts.hand.InHandHand.TheImpl as Impl
+use Rattle.life_runs.specs.of_master_side.declared.hand.Hand.{Ghosts}
+use Rattle.life_runs.specs.of_master_side.declared.passing.Passing.{Passing}
+use Rattle.life_runs.specs.of_master_tour.Made.{is_in}
+use Rattle.life_runs.specs.of_master_tour.Orders.{AreOnce}
+use Rattle.life_runs.specs.of_master_tour.Walks.{StepsAt}
+use Rattle.life_runs.specs.of_master_tour.declared.stop.Stop.{Stop}
+use Rattle.life_runs.specs.of_master_tour.declared.stop.Turned.{Turned}
 use Rattle.master_node.specs.Besides.{Does, DoesAt, DoesSo, TellsAll, answers, back_does, by_stop, does_at, given_told, is_state, passed_where, stays, then_does}
 use Rattle.master_node.specs.Answered.{answer_at, answer_behind, answer_on}
 use Rattle.master_node.specs.Downs.{is_given_up}

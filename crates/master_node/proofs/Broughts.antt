@@ -1,18 +1,18 @@
 -- What a frame that came back brought.
 use Rattle.std.proofs.Common.{◌≡◌, ℕ, Option, Some, None, List, [], ap, sym, ◌∙◌, subst, append-nil}
-use Rattle.master_side.specs.of_link_mails.Body.{Body}
+use Rattle.life_runs.specs.of_link_mails.Body.{Body}
 use Rattle.life_runs.specs.Led.{Turn}
-use Rattle.eoe.specs.declared.joining.Unfinished.{Unfinished}
-use Rattle.master_hand.specs.Brings.{Brings, as_list, emergency_in, emergencies_in, emergency_kept}
-use Rattle.master_hand.specs.Joins.{Completes, packet_in, packet_kept, packets_in}
-use Rattle.master_hand.specs.declared.found.Found.{Found}
-use Rattle.master_hand.specs.declared.hand.InHand.{InHand}
-use Rattle.master_side.specs.Heard.{Brought}
-use Rattle.master_side.specs.declared.hand.Hand.{Ghosts}
-use Rattle.master_side.specs.declared.hand.Heard.{Heard}
-use Rattle.master_tour.specs.Brings.{accepted_in}
-use Rattle.master_tour.specs.declared.stop.Stop.{Stop}
-use Rattle.master_duty.specs.of_segment_model.Slaves.{Datagram}
+use Rattle.eoe_switch.specs.of_eoe.declared.joining.Unfinished.{Unfinished}
+use Rattle.life_runs.specs.of_master_hand.Brings.{Brings, as_list, emergency_in, emergencies_in, emergency_kept}
+use Rattle.life_runs.specs.of_master_hand.Joins.{Completes, packet_in, packet_kept, packets_in}
+use Rattle.life_runs.specs.of_master_hand.declared.found.Found.{Found}
+use Rattle.life_runs.specs.of_master_hand.declared.hand.InHand.{InHand}
+use Rattle.life_runs.specs.of_master_side.Heard.{Brought}
+use Rattle.life_runs.specs.of_master_side.declared.hand.Hand.{Ghosts}
+use Rattle.life_runs.specs.of_master_side.declared.hand.Heard.{Heard}
+use Rattle.life_runs.specs.of_master_tour.Brings.{accepted_in}
+use Rattle.life_runs.specs.of_master_tour.declared.stop.Stop.{Stop}
+use Rattle.life_runs.specs.of_segment_model.Slaves.{Datagram}
 use Rattle.master_node.specs.Brought.{StopBrought}
 use Rattle.master_node.specs.Kept.{StopStays}
 

@@ -2,15 +2,15 @@
 use Rattle.std.proofs.Common.{◌≡◌, ◌⊎◌, inl, inr, ◌<◌, ℕ, zero, suc, Bool, true, false, Option, Some, None, List, [], ◌∷◌, refl, sym, ap, ◌∙◌, subst, arith, length, ◌%◌}
 use Rattle.std.specs.Prelude.{is_some, slice_get, if◌then◌else◌}
 use Rattle.life_runs.specs.Led.{Comes}
-use Rattle.master_hand.specs.Laying.{Waiting, Scripted, scripted, scripted_behind, asked_next, ready_of, ready_by}
-use Rattle.master_hand.specs.Spoken.{Asked, is_passed}
-use Rattle.master_hand.specs.Talk.{asked_of}
-use Rattle.master_hand.specs.declared.laying.Laid.{Laid}
-use Rattle.master_side.specs.Shown.{wish_begun, takes_ready, wished}
-use Rattle.master_side.specs.declared.carried.Wish.{Wish}
-use Rattle.segment_plan.specs.declared.service.Service as Plan
-use Rattle.segment_plan.specs.declared.service.Service.{Service}
-use Rattle.master_duty.specs.of_state_model.Stated as Stated
+use Rattle.life_runs.specs.of_master_hand.Laying.{Waiting, Scripted, scripted, scripted_behind, asked_next, ready_of, ready_by}
+use Rattle.life_runs.specs.of_master_hand.Spoken.{Asked, is_passed}
+use Rattle.life_runs.specs.of_master_hand.Talk.{asked_of}
+use Rattle.life_runs.specs.of_master_hand.declared.laying.Laid.{Laid}
+use Rattle.life_runs.specs.of_master_side.Shown.{wish_begun, takes_ready, wished}
+use Rattle.life_runs.specs.of_master_side.declared.carried.Wish.{Wish}
+use Rattle.life_runs.specs.of_segment_plan.declared.service.Service as Plan
+use Rattle.life_runs.specs.of_segment_plan.declared.service.Service.{Service}
+use Rattle.life_runs.specs.of_state_model.Stated as Stated
 use Rattle.life_runs.proofs.Quiet.{none_in, passed_in}
 use Rattle.master_node.specs.Coming.{IsComing, IsLaid, wish_of}
 use Rattle.master_node.specs.declared.coming.Coming.{Coming}

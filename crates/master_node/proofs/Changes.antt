@@ -1,16 +1,16 @@
 -- WHAT A CHANGE OF STATE TELLS behind a frame that came back, and what its post has in hand then.
 use Rattle.std.proofs.Common.{◌≡◌, ◌==◌, ℕ, Bool, true, false, Option, Some, None, List, [], ◌∷◌, ◌++◌, length, refl, sym, ap, ◌∙◌, subst}
 use Rattle.std.specs.Prelude.{◌&&◌, not, if◌then◌else◌}
-use Rattle.master_duty.specs.Reply.{Reply}
-use Rattle.master_duty.specs.declared.stage.Met.{Met}
-use Rattle.master_duty.specs.of_segment_model.Ends.{Outcome}
-use Rattle.master_duty.specs.of_segment_model.Record.{is_for}
-use Rattle.master_duty.specs.of_segment_model.Slaves.{Datagram}
-use Rattle.master_duty.specs.of_state_model.Accounts.{Account, Change, Duty, Progress, access_done, account_back, account_by, account_met}
-use Rattle.master_hand.specs.Spoken.{Asked}
-use Rattle.master_side.specs.Carried.{in_hand}
-use Rattle.master_side.specs.Shown.{DutyShows, OverShows}
-use Rattle.master_side.specs.of_link_mails.Body.{Body}
+use Rattle.life_runs.specs.of_master_duty.Reply.{Reply}
+use Rattle.life_runs.specs.of_master_duty.declared.stage.Met.{Met}
+use Rattle.life_runs.specs.of_segment_model.Ends.{Outcome}
+use Rattle.life_runs.specs.of_segment_model.Record.{is_for}
+use Rattle.life_runs.specs.of_segment_model.Slaves.{Datagram}
+use Rattle.life_runs.specs.of_state_model.Accounts.{Account, Change, Duty, Progress, access_done, account_back, account_by, account_met}
+use Rattle.life_runs.specs.of_master_hand.Spoken.{Asked}
+use Rattle.life_runs.specs.of_master_side.Carried.{in_hand}
+use Rattle.life_runs.specs.of_master_side.Shown.{DutyShows, OverShows}
+use Rattle.life_runs.specs.of_link_mails.Body.{Body}
 use Rattle.master_node.specs.Backtold.{change_kind, changes_told}
 use Rattle.master_node.specs.Besides.{met_where}
 use Rattle.master_node.specs.declared.event.Event.{Event}

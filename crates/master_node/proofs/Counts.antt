@@ -3,26 +3,26 @@ use Rattle.std.proofs.Common.{◌≡◌, ◌≤◌, ℕ, suc, ◌+◌, Bool, tru
 use Rattle.std.specs.Prelude.{◌&&◌, nat_lt, if◌then◌else◌}
 use Rattle.std.proofs.lemmas.Bool.{ltb-true, ltb-false}
 use Rattle.std.proofs.lemmas.Option.{slice_get_within}
-use Rattle.datagrams.specs.Datagram as Raw
-use Rattle.master_duty.specs.of_exchange_model.Exchange.{Speech}
+use Rattle.life_runs.specs.of_datagrams.Datagram as Raw
+use Rattle.life_runs.specs.of_exchange_model.Exchange.{Speech}
 use Rattle.life_runs.specs.of_frame_view.View.{Lens}
 use Rattle.life_runs.specs.of_frame_view.Seen.{seen}
 use Rattle.life_runs.specs.of_frame_view.Frames.{Share, FrameFor}
 use Rattle.life_runs.specs.of_frame_view.Shares.{Lived, came_at, given_where}
-use Rattle.master_tour.specs.of_life_model.Lives.{Spot, Life, Stand, Opening, life_next, life_back, life_lost, opening_back, shows_clear, last_step, is_shown, clears, opens, reopens, reopens_at, reopening, returns_to_init, era_back}
+use Rattle.life_runs.specs.of_life_model.Lives.{Spot, Life, Stand, Opening, life_next, life_back, life_lost, opening_back, shows_clear, last_step, is_shown, clears, opens, reopens, reopens_at, reopening, returns_to_init, era_back}
 use Rattle.life_runs.specs.First.{leads_from, first_leads}
 use Rattle.life_runs.specs.Led.{Exchanged, Leads, Turn, Comes, IsTurn, AllTurn, IsLed, is_passed, speech_at, life_behind, led_behind, gives_up_at}
-use Rattle.master_side.specs.of_link_mails.Body.{Body}
-use Rattle.master_duty.specs.Reply.{Reply}
-use Rattle.master_hand.specs.Spoken.{Asked, acknowledged, is_followed}
-use Rattle.master_duty.specs.of_segment_model.Record.{News}
-use Rattle.master_duty.specs.of_segment_model.Slaves.{Datagram, Found}
-use Rattle.segment_plan.specs.declared.plan.Scenario.{Scenario}
-use Rattle.segment_plan.specs.declared.service.Service as Plan
-use Rattle.segment_plan.specs.declared.slave.SlaveSpec.{SlaveSpec}
+use Rattle.life_runs.specs.of_link_mails.Body.{Body}
+use Rattle.life_runs.specs.of_master_duty.Reply.{Reply}
+use Rattle.life_runs.specs.of_master_hand.Spoken.{Asked, acknowledged, is_followed}
+use Rattle.life_runs.specs.of_segment_model.Record.{News}
+use Rattle.life_runs.specs.of_segment_model.Slaves.{Datagram, Found}
+use Rattle.life_runs.specs.of_segment_plan.declared.plan.Scenario.{Scenario}
+use Rattle.life_runs.specs.of_segment_plan.declared.service.Service as Plan
+use Rattle.life_runs.specs.of_segment_plan.declared.slave.SlaveSpec.{SlaveSpec}
 use Rattle.life_runs.specs.of_segment_ring.declared.wire.Fate.{Fate}
 use Rattle.life_runs.specs.of_segment_ring.declared.wire.Fate.TheVariants.{Pass, Lost}
-use Rattle.master_duty.specs.of_state_model.Accounts.{Duty, Stage, Pick}
+use Rattle.life_runs.specs.of_state_model.Accounts.{Duty, Stage, Pick}
 use Rattle.master_node.specs.Wants.{gave_of, IsCounted, AllCounted, AllPlaced}
 
 -- one of two
@@ -132,7 +132,7 @@ given_counted recover n m start few e = by (nat_lt n recover) refl
     by false ge = let over = ltb-false n recover ge in omega (arith, over, few, e)
 
 -- no more came into hand than the script has
-pub one_placed : (room : ℕ) (script : List Plan.Service) (n : ℕ) (b : Option (Rattle.master_duty.specs.of_state_model.Stated.Service Asked)) (k : ℕ) → Comes room script n b k → n ≤ length script → k ≤ length script
+pub one_placed : (room : ℕ) (script : List Plan.Service) (n : ℕ) (b : Option (Rattle.life_runs.specs.of_state_model.Stated.Service Asked)) (k : ℕ) → Comes room script n b k → n ≤ length script → k ≤ length script
 one_placed room script n _ _ Comes.none few = few
 one_placed room script n _ _ (Comes.mails s q at asked) few = let inside = slice_get_within script n s at in omega (arith, inside)
 one_placed room script n _ _ (Comes.state target at) few = let inside = slice_get_within script n (Plan.Service.State target) at in omega (arith, inside)

@@ -6,24 +6,24 @@ use Rattle.std.proofs.Math.Seq.{take-suc}
 use Rattle.eoe_switch.specs.declared.switching.SwitchEvent.{SwitchEvent}
 use Rattle.life_runs.specs.of_frame_view.View.{Lens}
 use Rattle.life_runs.specs.of_frame_view.Shares.{AllBoth, given_where}
-use Rattle.master_duty.specs.Reply.{Reply}
-use Rattle.master_duty.specs.of_exchange_model.Exchange.{Speech}
-use Rattle.master_duty.specs.of_segment_model.Record.{News}
-use Rattle.master_duty.specs.of_segment_model.Slaves.{Datagram}
-use Rattle.master_duty.specs.of_segment_model.Seats.{Side}
-use Rattle.master_duty.specs.of_state_model.Accounts.{Account}
-use Rattle.master_hand.specs.Spoken.{Asked, acknowledged, is_followed, is_passed}
-use Rattle.master_side.specs.of_link_mails.Body.{Body}
-use Rattle.master_side.specs.declared.carried.Carried.{Carried}
-use Rattle.master_tour.specs.Goes.{is_live, holds_at}
-use Rattle.master_tour.specs.Stands.{StandShows, StandUnder, turned, turned_by, is_opening, is_open}
-use Rattle.master_tour.specs.Walks.{EachPair}
-use Rattle.master_tour.specs.declared.stop.Stand.{Stand}
-use Rattle.master_tour.specs.declared.stop.Turned.{Turned}
-use Rattle.master_tour.specs.of_life_model.Lives as Lives
-use Rattle.master_tour.specs.of_life_model.Lives.{Life, Spot, life_lost}
-use Rattle.master_tour.proofs.Goes.{holds_here}
-use Rattle.master_tour.proofs.Openings.{lt_self, lt_more}
+use Rattle.life_runs.specs.of_master_duty.Reply.{Reply}
+use Rattle.life_runs.specs.of_exchange_model.Exchange.{Speech}
+use Rattle.life_runs.specs.of_segment_model.Record.{News}
+use Rattle.life_runs.specs.of_segment_model.Slaves.{Datagram}
+use Rattle.life_runs.specs.of_segment_model.Seats.{Side}
+use Rattle.life_runs.specs.of_state_model.Accounts.{Account}
+use Rattle.life_runs.specs.of_master_hand.Spoken.{Asked, acknowledged, is_followed, is_passed}
+use Rattle.life_runs.specs.of_link_mails.Body.{Body}
+use Rattle.life_runs.specs.of_master_side.declared.carried.Carried.{Carried}
+use Rattle.life_runs.specs.of_master_tour.Goes.{is_live, holds_at}
+use Rattle.life_runs.specs.of_master_tour.Stands.{StandShows, StandUnder, turned, turned_by, is_opening, is_open}
+use Rattle.life_runs.specs.of_master_tour.Walks.{EachPair}
+use Rattle.life_runs.specs.of_master_tour.declared.stop.Stand.{Stand}
+use Rattle.life_runs.specs.of_master_tour.declared.stop.Turned.{Turned}
+use Rattle.life_runs.specs.of_life_model.Lives as Lives
+use Rattle.life_runs.specs.of_life_model.Lives.{Life, Spot, life_lost}
+use Rattle.life_runs.proofs.of_master_tour.Goes.{holds_here}
+use Rattle.life_runs.proofs.of_master_tour.Openings.{lt_self, lt_more}
 use Rattle.master_node.specs.Downs.{Lists, down_by, downs_in, is_given_up}
 use Rattle.master_node.specs.Forwards.{port_by}
 use Rattle.master_node.specs.Happened.{events_of}

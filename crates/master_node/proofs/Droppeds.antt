@@ -2,8 +2,8 @@
 use Rattle.std.proofs.Common.{◌≡◌, ◌==◌, ◌<◌, ℕ, zero, suc, Bool, true, false, List, [], ◌∷◌, ◌++◌, refl, sym, ap, ◌∙◌, arith, length, get_or, set}
 use Rattle.std.specs.Prelude.{◌&&◌, ◌||◌, map, if◌then◌else◌}
 use Rattle.std.proofs.lemmas.Bool.{eq-eqb, eqb-true}
-use Rattle.master_tour.specs.Made.{is_in}
-use Rattle.master_tour.specs.Walks.{StepsAt}
+use Rattle.life_runs.specs.of_master_tour.Made.{is_in}
+use Rattle.life_runs.specs.of_master_tour.Walks.{StepsAt}
 use Rattle.life_runs.specs.Served.{Keyed}
 use Rattle.master_node.specs.Dropped.{Drops}
 use Rattle.master_node.specs.Passes.{waits_in}

@@ -1,34 +1,34 @@
 -- WHAT A MASTER REMEMBERS STAYS while a frame is made, and each slave takes up its mail at its visit.
 use Rattle.std.proofs.Common.{◌≡◌, ℕ, zero, suc, Bool, true, Option, Some, None, List, [], ◌∷◌, refl, sym, ap, ◌∙◌, subst}
 use Rattle.std.specs.Prelude.{map, option_map}
-use Rattle.mailbox_mail.specs.declared.mail.Mail.{Mail}
-use Rattle.mailbox_master.specs.Any.{in_half_of}
-use Rattle.mailbox_master.specs.Seat.{seat_half}
-use Rattle.mailbox_master.specs.of_link_model.Link.{Halves}
+use Rattle.life_runs.specs.of_mailbox_mail.declared.mail.Mail.{Mail}
+use Rattle.life_runs.specs.of_mailbox_master.Any.{in_half_of}
+use Rattle.life_runs.specs.of_mailbox_master.Seat.{seat_half}
+use Rattle.life_runs.specs.of_link_model.Link.{Halves}
 use Rattle.life_runs.specs.of_frame_view.View.{Lens}
 use Rattle.life_runs.specs.of_frame_view.Shares.{AllBoth}
 use Rattle.life_runs.specs.Led.{Turn, speech_at}
-use Rattle.master_duty.specs.Reply.{Reply}
-use Rattle.master_duty.specs.of_exchange_model.Exchange.{Speech}
-use Rattle.master_duty.specs.of_exchange_model.Rows.{left}
-use Rattle.master_duty.specs.of_segment_model.Seats
-use Rattle.master_duty.specs.of_segment_model.Seats.{next_mail, first_left}
-use Rattle.master_duty.specs.of_state_model.Accounts.{Account}
-use Rattle.master_hand.specs.Shown.{Shows, SameHand, knows}
-use Rattle.master_hand.specs.Spoken.{Asked}
-use Rattle.master_hand.specs.declared.hand.InHand.{InHand}
-use Rattle.master_side.specs.Carried.{in_hand}
-use Rattle.master_side.specs.Recall.{recall_by}
-use Rattle.master_side.specs.Sent.{SameSide}
-use Rattle.master_side.specs.Shown.{SideShows, DutyShows, OverShows}
-use Rattle.master_side.specs.declared.hand.Hand.{Ghosts}
-use Rattle.master_side.specs.declared.side.Side.{Side}
-use Rattle.master_side.specs.of_link_mails.Body.{Body, link_mail}
-use Rattle.master_tour.specs.Goes.{holds_at}
-use Rattle.master_tour.specs.Stands.{StandShows}
-use Rattle.master_tour.specs.Walks.{EachPair, StepsAt}
-use Rattle.master_tour.specs.declared.stop.Stand.{Stand}
-use Rattle.master_tour.specs.declared.stop.Stop.{Stop}
+use Rattle.life_runs.specs.of_master_duty.Reply.{Reply}
+use Rattle.life_runs.specs.of_exchange_model.Exchange.{Speech}
+use Rattle.life_runs.specs.of_exchange_model.Rows.{left}
+use Rattle.life_runs.specs.of_segment_model.Seats
+use Rattle.life_runs.specs.of_segment_model.Seats.{next_mail, first_left}
+use Rattle.life_runs.specs.of_state_model.Accounts.{Account}
+use Rattle.life_runs.specs.of_master_hand.Shown.{Shows, SameHand, knows}
+use Rattle.life_runs.specs.of_master_hand.Spoken.{Asked}
+use Rattle.life_runs.specs.of_master_hand.declared.hand.InHand.{InHand}
+use Rattle.life_runs.specs.of_master_side.Carried.{in_hand}
+use Rattle.life_runs.specs.of_master_side.Recall.{recall_by}
+use Rattle.life_runs.specs.of_master_side.Sent.{SameSide}
+use Rattle.life_runs.specs.of_master_side.Shown.{SideShows, DutyShows, OverShows}
+use Rattle.life_runs.specs.of_master_side.declared.hand.Hand.{Ghosts}
+use Rattle.life_runs.specs.of_master_side.declared.side.Side.{Side}
+use Rattle.life_runs.specs.of_link_mails.Body.{Body, link_mail}
+use Rattle.life_runs.specs.of_master_tour.Goes.{holds_at}
+use Rattle.life_runs.specs.of_master_tour.Stands.{StandShows}
+use Rattle.life_runs.specs.of_master_tour.Walks.{EachPair, StepsAt}
+use Rattle.life_runs.specs.of_master_tour.declared.stop.Stand.{Stand}
+use Rattle.life_runs.specs.of_master_tour.declared.stop.Stop.{Stop}
 use Rattle.master_node.specs.Eager.{AllTakeUp, StopGoes, StopTakesUp, TakesUp, recall_of}
 use Rattle.master_node.specs.Kept.{StopKept}
 use Rattle.master_node.specs.Shows.{IsOnFrame, side_shows}

@@ -4,14 +4,14 @@ use Rattle.std.specs.Prelude.{IfSome, nat_lt}
 use Rattle.std.proofs.lemmas.Bool.Decides.{nat_tests}
 use Rattle.life_runs.specs.of_frame_view.View.{Lens}
 use Rattle.life_runs.specs.Led.{Leads}
-use Rattle.master_hand.specs.declared.hand.InHand.{InHand}
-use Rattle.master_side.specs.Recall.{Recall}
-use Rattle.master_side.specs.declared.hand.Hand.{Ghosts}
-use Rattle.master_side.specs.declared.side.Side.{Side}
-use Rattle.master_tour.specs.Goes.{holds_at}
-use Rattle.master_tour.specs.Stands.{is_opening}
-use Rattle.master_tour.specs.declared.stop.Stand as Stands
-use Rattle.master_tour.specs.declared.stop.Stop.{Stop}
+use Rattle.life_runs.specs.of_master_hand.declared.hand.InHand.{InHand}
+use Rattle.life_runs.specs.of_master_side.Recall.{Recall}
+use Rattle.life_runs.specs.of_master_side.declared.hand.Hand.{Ghosts}
+use Rattle.life_runs.specs.of_master_side.declared.side.Side.{Side}
+use Rattle.life_runs.specs.of_master_tour.Goes.{holds_at}
+use Rattle.life_runs.specs.of_master_tour.Stands.{is_opening}
+use Rattle.life_runs.specs.of_master_tour.declared.stop.Stand as Stands
+use Rattle.life_runs.specs.of_master_tour.declared.stop.Stop.{Stop}
 use Rattle.master_node.specs.Entering.{EntersFirst}
 use Rattle.master_node.specs.Forwards.{forwarded}
 use Rattle.master_node.specs.Resting.{AllRest, IsResting, StandRests, StopRests}

@@ -5,10 +5,10 @@ use Rattle.std.specs.List.{list_any}
 use Rattle.life_runs.specs.of_frame_view.View.{Lens}
 use Rattle.life_runs.specs.of_frame_view.Shares.{AllFrom}
 use Rattle.life_runs.specs.Led.{Leads}
-use Rattle.master_tour.specs.Goes.{is_live, holds_at, BeginsLive}
-use Rattle.master_tour.specs.Made.{FrameMade, is_in}
-use Rattle.master_tour.specs.Orders.{visits_left, AreOnce, IsNextOf, IsCarried}
-use Rattle.master_tour.specs.Walks.{StepsAt}
+use Rattle.life_runs.specs.of_master_tour.Goes.{is_live, holds_at, BeginsLive}
+use Rattle.life_runs.specs.of_master_tour.Made.{FrameMade, is_in}
+use Rattle.life_runs.specs.of_master_tour.Orders.{visits_left, AreOnce, IsNextOf, IsCarried}
+use Rattle.life_runs.specs.of_master_tour.Walks.{StepsAt}
 use Rattle.master_node.specs.Begins.{begun_for}
 use Rattle.master_node.specs.Starts.{HasStarted}
 use Rattle.master_node.specs.Filling.{IsAmong, StopFills, IsFilling, IsEmpty, IsFilled}

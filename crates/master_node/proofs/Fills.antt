@@ -2,19 +2,19 @@
 use Rattle.std.proofs.Common.{◌≡◌, ◌==◌, ◌+◌, ℕ, zero, suc, Bool, true, false, Option, List, [], ◌∷◌, refl, sym, ap, ◌∙◌, subst, arith}
 use Rattle.std.specs.Prelude.{is_some, map, if◌then◌else◌}
 use Rattle.std.proofs.lemmas.Bool.{eq-eqb, eqb-true}
-use Rattle.datagrams.specs.Datagram as Raw
+use Rattle.life_runs.specs.of_datagrams.Datagram as Raw
 use Rattle.life_runs.specs.of_frame_view.View.{Lens}
 use Rattle.life_runs.specs.of_frame_view.Shares.{Lived, AllFrom, IsElsewhere, AreDistinct}
-use Rattle.master_tour.specs.of_life_model.Lives.{Spot}
+use Rattle.life_runs.specs.of_life_model.Lives.{Spot}
 use Rattle.life_runs.specs.Led.{Leads, Comes}
-use Rattle.master_duty.specs.Reply.{Reply}
-use Rattle.master_hand.specs.Spoken.{Asked}
-use Rattle.master_hand.specs.declared.hand.InHand.{InHand}
-use Rattle.master_side.specs.declared.hand.Hand.{Ghosts}
-use Rattle.master_tour.specs.Made.{StopHas, FrameMade, ComesAt, is_in}
-use Rattle.master_tour.specs.Walks.{EachPair, StepsAt}
-use Rattle.master_tour.specs.declared.stop.Stop.{Stop}
-use Rattle.master_duty.specs.of_state_model.Stated.{Service}
+use Rattle.life_runs.specs.of_master_duty.Reply.{Reply}
+use Rattle.life_runs.specs.of_master_hand.Spoken.{Asked}
+use Rattle.life_runs.specs.of_master_hand.declared.hand.InHand.{InHand}
+use Rattle.life_runs.specs.of_master_side.declared.hand.Hand.{Ghosts}
+use Rattle.life_runs.specs.of_master_tour.Made.{StopHas, FrameMade, ComesAt, is_in}
+use Rattle.life_runs.specs.of_master_tour.Walks.{EachPair, StepsAt}
+use Rattle.life_runs.specs.of_master_tour.declared.stop.Stop.{Stop}
+use Rattle.life_runs.specs.of_state_model.Stated.{Service}
 use Rattle.master_node.specs.Filling.{IsAmong, StopFills}
 use Rattle.master_node.specs.Kept.{StopKept}
 use Rattle.master_node.specs.Shows.{lived_of}

@@ -2,21 +2,21 @@
 use Rattle.std.proofs.Common.{◌≡◌, ℕ, Bool, true, false, Option, Some, None, List, [], ◌∷◌, ◌++◌, refl, ap, ◌∙◌, append-nil}
 use Rattle.std.specs.Prelude.{filter}
 use Rattle.std.proofs.lemmas.List.Elements.{filter-append}
-use Rattle.mailbox_mail.specs.declared.mail.Mail.{Mail}
-use Rattle.mailbox_mail.specs.declared.outcome.ReplyKind.{ReplyKind}
-use Rattle.master_duty.specs.declared.stage.Met.{Met}
-use Rattle.master_hand.specs.Brings.{emergency_kept}
-use Rattle.master_hand.specs.Replied.{reply_kept}
-use Rattle.master_hand.specs.declared.found.Found.{Found}
-use Rattle.master_hand.specs.declared.hand.InHand.{InHand}
-use Rattle.master_side.specs.Free.{is_free_side}
-use Rattle.master_side.specs.declared.hand.Hand.{Ghosts}
-use Rattle.master_side.specs.declared.hand.Heard.{Heard}
-use Rattle.master_side.specs.declared.passing.Passing.{Passing}
-use Rattle.master_tour.specs.declared.stop.Stand.{Stand}
-use Rattle.master_tour.specs.declared.stop.Stop.{Stop}
-use Rattle.master_tour.specs.declared.stop.Turned.{Turned}
-use Rattle.master_hand.specs.Hears.{answer_kept}
+use Rattle.life_runs.specs.of_mailbox_mail.declared.mail.Mail.{Mail}
+use Rattle.life_runs.specs.of_mailbox_mail.declared.outcome.ReplyKind.{ReplyKind}
+use Rattle.life_runs.specs.of_master_duty.declared.stage.Met.{Met}
+use Rattle.life_runs.specs.of_master_hand.Brings.{emergency_kept}
+use Rattle.life_runs.specs.of_master_hand.Replied.{reply_kept}
+use Rattle.life_runs.specs.of_master_hand.declared.found.Found.{Found}
+use Rattle.life_runs.specs.of_master_hand.declared.hand.InHand.{InHand}
+use Rattle.life_runs.specs.of_master_side.Free.{is_free_side}
+use Rattle.life_runs.specs.of_master_side.declared.hand.Hand.{Ghosts}
+use Rattle.life_runs.specs.of_master_side.declared.hand.Heard.{Heard}
+use Rattle.life_runs.specs.of_master_side.declared.passing.Passing.{Passing}
+use Rattle.life_runs.specs.of_master_tour.declared.stop.Stand.{Stand}
+use Rattle.life_runs.specs.of_master_tour.declared.stop.Stop.{Stop}
+use Rattle.life_runs.specs.of_master_tour.declared.stop.Turned.{Turned}
+use Rattle.life_runs.specs.of_master_hand.Hears.{answer_kept}
 use Rattle.master_node.specs.Besides.{Does, answered_does, back_does, by_stop, emergency_told, handed_where, heard_does, mail_does, met_at, met_where, over_does, passed_where, reply_told, stays, turned_where}
 use Rattle.master_node.specs.Gateways.{is_gateway}
 use Rattle.master_node.specs.Handed.{work_at}

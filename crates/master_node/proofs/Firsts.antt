@@ -2,40 +2,40 @@
 use Rattle.std.proofs.Common.{◌≡◌, ◌≤◌, ℕ, zero, suc, ◌+◌, ◌<◌, ◌-◌, ◌%◌, Bool, true, false, List, [], ◌∷◌, ◌++◌, refl, sym, ap, ◌∙◌, subst, arith, length}
 use Rattle.std.specs.Prelude.{map, None, nat_lt, ◌==◌, ◌||◌, ◌&&◌}
 use Rattle.std.proofs.lemmas.Bool.{eqb-true}
-use Rattle.segment_plan.specs.Sound.{is_start}
-use Rattle.al_state.specs.declared.bringing.BringStep.{BringStep}
-use Rattle.al_state.specs.declared.bringing.BringUp.{BringUp}
+use Rattle.life_runs.specs.of_segment_plan.Sound.{is_start}
+use Rattle.life_runs.specs.of_al_state.declared.bringing.BringStep.{BringStep}
+use Rattle.life_runs.specs.of_al_state.declared.bringing.BringUp.{BringUp}
 use Rattle.life_runs.specs.of_frame_view.View.{Lens}
 use Rattle.life_runs.specs.of_frame_view.Openings.{has_step, opening_of}
 use Rattle.life_runs.specs.of_frame_view.Shares.{AllFrom, AllBoth, AllThree}
-use Rattle.master_tour.specs.of_life_model.Lives
-use Rattle.master_tour.specs.of_life_model.Lives.{new_life}
+use Rattle.life_runs.specs.of_life_model.Lives
+use Rattle.life_runs.specs.of_life_model.Lives.{new_life}
 use Rattle.life_runs.specs.First.{spot_of, script_for, leads_from, HaveLens}
-use Rattle.mailbox_master.specs.Any.{in_area_len}
-use Rattle.master_duty.specs.Reply.{Reply}
-use Rattle.master_duty.specs.of_exchange_model.Exchange.{Speech}
-use Rattle.master_hand.specs.Shown.{Shows, knows}
-use Rattle.master_hand.specs.Spoken.{Asked, hand_speech}
-use Rattle.master_hand.specs.Talk.{Talking}
-use Rattle.master_hand.specs.declared.clients.Which.{Which}
-use Rattle.master_hand.specs.declared.course.Course.{Course}
-use Rattle.master_hand.specs.declared.hand.InHand.{InHand}
-use Rattle.master_side.specs.Shown.{SideShows, new_side}
-use Rattle.master_side.specs.declared.hand.Hand.{Ghosts}
-use Rattle.master_side.specs.of_link_mails.Body.{Body}
-use Rattle.master_tour.specs.Made.{IsSized}
-use Rattle.master_tour.specs.Stands.{StandShows, EraShows, OpeningShows, is_still}
-use Rattle.master_tour.specs.declared.stop.Stand.{Stand}
-use Rattle.master_tour.specs.declared.stop.Stop.{Stop}
-use Rattle.segment_plan.specs.declared.plan.Scenario.{Scenario}
-use Rattle.segment_plan.specs.declared.slave.SlaveSpec.{SlaveSpec}
-use Rattle.master_duty.specs.of_state_model.Accounts.{new_account}
+use Rattle.life_runs.specs.of_mailbox_master.Any.{in_area_len}
+use Rattle.life_runs.specs.of_master_duty.Reply.{Reply}
+use Rattle.life_runs.specs.of_exchange_model.Exchange.{Speech}
+use Rattle.life_runs.specs.of_master_hand.Shown.{Shows, knows}
+use Rattle.life_runs.specs.of_master_hand.Spoken.{Asked, hand_speech}
+use Rattle.life_runs.specs.of_master_hand.Talk.{Talking}
+use Rattle.life_runs.specs.of_master_hand.declared.clients.Which.{Which}
+use Rattle.life_runs.specs.of_master_hand.declared.course.Course.{Course}
+use Rattle.life_runs.specs.of_master_hand.declared.hand.InHand.{InHand}
+use Rattle.life_runs.specs.of_master_side.Shown.{SideShows, new_side}
+use Rattle.life_runs.specs.of_master_side.declared.hand.Hand.{Ghosts}
+use Rattle.life_runs.specs.of_link_mails.Body.{Body}
+use Rattle.life_runs.specs.of_master_tour.Made.{IsSized}
+use Rattle.life_runs.specs.of_master_tour.Stands.{StandShows, EraShows, OpeningShows, is_still}
+use Rattle.life_runs.specs.of_master_tour.declared.stop.Stand.{Stand}
+use Rattle.life_runs.specs.of_master_tour.declared.stop.Stop.{Stop}
+use Rattle.life_runs.specs.of_segment_plan.declared.plan.Scenario.{Scenario}
+use Rattle.life_runs.specs.of_segment_plan.declared.slave.SlaveSpec.{SlaveSpec}
+use Rattle.life_runs.specs.of_state_model.Accounts.{new_account}
 use Rattle.master_node.specs.Shows.{side_shows, IsLead, is_opening_lead}
 use Rattle.master_node.specs.Eager.{recall_of}
 use Rattle.master_node.specs.First.{IsNewSide, IsFirst}
 use Rattle.master_node.specs.Recalled.{AllKnow}
 use Rattle.master_node.specs.Joined.{IsUnfinished, stand_before}
-use Rattle.master_tour.specs.Goes.{holds_at}
+use Rattle.life_runs.specs.of_master_tour.Goes.{holds_at}
 
 module _ {G : Ghosts InHand} (plan : Scenario) (place : ℕ) (spec : SlaveSpec) (s : Stop InHand G) (up : BringUp) (n : IsNewSide plan.services place spec s.side) (st : s.stand ≡ Stand.Opening up)
     (u : up ≡ record { adp = (65536 - place) % 65536; station = spec.station; out_len = spec.out_len; in_len = spec.in_len; start = spec.start; again = false; step = BringStep.Address }) (small : nat_lt spec.start 16 ≡ true) where

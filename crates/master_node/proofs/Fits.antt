@@ -2,17 +2,17 @@
 use Rattle.std.proofs.Common.{◌≡◌, ◌≤◌, ◌<◌, ◌+◌, ℕ, zero, suc, Bool, true, false, List, [], ◌∷◌, ◌++◌, length, drop, refl, sym, ap, ◌∙◌, subst, arith}
 use Rattle.std.specs.Prelude.{IfSome, slice_get}
 use Rattle.std.proofs.lemmas.Bool.{eq-eqb}
-use Rattle.mailbox_master.specs.Any.{in_half_of}
-use Rattle.master_hand.specs.declared.hand.InHand.{InHand}
-use Rattle.master_side.specs.Again.{HasNoRoom, IsOnWay, Repeats}
-use Rattle.master_side.specs.Carried.{choice_of, is_read}
-use Rattle.master_side.specs.Sent.{gram_len}
-use Rattle.master_side.specs.declared.hand.Hand.{Ghosts}
-use Rattle.master_tour.specs.Made.{is_in}
-use Rattle.master_tour.specs.Rooms.{LosesAgain, Looks, StandOnWay, StandRepeats, StopOnWay, StopRepeats, Visits, stand_len, stop_len}
-use Rattle.master_tour.specs.Walks.{StepsAt, EachPair}
-use Rattle.master_tour.specs.declared.stop.Stand.{Stand}
-use Rattle.master_tour.specs.declared.stop.Stop.{Stop}
+use Rattle.life_runs.specs.of_mailbox_master.Any.{in_half_of}
+use Rattle.life_runs.specs.of_master_hand.declared.hand.InHand.{InHand}
+use Rattle.life_runs.specs.of_master_side.Again.{HasNoRoom, IsOnWay, Repeats}
+use Rattle.life_runs.specs.of_master_side.Carried.{choice_of, is_read}
+use Rattle.life_runs.specs.of_master_side.Sent.{gram_len}
+use Rattle.life_runs.specs.of_master_side.declared.hand.Hand.{Ghosts}
+use Rattle.life_runs.specs.of_master_tour.Made.{is_in}
+use Rattle.life_runs.specs.of_master_tour.Rooms.{LosesAgain, Looks, StandOnWay, StandRepeats, StopOnWay, StopRepeats, Visits, stand_len, stop_len}
+use Rattle.life_runs.specs.of_master_tour.Walks.{StepsAt, EachPair}
+use Rattle.life_runs.specs.of_master_tour.declared.stop.Stand.{Stand}
+use Rattle.life_runs.specs.of_master_tour.declared.stop.Stop.{Stop}
 use Rattle.master_node.specs.Kept.{StopStays}
 use Rattle.master_node.specs.Rooms.{FitAgain, FitFrom, FitUnder, HoldsAt, IsSentStop, SendsSame, Takes, len_in}
 use Rattle.master_node.proofs.Lefts.{true_false, in_here, in_there, not_in}

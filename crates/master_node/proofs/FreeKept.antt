@@ -1,12 +1,12 @@
 -- A SIDE IS AS FREE AS IT WAS where the same is in hand.
 use Rattle.std.proofs.Common.{◌≡◌, ℕ}
 use Rattle.std.specs.Prelude.{◌&&◌, is_none}
-use Rattle.master_hand.specs.Over.{done_by, over_by}
-use Rattle.master_hand.specs.contracts.hand.InHandHand.TheImpl as Impl
-use Rattle.master_hand.specs.declared.hand.InHand.{InHand}
-use Rattle.master_side.specs.Carried.{in_hand}
-use Rattle.master_side.specs.Free.{is_free_side}
-use Rattle.master_tour.specs.declared.stop.Stop.{Stop}
+use Rattle.life_runs.specs.of_master_hand.Over.{done_by, over_by}
+use Rattle.life_runs.specs.of_master_hand.contracts.hand.InHandHand.TheImpl as Impl
+use Rattle.life_runs.specs.of_master_hand.declared.hand.InHand.{InHand}
+use Rattle.life_runs.specs.of_master_side.Carried.{in_hand}
+use Rattle.life_runs.specs.of_master_side.Free.{is_free_side}
+use Rattle.life_runs.specs.of_master_tour.declared.stop.Stop.{Stop}
 use Rattle.master_node.specs.Kept.{StopKept}
 
 pub free_kept : (n : ℕ) (s t : Stop InHand Impl.ghosts) → StopKept n s t → is_free_side t.side ≡ is_free_side s.side

@@ -1,30 +1,30 @@
 -- A SIDE WHOSE NEWEST SERVICE IS A PACKET is free just where that is over and its hand knows its mails.
 use Rattle.std.proofs.Common.{◌≡◌, Bool, true, false, Option, Some, None, List, [], ◌∷◌, refl, sym, ap, ◌∙◌}
 use Rattle.std.specs.Prelude.{◌&&◌, not, is_none, is_some, option_map, if◌then◌else◌}
-use Rattle.mailbox_mail.specs.declared.mail.Mail.{Mail}
-use Rattle.master_duty.specs.Reply.{Reply}
-use Rattle.master_duty.specs.of_exchange_model.Exchange.{Speech}
-use Rattle.master_duty.specs.of_exchange_model.Rows.{Row}
-use Rattle.master_duty.specs.of_segment_model.Seats as Seats
-use Rattle.master_duty.specs.of_segment_model.Seats.{is_none_left}
-use Rattle.master_duty.specs.of_state_model.Accounts.{Account, is_free}
-use Rattle.master_hand.proofs.Hands.{goes_is, sent_free}
-use Rattle.master_hand.proofs.Knowing.{goes_over}
-use Rattle.master_hand.specs.Over.{done_by, is_sent_by, over_by}
-use Rattle.master_hand.specs.Shown.{Shows, knows}
-use Rattle.master_hand.specs.Spoken.{Asked, net}
-use Rattle.master_hand.specs.Talk.{Talking, client_awaits, client_later, is_handed, is_read, which_of}
-use Rattle.master_hand.specs.contracts.hand.InHandHand.TheImpl as Impl
-use Rattle.master_hand.specs.declared.clients.Which.{Which}
-use Rattle.master_hand.specs.declared.course.Course.{Course}
-use Rattle.master_hand.specs.declared.hand.InHand.{InHand}
-use Rattle.master_hand.specs.of_protocol_models.EoeClient as EoeClient
-use Rattle.master_side.specs.Carried.{in_hand}
-use Rattle.master_side.specs.Free.{is_free_side}
-use Rattle.master_side.specs.Shown.{SideShows}
-use Rattle.master_side.specs.declared.side.Side.{Side}
-use Rattle.master_side.specs.of_link_mails.Body.{Body, link_mail}
-use Rattle.mailbox_master.specs.of_link_model.Link.{Halves}
+use Rattle.life_runs.specs.of_mailbox_mail.declared.mail.Mail.{Mail}
+use Rattle.life_runs.specs.of_master_duty.Reply.{Reply}
+use Rattle.life_runs.specs.of_exchange_model.Exchange.{Speech}
+use Rattle.life_runs.specs.of_exchange_model.Rows.{Row}
+use Rattle.life_runs.specs.of_segment_model.Seats as Seats
+use Rattle.life_runs.specs.of_segment_model.Seats.{is_none_left}
+use Rattle.life_runs.specs.of_state_model.Accounts.{Account, is_free}
+use Rattle.life_runs.proofs.of_master_hand.Hands.{goes_is, sent_free}
+use Rattle.life_runs.proofs.of_master_hand.Knowing.{goes_over}
+use Rattle.life_runs.specs.of_master_hand.Over.{done_by, is_sent_by, over_by}
+use Rattle.life_runs.specs.of_master_hand.Shown.{Shows, knows}
+use Rattle.life_runs.specs.of_master_hand.Spoken.{Asked, net}
+use Rattle.life_runs.specs.of_master_hand.Talk.{Talking, client_awaits, client_later, is_handed, is_read, which_of}
+use Rattle.life_runs.specs.of_master_hand.contracts.hand.InHandHand.TheImpl as Impl
+use Rattle.life_runs.specs.of_master_hand.declared.clients.Which.{Which}
+use Rattle.life_runs.specs.of_master_hand.declared.course.Course.{Course}
+use Rattle.life_runs.specs.of_master_hand.declared.hand.InHand.{InHand}
+use Rattle.life_runs.specs.of_protocol_models.EoeClient as EoeClient
+use Rattle.life_runs.specs.of_master_side.Carried.{in_hand}
+use Rattle.life_runs.specs.of_master_side.Free.{is_free_side}
+use Rattle.life_runs.specs.of_master_side.Shown.{SideShows}
+use Rattle.life_runs.specs.of_master_side.declared.side.Side.{Side}
+use Rattle.life_runs.specs.of_link_mails.Body.{Body, link_mail}
+use Rattle.life_runs.specs.of_link_model.Link.{Halves}
 use Rattle.master_node.specs.Begins.{is_other}
 use Rattle.master_node.proofs.Frees.{no_hand}
 

@@ -3,28 +3,28 @@ use Rattle.std.proofs.Common.{◌≡◌, ℕ, Bool, true, false, Option, Some, N
 use Rattle.std.specs.Prelude.{◌&&◌}
 use Rattle.life_runs.specs.of_frame_view.View.{Lens}
 use Rattle.life_runs.specs.Led.{speech_at}
-use Rattle.mailbox_master.specs.of_link_model.Mails.{LinkMail}
-use Rattle.master_duty.specs.Reply.{Reply}
-use Rattle.master_duty.specs.of_exchange_model.Exchange.{Speech}
-use Rattle.master_duty.specs.of_exchange_model.Rows.{Row, left}
-use Rattle.master_duty.specs.of_segment_model.Ends as Ends
-use Rattle.master_duty.specs.of_segment_model.Seats
-use Rattle.master_duty.specs.of_segment_model.Seats.{Choice, first_left, is_none_left, next_mail, side_holds, side_next}
-use Rattle.master_duty.specs.declared.duty.Duty.{Duty}
-use Rattle.master_duty.specs.of_state_model.Accounts
-use Rattle.master_duty.specs.of_state_model.Accounts.{Account, Pick, account_begins, is_acknowledged, is_free, mails_begin}
-use Rattle.master_hand.specs.Shown.{knows}
-use Rattle.master_hand.specs.Spoken.{Asked, acknowledged}
-use Rattle.master_hand.specs.declared.hand.InHand.{InHand}
-use Rattle.master_side.specs.Carried.{in_hand}
-use Rattle.master_side.specs.Shown.{DutyShows}
-use Rattle.master_side.specs.declared.hand.Hand.{Ghosts}
-use Rattle.master_side.specs.of_link_mails.Body.{Body}
-use Rattle.master_tour.specs.Stands.{StandShows, StopShows}
-use Rattle.master_tour.specs.declared.stop.Stand.{Stand}
-use Rattle.master_tour.specs.declared.stop.Stop.{Stop}
-use Rattle.master_tour.specs.of_life_model.Lives
-use Rattle.master_tour.specs.of_life_model.Lives.{Life, Spot, granted, life_next}
+use Rattle.life_runs.specs.of_link_model.Mails.{LinkMail}
+use Rattle.life_runs.specs.of_master_duty.Reply.{Reply}
+use Rattle.life_runs.specs.of_exchange_model.Exchange.{Speech}
+use Rattle.life_runs.specs.of_exchange_model.Rows.{Row, left}
+use Rattle.life_runs.specs.of_segment_model.Ends as Ends
+use Rattle.life_runs.specs.of_segment_model.Seats
+use Rattle.life_runs.specs.of_segment_model.Seats.{Choice, first_left, is_none_left, next_mail, side_holds, side_next}
+use Rattle.life_runs.specs.of_master_duty.declared.duty.Duty.{Duty}
+use Rattle.life_runs.specs.of_state_model.Accounts
+use Rattle.life_runs.specs.of_state_model.Accounts.{Account, Pick, account_begins, is_acknowledged, is_free, mails_begin}
+use Rattle.life_runs.specs.of_master_hand.Shown.{knows}
+use Rattle.life_runs.specs.of_master_hand.Spoken.{Asked, acknowledged}
+use Rattle.life_runs.specs.of_master_hand.declared.hand.InHand.{InHand}
+use Rattle.life_runs.specs.of_master_side.Carried.{in_hand}
+use Rattle.life_runs.specs.of_master_side.Shown.{DutyShows}
+use Rattle.life_runs.specs.of_master_side.declared.hand.Hand.{Ghosts}
+use Rattle.life_runs.specs.of_link_mails.Body.{Body}
+use Rattle.life_runs.specs.of_master_tour.Stands.{StandShows, StopShows}
+use Rattle.life_runs.specs.of_master_tour.declared.stop.Stand.{Stand}
+use Rattle.life_runs.specs.of_master_tour.declared.stop.Stop.{Stop}
+use Rattle.life_runs.specs.of_life_model.Lives
+use Rattle.life_runs.specs.of_life_model.Lives.{Life, Spot, granted, life_next}
 use Rattle.master_node.specs.Shows.{side_shows}
 use Rattle.master_node.specs.Starts.{SideFrees}
 

@@ -6,28 +6,28 @@ use Rattle.life_runs.specs.of_frame_view.Seen.{seen}
 use Rattle.life_runs.specs.of_frame_view.View.{Lens}
 use Rattle.life_runs.specs.of_frame_view.Shares.{AllThree}
 use Rattle.life_runs.specs.of_segment_ring.declared.wire.Fate.TheVariants.{Pass}
-use Rattle.mailbox_mail.specs.declared.mail.Mail.{Mail}
-use Rattle.master_duty.specs.Reply.{Reply}
-use Rattle.master_duty.specs.of_segment_model.Ends as Ends
-use Rattle.master_hand.specs.Passed.{body_of}
-use Rattle.master_hand.specs.Brings.{as_list}
-use Rattle.master_hand.specs.Replied.{Replies, replies_of, reply_kept}
-use Rattle.master_hand.specs.Shown.{awaits_reply}
-use Rattle.master_hand.proofs.Replies.{replies_are}
-use Rattle.master_hand.specs.Spoken.{Asked}
-use Rattle.master_hand.specs.declared.found.Found.{Found}
-use Rattle.master_hand.specs.declared.hand.InHand.{InHand}
-use Rattle.master_side.specs.Heard.{Brought}
-use Rattle.master_side.specs.declared.hand.Hand.{Ghosts}
-use Rattle.master_side.specs.declared.hand.Heard.{Heard}
-use Rattle.master_side.specs.declared.passing.Passing.{Passing}
-use Rattle.master_side.specs.of_link_mails.Body.{Body}
-use Rattle.master_tour.specs.Brings.{accepted_in}
-use Rattle.master_tour.specs.Passing.{StandPassing}
-use Rattle.master_tour.specs.Walks.{EachPair}
-use Rattle.master_tour.specs.declared.stop.Stand.{Stand}
-use Rattle.master_tour.specs.of_life_model.Lives.{Life}
-use Rattle.master_tour.specs.declared.stop.Stop.{Stop}
+use Rattle.life_runs.specs.of_mailbox_mail.declared.mail.Mail.{Mail}
+use Rattle.life_runs.specs.of_master_duty.Reply.{Reply}
+use Rattle.life_runs.specs.of_segment_model.Ends as Ends
+use Rattle.life_runs.specs.of_master_hand.Passed.{body_of}
+use Rattle.life_runs.specs.of_master_hand.Brings.{as_list}
+use Rattle.life_runs.specs.of_master_hand.Replied.{Replies, replies_of, reply_kept}
+use Rattle.life_runs.specs.of_master_hand.Shown.{awaits_reply}
+use Rattle.life_runs.proofs.of_master_hand.Replies.{replies_are}
+use Rattle.life_runs.specs.of_master_hand.Spoken.{Asked}
+use Rattle.life_runs.specs.of_master_hand.declared.found.Found.{Found}
+use Rattle.life_runs.specs.of_master_hand.declared.hand.InHand.{InHand}
+use Rattle.life_runs.specs.of_master_side.Heard.{Brought}
+use Rattle.life_runs.specs.of_master_side.declared.hand.Hand.{Ghosts}
+use Rattle.life_runs.specs.of_master_side.declared.hand.Heard.{Heard}
+use Rattle.life_runs.specs.of_master_side.declared.passing.Passing.{Passing}
+use Rattle.life_runs.specs.of_link_mails.Body.{Body}
+use Rattle.life_runs.specs.of_master_tour.Brings.{accepted_in}
+use Rattle.life_runs.specs.of_master_tour.Passing.{StandPassing}
+use Rattle.life_runs.specs.of_master_tour.Walks.{EachPair}
+use Rattle.life_runs.specs.of_master_tour.declared.stop.Stand.{Stand}
+use Rattle.life_runs.specs.of_life_model.Lives.{Life}
+use Rattle.life_runs.specs.of_master_tour.declared.stop.Stop.{Stop}
 use Rattle.life_runs.specs.Served.{Serves, ServedTurn, served_behind}
 use Rattle.life_runs.specs.Told.{Passed, replies_in}
 use Rattle.master_node.specs.Besides.{by_stop, reply_told}

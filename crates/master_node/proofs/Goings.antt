@@ -6,15 +6,15 @@ use Rattle.life_runs.specs.of_frame_view.View.{Lens}
 use Rattle.life_runs.specs.of_frame_view.Seen.{seen}
 use Rattle.life_runs.specs.of_frame_view.Frames.{Share}
 use Rattle.life_runs.specs.of_frame_view.Shares.{Lived, came_at, given_where}
-use Rattle.master_tour.specs.of_life_model.Lives
-use Rattle.master_tour.specs.of_life_model.Lives.{Life, Spot, life_back, life_lost}
+use Rattle.life_runs.specs.of_life_model.Lives
+use Rattle.life_runs.specs.of_life_model.Lives.{Life, Spot, life_back, life_lost}
 use Rattle.life_runs.specs.Led.{Turn, Exchanged, speech_at, life_behind, led_behind}
-use Rattle.master_side.specs.of_link_mails.Body.{Body}
-use Rattle.master_duty.specs.Reply.{Reply}
-use Rattle.master_hand.specs.Spoken.{Asked, acknowledged, is_followed, is_passed}
-use Rattle.master_tour.specs.Goes.{holds_at, opened_behind}
-use Rattle.master_tour.specs.Stands.{is_opening}
-use Rattle.master_duty.specs.of_segment_model.Slaves.{Datagram}
+use Rattle.life_runs.specs.of_link_mails.Body.{Body}
+use Rattle.life_runs.specs.of_master_duty.Reply.{Reply}
+use Rattle.life_runs.specs.of_master_hand.Spoken.{Asked, acknowledged, is_followed, is_passed}
+use Rattle.life_runs.specs.of_master_tour.Goes.{holds_at, opened_behind}
+use Rattle.life_runs.specs.of_master_tour.Stands.{is_opening}
+use Rattle.life_runs.specs.of_segment_model.Slaves.{Datagram}
 use Rattle.life_runs.specs.of_segment_ring.declared.wire.Fate.{Fate}
 use Rattle.life_runs.specs.of_segment_ring.declared.wire.Fate.TheVariants.{Pass, Lost}
 use Rattle.master_node.specs.Shows.{is_led, is_live_lead, is_opening_lead, is_live_turn, is_opening_turn, is_carried, HoldsFirst, ComeAgain, GoesUnder}

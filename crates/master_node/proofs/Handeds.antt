@@ -3,23 +3,23 @@ use Rattle.std.proofs.Common.{◌≡◌, ◌==◌, ℕ, suc, Bool, true, false, 
 use Rattle.std.specs.Prelude.{◌&&◌, is_some, nat_lt, map, if◌then◌else◌}
 use Rattle.std.proofs.lemmas.Bool.Decides.{nat_tests}
 use Rattle.life_runs.specs.of_frame_view.Shares.{given_where}
-use Rattle.master_duty.specs.Reply.{Reply}
-use Rattle.master_duty.specs.of_exchange_model.Exchange.{Speech}
-use Rattle.master_duty.specs.of_segment_model.Ends as Ends
-use Rattle.master_duty.specs.of_segment_model.Record.{Kept, News}
-use Rattle.master_duty.specs.of_segment_model.Slaves.{Datagram, Found}
-use Rattle.master_duty.specs.of_state_model.Stated.{Service}
-use Rattle.master_duty.specs.of_state_model.Accounts as Accounts
-use Rattle.master_duty.specs.of_state_model.Accounts.{Account, Pick, account_back}
-use Rattle.master_hand.specs.Spoken.{Asked, acknowledged, is_followed, is_passed}
-use Rattle.master_side.specs.Passing.{news_lost}
-use Rattle.master_side.specs.Shown.{started_by}
-use Rattle.master_side.specs.of_link_mails.Body.{Body}
-use Rattle.master_tour.specs.of_life_model.Lives
-use Rattle.master_tour.specs.Stands.{Counts}
-use Rattle.master_tour.specs.of_life_model.Lives.{Life, Spot, granted, life_back, life_lost, life_next, passes}
-use Rattle.master_tour.specs.of_life_model.Own.{own}
-use Rattle.segment_plan.specs.declared.service.Service as Plan
+use Rattle.life_runs.specs.of_master_duty.Reply.{Reply}
+use Rattle.life_runs.specs.of_exchange_model.Exchange.{Speech}
+use Rattle.life_runs.specs.of_segment_model.Ends as Ends
+use Rattle.life_runs.specs.of_segment_model.Record.{Kept, News}
+use Rattle.life_runs.specs.of_segment_model.Slaves.{Datagram, Found}
+use Rattle.life_runs.specs.of_state_model.Stated.{Service}
+use Rattle.life_runs.specs.of_state_model.Accounts as Accounts
+use Rattle.life_runs.specs.of_state_model.Accounts.{Account, Pick, account_back}
+use Rattle.life_runs.specs.of_master_hand.Spoken.{Asked, acknowledged, is_followed, is_passed}
+use Rattle.life_runs.specs.of_master_side.Passing.{news_lost}
+use Rattle.life_runs.specs.of_master_side.Shown.{started_by}
+use Rattle.life_runs.specs.of_link_mails.Body.{Body}
+use Rattle.life_runs.specs.of_life_model.Lives
+use Rattle.life_runs.specs.of_master_tour.Stands.{Counts}
+use Rattle.life_runs.specs.of_life_model.Lives.{Life, Spot, granted, life_back, life_lost, life_next, passes}
+use Rattle.life_runs.specs.of_life_model.Own.{own}
+use Rattle.life_runs.specs.of_segment_plan.declared.service.Service as Plan
 use Rattle.life_runs.specs.Served.{Keyed, ServedComes}
 pub use Rattle.life_runs.proofs.Quiet.{comes_own}
 use Rattle.life_runs.specs.Told.{Passed, told_on}

@@ -2,24 +2,24 @@
 use Rattle.std.proofs.Common.{◌≡◌, ◌⊎◌, inl, inr, ℕ, ◌+◌, length, Bool, true, false, Option, None, Some, List, [], ◌∷◌, refl, sym, ap, ◌∙◌, subst}
 use Rattle.std.specs.Prelude.{is_some, map, nat_lt, slice_get, All, if◌then◌else◌, ⊤}
 use Rattle.std.proofs.lemmas.List.Elements.{All-head}
-use Rattle.master_duty.specs.Reply.{Reply}
-use Rattle.master_duty.specs.of_segment_model.Ends as Ends
-use Rattle.master_duty.specs.of_state_model.Stated.{Service}
-use Rattle.master_hand.specs.Laying.{Waiting, asked_next, ready_by, ready_of}
-use Rattle.master_hand.specs.Spoken.{Asked, is_passed, net, passed}
-use Rattle.master_hand.specs.Talk.{asked_of}
-use Rattle.master_hand.specs.declared.laying.Laid.{Laid}
-use Rattle.master_hand.specs.of_protocol_models.EoeClient as EoeClient
-use Rattle.master_side.specs.Free.{begins_by}
-use Rattle.master_side.specs.Passing.{passing_behind}
-use Rattle.master_side.specs.Shown.{wish_begun, wished}
-use Rattle.master_side.specs.declared.carried.Wish.{Wish}
-use Rattle.master_side.specs.of_link_mails.Body.{Body}
-use Rattle.master_tour.specs.Frees.{stand_begins}
-use Rattle.master_tour.specs.declared.stop.Stand.{Stand}
-use Rattle.master_tour.specs.of_life_model.Lives
-use Rattle.master_tour.specs.of_life_model.Lives.{Life}
-use Rattle.segment_plan.specs.declared.service.Service as Plan
+use Rattle.life_runs.specs.of_master_duty.Reply.{Reply}
+use Rattle.life_runs.specs.of_segment_model.Ends as Ends
+use Rattle.life_runs.specs.of_state_model.Stated.{Service}
+use Rattle.life_runs.specs.of_master_hand.Laying.{Waiting, asked_next, ready_by, ready_of}
+use Rattle.life_runs.specs.of_master_hand.Spoken.{Asked, is_passed, net, passed}
+use Rattle.life_runs.specs.of_master_hand.Talk.{asked_of}
+use Rattle.life_runs.specs.of_master_hand.declared.laying.Laid.{Laid}
+use Rattle.life_runs.specs.of_protocol_models.EoeClient as EoeClient
+use Rattle.life_runs.specs.of_master_side.Free.{begins_by}
+use Rattle.life_runs.specs.of_master_side.Passing.{passing_behind}
+use Rattle.life_runs.specs.of_master_side.Shown.{wish_begun, wished}
+use Rattle.life_runs.specs.of_master_side.declared.carried.Wish.{Wish}
+use Rattle.life_runs.specs.of_link_mails.Body.{Body}
+use Rattle.life_runs.specs.of_master_tour.Frees.{stand_begins}
+use Rattle.life_runs.specs.of_master_tour.declared.stop.Stand.{Stand}
+use Rattle.life_runs.specs.of_life_model.Lives
+use Rattle.life_runs.specs.of_life_model.Lives.{Life}
+use Rattle.life_runs.specs.of_segment_plan.declared.service.Service as Plan
 use Rattle.life_runs.specs.Served.{Keyed, Serves}
 use Rattle.life_runs.specs.Told.{Passed}
 use Rattle.master_node.specs.Begins.{is_other}

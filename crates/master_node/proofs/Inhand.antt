@@ -2,23 +2,23 @@
 use Rattle.std.proofs.Common.{◌≡◌, inr, ℕ, Bool, true, false, Option, Some, None, List, [], ◌∷◌, length, refl, sym, ap, ◌∙◌, subst}
 use Rattle.std.specs.Prelude.{◌&&◌, is_some, nat_lt, option_map, if◌then◌else◌}
 use Rattle.life_runs.specs.of_frame_view.Shares.{given_where}
-use Rattle.life_runs.specs.of_frame_view.of_exchange_model.Areas.{Areas}
-use Rattle.master_duty.specs.Reply.{Reply}
-use Rattle.master_duty.specs.of_exchange_model.Exchange.{Speech}
-use Rattle.master_duty.specs.of_exchange_model.Rows.{Row, begun, row_told}
-use Rattle.master_duty.specs.of_segment_model.Ends as Ends
-use Rattle.master_duty.specs.of_segment_model.Record.{Kept}
-use Rattle.master_duty.specs.of_segment_model.Seats.{Side, next_mail, side_holds, side_next}
-use Rattle.master_duty.specs.of_segment_model.Slaves.{Datagram, grams}
-use Rattle.master_duty.specs.of_state_model.Stated.{Service}
-use Rattle.master_duty.specs.of_state_model.Accounts.{Account, Duty, Pick, account_begins, is_acknowledged, is_free, mails_begin, starts, state_begins}
-use Rattle.master_hand.specs.Spoken.{Asked, acknowledged, hand_speech, is_followed, is_passed}
-use Rattle.master_side.specs.Passing.{news_lost, passing_behind}
-use Rattle.master_side.specs.of_link_mails.Body.{Body}
-use Rattle.master_tour.specs.Stands.{Counts}
-use Rattle.master_tour.specs.of_life_model.Lives
-use Rattle.master_tour.specs.of_life_model.Lives.{Life, Spot, granted, life_lost, life_next, new_life}
-use Rattle.master_tour.specs.of_life_model.Own
+use Rattle.life_runs.specs.of_exchange_model.Areas.{Areas}
+use Rattle.life_runs.specs.of_master_duty.Reply.{Reply}
+use Rattle.life_runs.specs.of_exchange_model.Exchange.{Speech}
+use Rattle.life_runs.specs.of_exchange_model.Rows.{Row, begun, row_told}
+use Rattle.life_runs.specs.of_segment_model.Ends as Ends
+use Rattle.life_runs.specs.of_segment_model.Record.{Kept}
+use Rattle.life_runs.specs.of_segment_model.Seats.{Side, next_mail, side_holds, side_next}
+use Rattle.life_runs.specs.of_segment_model.Slaves.{Datagram, grams}
+use Rattle.life_runs.specs.of_state_model.Stated.{Service}
+use Rattle.life_runs.specs.of_state_model.Accounts.{Account, Duty, Pick, account_begins, is_acknowledged, is_free, mails_begin, starts, state_begins}
+use Rattle.life_runs.specs.of_master_hand.Spoken.{Asked, acknowledged, hand_speech, is_followed, is_passed}
+use Rattle.life_runs.specs.of_master_side.Passing.{news_lost, passing_behind}
+use Rattle.life_runs.specs.of_link_mails.Body.{Body}
+use Rattle.life_runs.specs.of_master_tour.Stands.{Counts}
+use Rattle.life_runs.specs.of_life_model.Lives
+use Rattle.life_runs.specs.of_life_model.Lives.{Life, Spot, granted, life_lost, life_next, new_life}
+use Rattle.life_runs.specs.of_life_model.Own
 use Rattle.master_node.specs.Begins.{is_other}
 use Rattle.master_node.specs.Handed.{HasBegun}
 use Rattle.master_node.specs.Inhand.{AnswerHas, HasInHand, HasPassed, MailsWork, NewestHas, OpenHas, PacketHas, ServiceHas, WorkOf}

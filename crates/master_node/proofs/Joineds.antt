@@ -2,34 +2,34 @@
 use Rattle.std.proofs.Common.{◌≡◌, ◌<◌, ℕ, zero, suc, get_or, Bool, true, false, Option, Some, None, List, [], ◌∷◌, length, refl, sym, ap, ◌∙◌, subst, arith}
 use Rattle.std.specs.Prelude.{◌==◌, ◌&&◌, nat_lt, if◌then◌else◌, map, IfSome, slice_get}
 use Rattle.std.proofs.lemmas.Bool.Decides.{nat_tests}
-use Rattle.eoe.specs.declared.joining.Unfinished.{Unfinished}
-use Rattle.master_duty.specs.of_exchange_model.Exchange.{Speech}
+use Rattle.eoe_switch.specs.of_eoe.declared.joining.Unfinished.{Unfinished}
+use Rattle.life_runs.specs.of_exchange_model.Exchange.{Speech}
 use Rattle.life_runs.specs.of_frame_view.Shares.{AllBoth, AllThree, given_where}
-use Rattle.master_tour.specs.of_life_model.Lives.{Life, Era, Opening, Spot, Stand, shows_clear, last_step, is_shown, clears, opens, steps_on, opening_back, reopens, reopens_at, reopening, opens_state, returns_to_init, era_back, life_back, life_lost}
+use Rattle.life_runs.specs.of_life_model.Lives.{Life, Era, Opening, Spot, Stand, shows_clear, last_step, is_shown, clears, opens, steps_on, opening_back, reopens, reopens_at, reopening, opens_state, returns_to_init, era_back, life_back, life_lost}
 use Rattle.life_runs.specs.Led.{Turn}
 use Rattle.life_runs.specs.Spans.{is_leaving}
-use Rattle.master_side.specs.of_link_mails.Body.{Body}
-use Rattle.mailbox_master.specs.of_link_model.Link.{Halves}
-use Rattle.master_duty.specs.Reply.{Reply}
-use Rattle.master_hand.specs.Joins.{unfinished_behind, Completes}
-use Rattle.master_hand.specs.Spoken.{Asked}
-use Rattle.master_hand.specs.declared.found.Found.{Found}
-use Rattle.master_side.specs.Heard.{Brought, joined_by}
-use Rattle.master_side.specs.declared.hand.Heard.{Heard}
-use Rattle.master_tour.specs.Brings.{accepted_at}
-use Rattle.master_tour.specs.Joins.{join_behind, join_at}
-use Rattle.master_tour.specs.Stands.{turned, is_opening, is_open}
-use Rattle.master_tour.specs.Walks.{EachPair}
-use Rattle.master_tour.specs.declared.stop.Turned.{Turned}
-use Rattle.master_tour.proofs.Backs.{turned_same}
-use Rattle.master_tour.proofs.Openings.{turned_is, lt_self, lt_more}
-use Rattle.master_duty.specs.of_segment_model.Record.{News}
-use Rattle.master_duty.specs.of_segment_model.Slaves as Slaves
-use Rattle.master_duty.specs.of_segment_model.Slaves.{Datagram}
-use Rattle.master_duty.specs.of_state_model.Accounts.{Duty, Stage}
-use Rattle.master_hand.specs.declared.hand.InHand.{InHand}
-use Rattle.master_side.specs.declared.hand.Hand.{Ghosts}
-use Rattle.master_tour.specs.declared.stop.Stop.{Stop}
+use Rattle.life_runs.specs.of_link_mails.Body.{Body}
+use Rattle.life_runs.specs.of_link_model.Link.{Halves}
+use Rattle.life_runs.specs.of_master_duty.Reply.{Reply}
+use Rattle.life_runs.specs.of_master_hand.Joins.{unfinished_behind, Completes}
+use Rattle.life_runs.specs.of_master_hand.Spoken.{Asked}
+use Rattle.life_runs.specs.of_master_hand.declared.found.Found.{Found}
+use Rattle.life_runs.specs.of_master_side.Heard.{Brought, joined_by}
+use Rattle.life_runs.specs.of_master_side.declared.hand.Heard.{Heard}
+use Rattle.life_runs.specs.of_master_tour.Brings.{accepted_at}
+use Rattle.life_runs.specs.of_master_tour.Joins.{join_behind, join_at}
+use Rattle.life_runs.specs.of_master_tour.Stands.{turned, is_opening, is_open}
+use Rattle.life_runs.specs.of_master_tour.Walks.{EachPair}
+use Rattle.life_runs.specs.of_master_tour.declared.stop.Turned.{Turned}
+use Rattle.life_runs.proofs.of_master_tour.Backs.{turned_same}
+use Rattle.life_runs.proofs.of_master_tour.Openings.{turned_is, lt_self, lt_more}
+use Rattle.life_runs.specs.of_segment_model.Record.{News}
+use Rattle.life_runs.specs.of_segment_model.Slaves as Slaves
+use Rattle.life_runs.specs.of_segment_model.Slaves.{Datagram}
+use Rattle.life_runs.specs.of_state_model.Accounts.{Duty, Stage}
+use Rattle.life_runs.specs.of_master_hand.declared.hand.InHand.{InHand}
+use Rattle.life_runs.specs.of_master_side.declared.hand.Hand.{Ghosts}
+use Rattle.life_runs.specs.of_master_tour.declared.stop.Stop.{Stop}
 use Rattle.master_node.specs.Kept.{StopStays}
 use Rattle.master_node.specs.Joined.{IsUnfinished, StopCompleted, mails_back, stand_under, unfinished_after}
 

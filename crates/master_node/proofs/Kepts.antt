@@ -3,20 +3,20 @@ use Rattle.std.proofs.Common.{◌≡◌, ℕ, refl, sym, ap, ◌∙◌, subst}
 use Rattle.std.specs.Prelude.{All}
 use Rattle.life_runs.specs.of_frame_view.View.{Lens}
 use Rattle.life_runs.specs.of_frame_view.Shares.{Lived}
-use Rattle.master_tour.specs.of_life_model.Lives.{Spot}
+use Rattle.life_runs.specs.of_life_model.Lives.{Spot}
 use Rattle.life_runs.specs.Led.{speech_at}
-use Rattle.mailbox_master.specs.Any.{in_area_len}
-use Rattle.master_duty.specs.Reply.{Reply}
-use Rattle.master_hand.specs.Shown.{Shows, SameHand}
-use Rattle.master_hand.specs.Spoken.{Asked}
-use Rattle.master_hand.specs.declared.hand.InHand.{InHand}
-use Rattle.master_side.specs.Shown.{SideShows}
-use Rattle.master_side.specs.declared.hand.Hand.{Ghosts}
-use Rattle.master_side.specs.declared.side.Side.{Side}
-use Rattle.master_tour.specs.Walks.{EachPair}
-use Rattle.master_tour.specs.declared.stop.Stop.{Stop}
-use Rattle.master_tour.proofs.Mades.{lives_on}
-use Rattle.master_tour.proofs.Walks.{each_same}
+use Rattle.life_runs.specs.of_mailbox_master.Any.{in_area_len}
+use Rattle.life_runs.specs.of_master_duty.Reply.{Reply}
+use Rattle.life_runs.specs.of_master_hand.Shown.{Shows, SameHand}
+use Rattle.life_runs.specs.of_master_hand.Spoken.{Asked}
+use Rattle.life_runs.specs.of_master_hand.declared.hand.InHand.{InHand}
+use Rattle.life_runs.specs.of_master_side.Shown.{SideShows}
+use Rattle.life_runs.specs.of_master_side.declared.hand.Hand.{Ghosts}
+use Rattle.life_runs.specs.of_master_side.declared.side.Side.{Side}
+use Rattle.life_runs.specs.of_master_tour.Walks.{EachPair}
+use Rattle.life_runs.specs.of_master_tour.declared.stop.Stop.{Stop}
+use Rattle.life_runs.proofs.of_master_tour.Mades.{lives_on}
+use Rattle.life_runs.proofs.of_master_tour.Walks.{each_same}
 use Rattle.master_node.specs.declared.node.MasterNode.{MasterNode}
 use Rattle.master_node.specs.Shows.{WaitsNone, side_shows, IsLived}
 use Rattle.master_node.specs.Numbered.{StaysNumbered}

@@ -2,20 +2,20 @@
 use Rattle.std.proofs.Common.{◌≡◌, ◌≤◌, ◌-◌, ℕ, zero, suc, Bool, true, false, Option, None, List, [], ◌∷◌, ◌++◌, refl, sym, ap, ◌∙◌, subst, arith, length, length-append, append-nil}
 use Rattle.std.specs.Prelude.{cond, filter, map, nat_lt, if◌then◌else◌}
 use Rattle.life_runs.specs.of_frame_view.Shares.{AllFrom, Lived}
-use Rattle.master_tour.specs.of_life_model.Lives.{Spot}
+use Rattle.life_runs.specs.of_life_model.Lives.{Spot}
 use Rattle.life_runs.specs.Led.{Leads}
 use Rattle.life_runs.specs.of_frame_view.View.{Lens}
-use Rattle.mailbox_master.specs.Any.{in_area_len}
-use Rattle.master_duty.specs.Reply.{Reply}
-use Rattle.master_hand.specs.Spoken.{Asked}
-use Rattle.master_hand.specs.declared.hand.InHand.{InHand}
-use Rattle.master_side.specs.Again.{HasNoRoom, area_of, larger}
-use Rattle.master_side.specs.declared.hand.Hand.{Ghosts}
-use Rattle.master_tour.specs.Goes.{is_live, holds_at}
-use Rattle.master_tour.specs.Made.{IsPlanned}
-use Rattle.master_tour.specs.Orders.{is_fixed, places_from, round_left, start_of, visited_of, visits_left}
-use Rattle.master_tour.specs.Toured.{LeavesOut, visit_of, visit_on}
-use Rattle.master_tour.specs.declared.stop.Stop.{Stop}
+use Rattle.life_runs.specs.of_mailbox_master.Any.{in_area_len}
+use Rattle.life_runs.specs.of_master_duty.Reply.{Reply}
+use Rattle.life_runs.specs.of_master_hand.Spoken.{Asked}
+use Rattle.life_runs.specs.of_master_hand.declared.hand.InHand.{InHand}
+use Rattle.life_runs.specs.of_master_side.Again.{HasNoRoom, area_of, larger}
+use Rattle.life_runs.specs.of_master_side.declared.hand.Hand.{Ghosts}
+use Rattle.life_runs.specs.of_master_tour.Goes.{is_live, holds_at}
+use Rattle.life_runs.specs.of_master_tour.Made.{IsPlanned}
+use Rattle.life_runs.specs.of_master_tour.Orders.{is_fixed, places_from, round_left, start_of, visited_of, visits_left}
+use Rattle.life_runs.specs.of_master_tour.Toured.{LeavesOut, visit_of, visit_on}
+use Rattle.life_runs.specs.of_master_tour.declared.stop.Stop.{Stop}
 use Rattle.master_node.specs.Rooms.{FitFrom, FitUnder, IsSentStop, LeavesFull, area_at, area_in}
 use Rattle.master_node.specs.Shows.{lived_of}
 use Rattle.master_node.specs.Toured.{HasVisited, again_of}

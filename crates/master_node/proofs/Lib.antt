@@ -1,3 +1,5 @@
+pub use Rattle.eoe_switch.proofs.of_eoe as of_eoe
+pub use Rattle.life_runs.proofs.of_frame_view as of_frame_view
 pub mod Places
 pub mod Ports
 pub mod Script

@@ -3,27 +3,27 @@ use Rattle.std.proofs.Common.{◌≡◌, ℕ, Bool, true, false, Option, None, S
 use Rattle.std.specs.Prelude.{◌&&◌, is_some, drop, All, slice_get, if◌then◌else◌}
 use Rattle.std.proofs.lemmas.List.Elements.{All-head}
 use Rattle.life_runs.specs.Led.{Comes}
-use Rattle.master_duty.specs.Reply.{Reply}
-use Rattle.master_duty.specs.of_exchange_model.Exchange.{Speech}
-use Rattle.master_duty.specs.of_segment_model.Ends as Ends
-use Rattle.master_duty.specs.of_state_model.Stated.{Service}
-use Rattle.master_duty.specs.of_state_model.Accounts.{Pick, account_next}
-use Rattle.master_hand.specs.Laying.{Waiting, Scripted, ready_of, scripted, scripted_behind}
-use Rattle.master_hand.specs.Spoken.{Asked, acknowledged, is_followed, is_passed, passed}
-use Rattle.master_side.specs.Free.{begins_by}
-use Rattle.master_side.specs.Passing.{PassingShows, passing_behind, passing_seen}
-use Rattle.master_side.specs.Shown.{takes_ready, wish_begun, wished}
-use Rattle.master_side.specs.declared.carried.Wish.{Wish}
-use Rattle.master_side.specs.declared.passing.Passing.{Passing}
-use Rattle.master_side.specs.of_link_mails.Body.{Body}
-use Rattle.master_tour.specs.Frees.{stand_begins}
-use Rattle.master_tour.specs.Passing.{StandPassing}
-use Rattle.master_tour.specs.Stands.{Counts}
-use Rattle.master_tour.specs.declared.stop.Stand.{Stand}
-use Rattle.master_tour.specs.of_life_model.Lives
-use Rattle.master_tour.specs.of_life_model.Lives.{Life, granted, life_next, passing_begins}
-use Rattle.master_tour.proofs.Passings.{next_open}
-use Rattle.segment_plan.specs.declared.service.Service as Plan
+use Rattle.life_runs.specs.of_master_duty.Reply.{Reply}
+use Rattle.life_runs.specs.of_exchange_model.Exchange.{Speech}
+use Rattle.life_runs.specs.of_segment_model.Ends as Ends
+use Rattle.life_runs.specs.of_state_model.Stated.{Service}
+use Rattle.life_runs.specs.of_state_model.Accounts.{Pick, account_next}
+use Rattle.life_runs.specs.of_master_hand.Laying.{Waiting, Scripted, ready_of, scripted, scripted_behind}
+use Rattle.life_runs.specs.of_master_hand.Spoken.{Asked, acknowledged, is_followed, is_passed, passed}
+use Rattle.life_runs.specs.of_master_side.Free.{begins_by}
+use Rattle.life_runs.specs.of_master_side.Passing.{PassingShows, passing_behind, passing_seen}
+use Rattle.life_runs.specs.of_master_side.Shown.{takes_ready, wish_begun, wished}
+use Rattle.life_runs.specs.of_master_side.declared.carried.Wish.{Wish}
+use Rattle.life_runs.specs.of_master_side.declared.passing.Passing.{Passing}
+use Rattle.life_runs.specs.of_link_mails.Body.{Body}
+use Rattle.life_runs.specs.of_master_tour.Frees.{stand_begins}
+use Rattle.life_runs.specs.of_master_tour.Passing.{StandPassing}
+use Rattle.life_runs.specs.of_master_tour.Stands.{Counts}
+use Rattle.life_runs.specs.of_master_tour.declared.stop.Stand.{Stand}
+use Rattle.life_runs.specs.of_life_model.Lives
+use Rattle.life_runs.specs.of_life_model.Lives.{Life, granted, life_next, passing_begins}
+use Rattle.life_runs.proofs.of_master_tour.Passings.{next_open}
+use Rattle.life_runs.specs.of_segment_plan.declared.service.Service as Plan
 use Rattle.life_runs.specs.Served.{Keyed, ServedComes}
 use Rattle.life_runs.specs.Told.{Passed}
 use Rattle.master_node.specs.Coming.{IsLaid, wish_of}

@@ -1,13 +1,13 @@
 -- WHAT WAITS FOR A SLAVE, and the oldest of it that is laid ready.
 use Rattle.std.proofs.Common.{◌≡◌, ◌<◌, ℕ, zero, suc, Option, None, Some, List, [], ◌∷◌, ◌+◌, ◌≤◌, refl, sym, ap, ◌∙◌, subst, length, arith, get_or, set}
 use Rattle.std.specs.Prelude.{map, drop, slice_get}
-use Rattle.master_hand.specs.Laying.{Waiting, ready_by, ready_of}
-use Rattle.master_hand.specs.Passed.{mail_of}
-use Rattle.master_hand.specs.Spoken.{passed}
-use Rattle.master_hand.specs.declared.laying.Laid.{Laid}
-use Rattle.master_side.specs.of_mailbox_mail.declared.mail.Mail.{Mail}
-use Rattle.master_tour.specs.Walks.{StepsAt}
-use Rattle.segment_plan.specs.declared.service.Service.{Service}
+use Rattle.life_runs.specs.of_master_hand.Laying.{Waiting, ready_by, ready_of}
+use Rattle.life_runs.specs.of_master_hand.Passed.{mail_of}
+use Rattle.life_runs.specs.of_master_hand.Spoken.{passed}
+use Rattle.life_runs.specs.of_master_hand.declared.laying.Laid.{Laid}
+use Rattle.life_runs.specs.of_mailbox_mail.declared.mail.Mail.{Mail}
+use Rattle.life_runs.specs.of_master_tour.Walks.{StepsAt}
+use Rattle.life_runs.specs.of_segment_plan.declared.service.Service.{Service}
 use Rattle.life_runs.specs.Served.{Keyed}
 use Rattle.master_node.specs.Coming.{IsComing}
 use Rattle.master_node.specs.Passes.{IsNextState, IsReady, MailWaits, ScriptLast, waits_behind, waits_in}

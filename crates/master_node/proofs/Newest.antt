@@ -2,13 +2,13 @@
 use Rattle.std.proofs.Common.{◌≡◌, ℕ, Bool, true, false, Some, None, Option, List, [], ◌∷◌, ◌++◌, length, refl, sym, ap, ◌∙◌, subst, arith}
 use Rattle.std.specs.Prelude.{◌&&◌, if◌then◌else◌}
 use Rattle.std.proofs.lemmas.List.{length-append}
-use Rattle.master_duty.specs.of_exchange_model.Exchange.{Speech}
-use Rattle.master_duty.specs.of_exchange_model.Rows.{Row, begun}
-use Rattle.master_duty.specs.of_segment_model.Ends as Ends
-use Rattle.master_duty.specs.of_segment_model.Seats.{Side, first_left, is_over, next_mail, side_begins, side_holds, side_next}
-use Rattle.master_duty.specs.of_state_model.Stated.{Service}
-use Rattle.master_duty.specs.of_state_model.Accounts.{Account, Duty, Pick, account_begins, account_next, is_free, mails_begin, mails_choice, starts}
-use Rattle.master_tour.specs.of_life_model.Lives.{Life, Stand, granted, life_next}
+use Rattle.life_runs.specs.of_exchange_model.Exchange.{Speech}
+use Rattle.life_runs.specs.of_exchange_model.Rows.{Row, begun}
+use Rattle.life_runs.specs.of_segment_model.Ends as Ends
+use Rattle.life_runs.specs.of_segment_model.Seats.{Side, first_left, is_over, next_mail, side_begins, side_holds, side_next}
+use Rattle.life_runs.specs.of_state_model.Stated.{Service}
+use Rattle.life_runs.specs.of_state_model.Accounts.{Account, Duty, Pick, account_begins, account_next, is_free, mails_begin, mails_choice, starts}
+use Rattle.life_runs.specs.of_life_model.Lives.{Life, Stand, granted, life_next}
 
 none_first : {M : Type 0} (ms : List M) → first_left ms ≡ [] → ms ≡ []
 none_first [] e = refl

@@ -4,9 +4,9 @@ use Rattle.std.specs.Prelude.{All, map}
 use Rattle.std.proofs.lemmas.List.Elements.{All-head, All-tail}
 use Rattle.life_runs.specs.Led.{Leads}
 use Rattle.life_runs.specs.of_frame_view.Shares.{AllBoth, AllThree}
-use Rattle.master_side.specs.of_mailbox_mail.declared.mail.Mail.{Mail}
-use Rattle.master_tour.specs.Walks.{EachPair, StepsAt}
-use Rattle.master_tour.proofs.Walks.{each_same, steps_set}
+use Rattle.life_runs.specs.of_mailbox_mail.declared.mail.Mail.{Mail}
+use Rattle.life_runs.specs.of_master_tour.Walks.{EachPair, StepsAt}
+use Rattle.life_runs.proofs.of_master_tour.Walks.{each_same, steps_set}
 use Rattle.life_runs.specs.Served.{Keyed, Serves, all_serve, asked_at}
 use Rattle.master_node.specs.Appends.{AppendsMail}
 use Rattle.master_node.specs.Numbered.{IsNumbered, StaysNumbered}

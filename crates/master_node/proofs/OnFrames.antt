@@ -3,12 +3,12 @@ use Rattle.std.proofs.Common.{ℕ, List, [], ◌∷◌, map, sym, ap, ◌∙◌,
 use Rattle.life_runs.specs.of_frame_view.View.{Lens}
 use Rattle.life_runs.specs.of_frame_view.Shares.{AllBoth, AllThree}
 use Rattle.life_runs.specs.Led.{Turn}
-use Rattle.master_hand.specs.Shown.{awaits_reply}
-use Rattle.master_hand.specs.declared.hand.InHand.{InHand}
-use Rattle.master_side.specs.Passing.{passing_seen}
-use Rattle.master_side.specs.declared.hand.Hand.{Ghosts}
-use Rattle.master_tour.specs.Passing.{StandPassing}
-use Rattle.master_tour.specs.declared.stop.Stop.{Stop}
+use Rattle.life_runs.specs.of_master_hand.Shown.{awaits_reply}
+use Rattle.life_runs.specs.of_master_hand.declared.hand.InHand.{InHand}
+use Rattle.life_runs.specs.of_master_side.Passing.{passing_seen}
+use Rattle.life_runs.specs.of_master_side.declared.hand.Hand.{Ghosts}
+use Rattle.life_runs.specs.of_master_tour.Passing.{StandPassing}
+use Rattle.life_runs.specs.of_master_tour.declared.stop.Stop.{Stop}
 use Rattle.life_runs.specs.Served.{ServedTurn}
 use Rattle.master_node.specs.Serving.{IsServedUnder, ServedUnder, run_turn}
 use Rattle.master_node.specs.Shows.{IsOnFrame, IsUnder, IsUnderWay, MasterUnder}

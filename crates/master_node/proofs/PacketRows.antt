@@ -1,19 +1,19 @@
 -- A PACKET THAT IS OVER stays so, whatever is held, heard or lost; and one that came into hand isn't over before its fragments are written.
 use Rattle.std.proofs.Common.{◌≡◌, ◌==◌, ℕ, Bool, true, false, Option, Some, None, List, [], ◌∷◌, length, refl, sym, ap, ◌∙◌, subst}
 use Rattle.std.specs.Prelude.{◌&&◌, not, drop, is_none, is_some, if◌then◌else◌, option_map}
-use Rattle.life_runs.specs.of_frame_view.of_exchange_model.Areas.{Areas}
-use Rattle.mailbox_master.specs.of_link_model.Frames.{Ask, Gram, halves_after, halves_answered, halves_lost, halves_without}
-use Rattle.mailbox_master.specs.of_link_model.Link.{Halves}
-use Rattle.mailbox_master.specs.of_link_model.Mails.{LinkMail}
-use Rattle.master_duty.specs.Reply.{Reply}
-use Rattle.master_duty.specs.of_exchange_model.Exchange.{Speech, plain}
-use Rattle.master_duty.specs.of_exchange_model.Rows.{Row, begun, left, row_told}
-use Rattle.master_duty.specs.of_segment_model.Seats.{Side, is_none_left, next_mail, side_holds}
-use Rattle.master_duty.specs.of_state_model.Accounts.{is_free}
-use Rattle.master_hand.proofs.Firsts.{some_planned}
-use Rattle.master_hand.specs.Spoken.{Asked, emission, drive, ends, file, hand_speech, handed, is_passed, net, passed, planned, sdo}
-use Rattle.master_hand.specs.of_protocol_models.EoeClient as EoeClient
-use Rattle.master_side.specs.of_link_mails.Body.{Body}
+use Rattle.life_runs.specs.of_exchange_model.Areas.{Areas}
+use Rattle.life_runs.specs.of_link_model.Frames.{Ask, Gram, halves_after, halves_answered, halves_lost, halves_without}
+use Rattle.life_runs.specs.of_link_model.Link.{Halves}
+use Rattle.life_runs.specs.of_link_model.Mails.{LinkMail}
+use Rattle.life_runs.specs.of_master_duty.Reply.{Reply}
+use Rattle.life_runs.specs.of_exchange_model.Exchange.{Speech, plain}
+use Rattle.life_runs.specs.of_exchange_model.Rows.{Row, begun, left, row_told}
+use Rattle.life_runs.specs.of_segment_model.Seats.{Side, is_none_left, next_mail, side_holds}
+use Rattle.life_runs.specs.of_state_model.Accounts.{is_free}
+use Rattle.life_runs.proofs.of_master_hand.Firsts.{some_planned}
+use Rattle.life_runs.specs.of_master_hand.Spoken.{Asked, emission, drive, ends, file, hand_speech, handed, is_passed, net, passed, planned, sdo}
+use Rattle.life_runs.specs.of_protocol_models.EoeClient as EoeClient
+use Rattle.life_runs.specs.of_link_mails.Body.{Body}
 use Rattle.master_node.specs.Begins.{is_other}
 use Rattle.master_node.proofs.Newest.{Newest}
 

@@ -2,7 +2,7 @@
 use Rattle.std.proofs.Common.{◌≡◌, ◌<◌, ℕ, zero, suc, List, [], ◌∷◌, Bool, ap, ◌∙◌, arith, length, get_or}
 use Rattle.master_node.specs.declared.post.Post.{Post}
 use Rattle.master_node.specs.Lives.{holds_at, waiting_at}
-use Rattle.master_tour.proofs.Goes.{holds_here}
+use Rattle.life_runs.proofs.of_master_tour.Goes.{holds_here}
 
 pub tested_here : {S : Type 0} (test : S → Bool) (ss : List S) (place : ℕ) (s : S) (r : Bool) → place < length ss → s ≡ get_or ss place s → r ≡ test s → r ≡ holds_at test ss place
 tested_here test ss place s r l e t = t ∙ holds_here test ss place s l e

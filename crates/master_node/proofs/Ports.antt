@@ -1,11 +1,10 @@
 -- Ports that are those of a switch.
 use Rattle.std.proofs.Common.{◌≡◌, ◌≤◌, ◌<◌, ℕ, zero, suc, ◌+◌, List, [], ◌∷◌, ◌++◌, Bool, true, false, Option, Some, None, refl, arith, get_or, length}
-use Rattle.std.specs.Prelude.{◌&&◌, IfSome, nat_lt, nat_le}
+use Rattle.std.specs.Prelude.{◌&&◌, IfSome, nat_lt, nat_le, All}
 use Rattle.std.proofs.lemmas.Grind.{common_steps}
-use Rattle.std.specs.Prelude.{All}
 use Rattle.std.proofs.lemmas.List.Elements.{All-head, All-tail}
 use Rattle.arrayvec.specs.ArrayVec.{ArrayVec}
-use Rattle.segment_plan.specs.Sound.{IsPacket}
+use Rattle.life_runs.specs.of_segment_plan.Sound.{IsPacket}
 use Rattle.master_node.specs.Ported.{is_port, are_ports, are_long}
 
 pub and_both : (a b : Bool) → a ≡ true → b ≡ true → (a && b) ≡ true

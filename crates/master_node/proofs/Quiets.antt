@@ -4,27 +4,27 @@ use Rattle.std.specs.Prelude.{nat_lt, nat_le, All, IfSome, slice_get, option_map
 use Rattle.std.specs.List.{list_any}
 use Rattle.std.proofs.lemmas.Bool.{ltb-true, ltb-false, le-leb, lt-leb}
 use Rattle.std.proofs.lemmas.List.Elements.{All-nil, All-cons, All-head, All-tail}
-use Rattle.master_duty.specs.of_exchange_model.Exchange.{Speech}
-use Rattle.master_duty.specs.of_exchange_model.Rows.{Row}
+use Rattle.life_runs.specs.of_exchange_model.Exchange.{Speech}
+use Rattle.life_runs.specs.of_exchange_model.Rows.{Row}
 use Rattle.life_runs.specs.of_frame_view.View.{Lens}
 use Rattle.life_runs.specs.of_frame_view.Shares.{AllBoth}
-use Rattle.master_tour.specs.of_life_model.Lives
+use Rattle.life_runs.specs.of_life_model.Lives
 use Rattle.life_runs.specs.Led.{Leads, speech_at}
-use Rattle.master_side.specs.of_link_mails.Body.{link_mail}
-use Rattle.master_duty.specs.declared.duty.Duty.{Duty}
-use Rattle.master_hand.specs.Shown.{Shows}
-use Rattle.master_hand.specs.declared.hand.InHand.{InHand}
-use Rattle.master_side.specs.Carried.{in_hand}
-use Rattle.master_side.specs.Shown.{SideShows, DutyShows}
-use Rattle.master_side.specs.declared.hand.Hand.{Ghosts}
-use Rattle.master_tour.specs.Goes.{holds_at}
-use Rattle.master_tour.specs.declared.stop.Stand.{Stand}
-use Rattle.master_tour.specs.declared.stop.Stop.{Stop}
-use Rattle.master_duty.specs.of_segment_model.Laws.{NothingInHand}
-use Rattle.master_duty.specs.of_segment_model.Seats
-use Rattle.master_duty.specs.of_state_model.Accounts
-use Rattle.master_duty.specs.of_state_model.Accounts.{is_free}
-use Rattle.master_tour.specs.Stands.{StandShows}
+use Rattle.life_runs.specs.of_link_mails.Body.{link_mail}
+use Rattle.life_runs.specs.of_master_duty.declared.duty.Duty.{Duty}
+use Rattle.life_runs.specs.of_master_hand.Shown.{Shows}
+use Rattle.life_runs.specs.of_master_hand.declared.hand.InHand.{InHand}
+use Rattle.life_runs.specs.of_master_side.Carried.{in_hand}
+use Rattle.life_runs.specs.of_master_side.Shown.{SideShows, DutyShows}
+use Rattle.life_runs.specs.of_master_side.declared.hand.Hand.{Ghosts}
+use Rattle.life_runs.specs.of_master_tour.Goes.{holds_at}
+use Rattle.life_runs.specs.of_master_tour.declared.stop.Stand.{Stand}
+use Rattle.life_runs.specs.of_master_tour.declared.stop.Stop.{Stop}
+use Rattle.life_runs.specs.of_segment_model.Laws.{NothingInHand}
+use Rattle.life_runs.specs.of_segment_model.Seats
+use Rattle.life_runs.specs.of_state_model.Accounts
+use Rattle.life_runs.specs.of_state_model.Accounts.{is_free}
+use Rattle.life_runs.specs.of_master_tour.Stands.{StandShows}
 use Rattle.master_node.specs.Told.{IsTold}
 use Rattle.master_node.specs.Shows.{IsLead, IsLived, lived_of, side_shows}
 use Rattle.master_node.specs.Wants.{gave_of, gave_more, IsCounted, AllPlaced, IsIdle, IsLeft, AllLeft, IsQuiet, IsQuietBy}

@@ -2,43 +2,43 @@
 use Rattle.std.proofs.Common.{◌≡◌, ◌==◌, ℕ, Bool, true, false, not, Option, Some, None, List, [], ◌∷◌, refl, sym, ap, ◌∙◌, subst}
 use Rattle.std.specs.Prelude.{◌&&◌, ◌||◌, cond, if◌then◌else◌, is_some, map}
 use Rattle.std.proofs.lemmas.Bool.{eq-eqb}
-use Rattle.life_model.specs.Visits.{Visit, mails_visit}
+use Rattle.life_runs.specs.of_life_model.Visits.{Visit, mails_visit}
 use Rattle.life_runs.specs.of_frame_view.View.{Lens, link_counter, register_counter}
 use Rattle.life_runs.specs.of_frame_view.Seen.{seen}
 use Rattle.life_runs.specs.of_frame_view.Shares.{AllBoth, AllThree}
 use Rattle.life_runs.specs.Led.{Turn, speech_at}
-use Rattle.mailbox_master.specs.Any.{in_half_of}
-use Rattle.mailbox_master.specs.of_link_model.Frames.{Ask, in_ask}
-use Rattle.mailbox_master.specs.of_link_model.Link.{Halves}
-use Rattle.mailbox_master.specs.of_link_model.Master.{InState}
-use Rattle.master_duty.specs.Reply.{Reply}
-use Rattle.master_duty.specs.declared.duty.Duty as Duties
-use Rattle.master_duty.specs.of_segment_model.Ends as Ends
-use Rattle.master_duty.specs.of_segment_model.Record.{is_for}
-use Rattle.master_duty.specs.of_segment_model.Returned.{Returns}
-use Rattle.master_duty.specs.of_segment_model.Slaves.{Access, Address, Datagram, Found}
-use Rattle.master_duty.specs.of_state_model.Accounts.{Account, Duty, Stage, account_back, account_by, account_met, access_done, duty_access}
-use Rattle.master_hand.specs.Shown.{knows}
-use Rattle.master_hand.specs.Spoken.{Asked}
-use Rattle.master_hand.specs.declared.hand.InHand.{InHand}
-use Rattle.master_side.specs.Carried.{Asks, IsBack, Meant, in_hand, is_read, one, paused_after, turn_after}
-use Rattle.master_side.specs.Passing.{passing_seen}
-use Rattle.master_side.specs.Recall.{Recall}
-use Rattle.master_side.specs.Shown.{DutyShows}
-use Rattle.master_side.specs.declared.carried.Carried.{Carried}
-use Rattle.master_side.specs.declared.hand.Hand.{Ghosts}
-use Rattle.master_side.specs.declared.passing.Passing.{Passing}
-use Rattle.master_side.specs.of_link_mails.Body.{Body}
-use Rattle.master_tour.specs.Behind.{SameRecall, StopBack, StopLost, VisitBack}
-use Rattle.master_tour.specs.Stands.{StandShows, StandUnder}
-use Rattle.master_tour.specs.Under.{Grams, Under, mine}
-use Rattle.master_tour.specs.Walks.{EachPair}
-use Rattle.master_tour.specs.declared.stop.Stand.{Stand}
-use Rattle.master_tour.specs.declared.stop.Stop.{Stop}
-use Rattle.master_tour.specs.of_life_model.Lives
-use Rattle.master_tour.specs.of_life_model.Own.{own}
-use Rattle.master_tour.proofs.Backs.{seen_aims}
-use Rattle.master_tour.proofs.Unders.{SameAim, under_back}
+use Rattle.life_runs.specs.of_mailbox_master.Any.{in_half_of}
+use Rattle.life_runs.specs.of_link_model.Frames.{Ask, in_ask}
+use Rattle.life_runs.specs.of_link_model.Link.{Halves}
+use Rattle.life_runs.specs.of_link_model.Master.{InState}
+use Rattle.life_runs.specs.of_master_duty.Reply.{Reply}
+use Rattle.life_runs.specs.of_master_duty.declared.duty.Duty as Duties
+use Rattle.life_runs.specs.of_segment_model.Ends as Ends
+use Rattle.life_runs.specs.of_segment_model.Record.{is_for}
+use Rattle.life_runs.specs.of_segment_model.Returned.{Returns}
+use Rattle.life_runs.specs.of_segment_model.Slaves.{Access, Address, Datagram, Found}
+use Rattle.life_runs.specs.of_state_model.Accounts.{Account, Duty, Stage, account_back, account_by, account_met, access_done, duty_access}
+use Rattle.life_runs.specs.of_master_hand.Shown.{knows}
+use Rattle.life_runs.specs.of_master_hand.Spoken.{Asked}
+use Rattle.life_runs.specs.of_master_hand.declared.hand.InHand.{InHand}
+use Rattle.life_runs.specs.of_master_side.Carried.{Asks, IsBack, Meant, in_hand, is_read, one, paused_after, turn_after}
+use Rattle.life_runs.specs.of_master_side.Passing.{passing_seen}
+use Rattle.life_runs.specs.of_master_side.Recall.{Recall}
+use Rattle.life_runs.specs.of_master_side.Shown.{DutyShows}
+use Rattle.life_runs.specs.of_master_side.declared.carried.Carried.{Carried}
+use Rattle.life_runs.specs.of_master_side.declared.hand.Hand.{Ghosts}
+use Rattle.life_runs.specs.of_master_side.declared.passing.Passing.{Passing}
+use Rattle.life_runs.specs.of_link_mails.Body.{Body}
+use Rattle.life_runs.specs.of_master_tour.Behind.{SameRecall, StopBack, StopLost, VisitBack}
+use Rattle.life_runs.specs.of_master_tour.Stands.{StandShows, StandUnder}
+use Rattle.life_runs.specs.of_master_tour.Under.{Grams, Under, mine}
+use Rattle.life_runs.specs.of_master_tour.Walks.{EachPair}
+use Rattle.life_runs.specs.of_master_tour.declared.stop.Stand.{Stand}
+use Rattle.life_runs.specs.of_master_tour.declared.stop.Stop.{Stop}
+use Rattle.life_runs.specs.of_life_model.Lives
+use Rattle.life_runs.specs.of_life_model.Own.{own}
+use Rattle.life_runs.proofs.of_master_tour.Backs.{seen_aims}
+use Rattle.life_runs.proofs.of_master_tour.Unders.{SameAim, under_back}
 use Rattle.master_node.specs.Eager.{AsksVisit, EachSo, IsClear, recall_of, stage_visit}
 use Rattle.master_node.specs.Kept.{StopStays}
 use Rattle.master_node.specs.Recalled.{AllRecall, IsFull, RecallsBack, paused_behind, turn_behind}

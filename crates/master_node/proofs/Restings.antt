@@ -2,28 +2,28 @@
 use Rattle.std.proofs.Common.{◌≡◌, inl, inr, ℕ, zero, suc, ◌+◌, true, false, Option, Some, None, List, [], ◌∷◌, length, get_or, ◌<◌, refl, ap, sym, ◌∙◌, subst, arith}
 use Rattle.std.specs.Prelude.{All, IfSome, slice_get, option_map, is_some, map, ◌⊎◌, ◌&&◌, ◌||◌}
 use Rattle.std.proofs.lemmas.List.Elements.{All-head, All-tail}
-use Rattle.mailbox_mail.specs.declared.mail.Mail.{Mail}
+use Rattle.life_runs.specs.of_mailbox_mail.declared.mail.Mail.{Mail}
 use Rattle.life_runs.specs.of_frame_view.View.{Lens}
 use Rattle.life_runs.specs.of_frame_view.Shares.{AllBoth, AllThree}
 use Rattle.life_runs.specs.Led.{Leads, speech_at}
-use Rattle.mailbox_master.specs.of_link_model.Link.{Halves}
-use Rattle.master_duty.specs.Reply.{Reply}
-use Rattle.master_hand.specs.Shown.{awaits_reply}
-use Rattle.master_hand.specs.Spoken.{Asked}
-use Rattle.master_hand.specs.declared.hand.InHand.{InHand}
-use Rattle.master_side.specs.Carried.{in_hand}
-use Rattle.master_side.specs.Passing.{passing_seen}
-use Rattle.master_side.specs.Recall.{Recall}
-use Rattle.master_side.specs.declared.hand.Hand.{Ghosts}
-use Rattle.master_side.specs.declared.passing.Passing.{Passing}
-use Rattle.master_side.specs.of_link_mails.Body.{Body, link_mail}
-use Rattle.master_tour.specs.Passing.{StandPassing}
-use Rattle.master_tour.specs.Stands.{StandShows}
-use Rattle.master_tour.specs.Walks.{StepsAt}
-use Rattle.master_tour.specs.declared.stop.Stand.{Stand}
-use Rattle.master_tour.specs.declared.stop.Stop.{Stop}
-use Rattle.master_tour.specs.of_life_model.Lives
-use Rattle.master_tour.specs.of_life_model.Lives.{Life, Spot}
+use Rattle.life_runs.specs.of_link_model.Link.{Halves}
+use Rattle.life_runs.specs.of_master_duty.Reply.{Reply}
+use Rattle.life_runs.specs.of_master_hand.Shown.{awaits_reply}
+use Rattle.life_runs.specs.of_master_hand.Spoken.{Asked}
+use Rattle.life_runs.specs.of_master_hand.declared.hand.InHand.{InHand}
+use Rattle.life_runs.specs.of_master_side.Carried.{in_hand}
+use Rattle.life_runs.specs.of_master_side.Passing.{passing_seen}
+use Rattle.life_runs.specs.of_master_side.Recall.{Recall}
+use Rattle.life_runs.specs.of_master_side.declared.hand.Hand.{Ghosts}
+use Rattle.life_runs.specs.of_master_side.declared.passing.Passing.{Passing}
+use Rattle.life_runs.specs.of_link_mails.Body.{Body, link_mail}
+use Rattle.life_runs.specs.of_master_tour.Passing.{StandPassing}
+use Rattle.life_runs.specs.of_master_tour.Stands.{StandShows}
+use Rattle.life_runs.specs.of_master_tour.Walks.{StepsAt}
+use Rattle.life_runs.specs.of_master_tour.declared.stop.Stand.{Stand}
+use Rattle.life_runs.specs.of_master_tour.declared.stop.Stop.{Stop}
+use Rattle.life_runs.specs.of_life_model.Lives
+use Rattle.life_runs.specs.of_life_model.Lives.{Life, Spot}
 use Rattle.life_runs.specs.Served.{Serves}
 use Rattle.master_node.specs.Eager.{recall_of}
 use Rattle.master_node.specs.Resting.{AllRest, IsResting, Rests, StandRests, StopRests}

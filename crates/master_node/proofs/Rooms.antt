@@ -1,15 +1,15 @@
 -- Whether a frame has room for the slaves of its visit.
 use Rattle.std.proofs.Common.{◌≡◌, ◌+◌, ℕ, zero, suc, Bool, true, false, List, [], ◌∷◌, refl, sym, ap, ◌∙◌, subst, arith}
-use Rattle.mailbox_master.specs.Any.{in_area_len}
-use Rattle.master_hand.specs.declared.hand.InHand.{InHand}
-use Rattle.master_side.specs.Again.{HasNoRoom, area_of}
-use Rattle.master_side.specs.Sent.{SameLink}
-use Rattle.master_side.specs.declared.hand.Hand.{Ghosts}
-use Rattle.master_side.proofs.Agains.{area_same}
-use Rattle.master_tour.specs.Goes.{is_live, holds_at}
-use Rattle.master_tour.specs.Rooms.{Looks, Visits}
-use Rattle.master_tour.specs.Walks.{StepsAt}
-use Rattle.master_tour.specs.declared.stop.Stop.{Stop}
+use Rattle.life_runs.specs.of_mailbox_master.Any.{in_area_len}
+use Rattle.life_runs.specs.of_master_hand.declared.hand.InHand.{InHand}
+use Rattle.life_runs.specs.of_master_side.Again.{HasNoRoom, area_of}
+use Rattle.life_runs.specs.of_master_side.Sent.{SameLink}
+use Rattle.life_runs.specs.of_master_side.declared.hand.Hand.{Ghosts}
+use Rattle.life_runs.proofs.of_master_side.Agains.{area_same}
+use Rattle.life_runs.specs.of_master_tour.Goes.{is_live, holds_at}
+use Rattle.life_runs.specs.of_master_tour.Rooms.{Looks, Visits}
+use Rattle.life_runs.specs.of_master_tour.Walks.{StepsAt}
+use Rattle.life_runs.specs.of_master_tour.declared.stop.Stop.{Stop}
 use Rattle.master_node.specs.Rooms.{SendsSame, area_in}
 
 pub sends_same : {G : Ghosts InHand} (s : Stop InHand G) → SendsSame s s

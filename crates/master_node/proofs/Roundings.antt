@@ -4,9 +4,9 @@ use Rattle.std.specs.Prelude.{nat_lt}
 use Rattle.std.specs.List.{list_any}
 use Rattle.std.proofs.lemmas.Bool.{lt-ltb, le-ltb}
 use Rattle.life_runs.specs.Led.{Leads}
-use Rattle.master_tour.specs.Goes.{is_live, holds_at, BeginsLive, Passes}
-use Rattle.master_tour.specs.Made.{is_in}
-use Rattle.master_tour.specs.Orders.{visits_left, AreOnce, IsNextOf, IsCarried}
+use Rattle.life_runs.specs.of_master_tour.Goes.{is_live, holds_at, BeginsLive, Passes}
+use Rattle.life_runs.specs.of_master_tour.Made.{is_in}
+use Rattle.life_runs.specs.of_master_tour.Orders.{visits_left, AreOnce, IsNextOf, IsCarried}
 use Rattle.master_node.specs.Kept.{TourOn}
 use Rattle.master_node.specs.Passes.{BeginsFrame, EndsFrame}
 use Rattle.master_node.specs.Shows.{HoldsFirst, IsAlone, ComeAgain, is_live_lead}

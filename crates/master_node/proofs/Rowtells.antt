@@ -1,23 +1,23 @@
 -- WHAT THE NEWEST SERVICE OF AN OPEN SLAVE TELLS behind a frame that came back, and what its post has in hand of it then.
 use Rattle.std.proofs.Common.{◌≡◌, ◌⊎◌, inl, inr, ℕ, Bool, true, false, Option, Some, None, List, [], ◌++◌, refl, sym, ap, ◌∙◌, subst, append-nil}
 use Rattle.std.specs.Prelude.{◌&&◌, not, is_some, option_map, if◌then◌else◌}
-use Rattle.life_runs.specs.of_frame_view.of_exchange_model.Areas.{Areas}
-use Rattle.mailbox_mail.specs.declared.outcome.ReplyKind.{ReplyKind}
-use Rattle.master_duty.specs.Reply.{Reply}
-use Rattle.master_duty.specs.of_exchange_model.Exchange.{Speech, plain}
-use Rattle.master_duty.specs.of_exchange_model.Rows.{Row, answer_after, row_heard}
-use Rattle.master_hand.specs.Hears.{answer_kept, kind_in}
-use Rattle.master_hand.specs.Shown.{HandShows, Shows, has_reply}
-use Rattle.master_hand.specs.Spoken.{Asked, drive, emission, ends, file, hand_speech, is_passed, net, passed, replied, sdo}
-use Rattle.master_hand.specs.Talk.{Talking, client_awaits}
-use Rattle.master_hand.specs.contracts.hand.InHandHand.TheImpl as Impl
-use Rattle.master_hand.specs.declared.clients.Which.{Which}
-use Rattle.master_hand.specs.declared.course.Course.{Course}
-use Rattle.master_hand.specs.declared.hand.InHand.{InHand}
-use Rattle.master_side.specs.Free.{is_free_side}
-use Rattle.master_side.specs.declared.hand.Heard.{Heard}
-use Rattle.master_side.specs.of_link_mails.Body.{Body}
-use Rattle.master_tour.specs.declared.stop.Stop.{Stop}
+use Rattle.life_runs.specs.of_exchange_model.Areas.{Areas}
+use Rattle.life_runs.specs.of_mailbox_mail.declared.outcome.ReplyKind.{ReplyKind}
+use Rattle.life_runs.specs.of_master_duty.Reply.{Reply}
+use Rattle.life_runs.specs.of_exchange_model.Exchange.{Speech, plain}
+use Rattle.life_runs.specs.of_exchange_model.Rows.{Row, answer_after, row_heard}
+use Rattle.life_runs.specs.of_master_hand.Hears.{answer_kept, kind_in}
+use Rattle.life_runs.specs.of_master_hand.Shown.{HandShows, Shows, has_reply}
+use Rattle.life_runs.specs.of_master_hand.Spoken.{Asked, drive, emission, ends, file, hand_speech, is_passed, net, passed, replied, sdo}
+use Rattle.life_runs.specs.of_master_hand.Talk.{Talking, client_awaits}
+use Rattle.life_runs.specs.of_master_hand.contracts.hand.InHandHand.TheImpl as Impl
+use Rattle.life_runs.specs.of_master_hand.declared.clients.Which.{Which}
+use Rattle.life_runs.specs.of_master_hand.declared.course.Course.{Course}
+use Rattle.life_runs.specs.of_master_hand.declared.hand.InHand.{InHand}
+use Rattle.life_runs.specs.of_master_side.Free.{is_free_side}
+use Rattle.life_runs.specs.of_master_side.declared.hand.Heard.{Heard}
+use Rattle.life_runs.specs.of_link_mails.Body.{Body}
+use Rattle.life_runs.specs.of_master_tour.declared.stop.Stop.{Stop}
 use Rattle.master_node.specs.Backtold.{AnswerHas, NewestHas, PacketHas, ServiceHas, answer_told, has_packet, kind_by, kind_of, over_told, packet_told}
 use Rattle.master_node.specs.Begins.{is_other}
 use Rattle.master_node.specs.Besides.{Does, answered_does, handed_where, mail_does, over_does, stays, then_does}

@@ -2,34 +2,34 @@
 use Rattle.std.proofs.Common.{◌≡◌, ◌<◌, ◌≤◌, ℕ, zero, suc, true, false, Option, Some, None, List, [], ◌∷◌, ◌++◌, length, get_or, refl, ap, sym, ◌∙◌, subst, arith}
 use Rattle.std.specs.Prelude.{IfSome, IfOk, Result, Ok, Err, slice_get, is_some, Bool, if◌then◌else◌}
 use Rattle.std.proofs.lemmas.List.{append-nil}
-use Rattle.master_duty.specs.of_exchange_model.Exchange.{Speech}
-use Rattle.master_duty.specs.of_exchange_model.Rows.{Row}
+use Rattle.life_runs.specs.of_exchange_model.Exchange.{Speech}
+use Rattle.life_runs.specs.of_exchange_model.Rows.{Row}
 use Rattle.life_runs.specs.of_frame_view.View.{Lens}
 use Rattle.life_runs.specs.of_frame_view.Shares.{AllBoth, Lived}
-use Rattle.master_tour.specs.of_life_model.Lives
+use Rattle.life_runs.specs.of_life_model.Lives
 use Rattle.life_runs.specs.Led.{Leads}
-use Rattle.master_side.specs.of_link_mails.Body.{Body}
-use Rattle.mailbox_mail.specs.declared.outcome.ReplyKind.{ReplyKind}
-use Rattle.master_duty.specs.Reply.{Reply}
-use Rattle.master_duty.specs.declared.duty.Duty.{Duty}
-use Rattle.master_hand.specs.of_protocol_models.EoeClient as EoeClient
-use Rattle.master_hand.specs.of_protocol_models.FoeMeaning as FoeMeaning
-use Rattle.master_hand.specs.Grips.{HasIt}
-use Rattle.master_hand.specs.Passed.{at_end, passed_awaits}
-use Rattle.master_hand.specs.declared.passed.PassedMail.{PassedMail}
-use Rattle.master_hand.specs.Shown.{Shows, has_reply}
-use Rattle.master_hand.specs.Spoken.{Asked, sdo, file, drive, net, passed, is_passed, passed_ends}
-use Rattle.master_hand.specs.Talk.{Talking, IsOf, is_mail, which_of, client_awaits, value_of}
-use Rattle.master_hand.specs.declared.clients.Which.{Which}
-use Rattle.master_hand.specs.declared.course.Course.{Course}
-use Rattle.master_hand.specs.declared.hand.InHand.{InHand}
-use Rattle.master_side.specs.Carried.{in_hand}
-use Rattle.master_side.specs.Shown.{DutyShows}
-use Rattle.master_side.specs.declared.hand.Hand.{Ghosts}
-use Rattle.master_tour.specs.Stands.{StandShows}
-use Rattle.master_tour.specs.declared.stop.Stand.{Stand}
-use Rattle.master_tour.specs.declared.stop.Stop.{Stop}
-use Rattle.master_duty.specs.of_state_model.Accounts
+use Rattle.life_runs.specs.of_link_mails.Body.{Body}
+use Rattle.life_runs.specs.of_mailbox_mail.declared.outcome.ReplyKind.{ReplyKind}
+use Rattle.life_runs.specs.of_master_duty.Reply.{Reply}
+use Rattle.life_runs.specs.of_master_duty.declared.duty.Duty.{Duty}
+use Rattle.life_runs.specs.of_protocol_models.EoeClient as EoeClient
+use Rattle.life_runs.specs.of_protocol_models.FoeMeaning as FoeMeaning
+use Rattle.life_runs.specs.of_master_hand.Grips.{HasIt}
+use Rattle.life_runs.specs.of_master_hand.Passed.{at_end, passed_awaits}
+use Rattle.life_runs.specs.of_master_hand.declared.passed.PassedMail.{PassedMail}
+use Rattle.life_runs.specs.of_master_hand.Shown.{Shows, has_reply}
+use Rattle.life_runs.specs.of_master_hand.Spoken.{Asked, sdo, file, drive, net, passed, is_passed, passed_ends}
+use Rattle.life_runs.specs.of_master_hand.Talk.{Talking, IsOf, is_mail, which_of, client_awaits, value_of}
+use Rattle.life_runs.specs.of_master_hand.declared.clients.Which.{Which}
+use Rattle.life_runs.specs.of_master_hand.declared.course.Course.{Course}
+use Rattle.life_runs.specs.of_master_hand.declared.hand.InHand.{InHand}
+use Rattle.life_runs.specs.of_master_side.Carried.{in_hand}
+use Rattle.life_runs.specs.of_master_side.Shown.{DutyShows}
+use Rattle.life_runs.specs.of_master_side.declared.hand.Hand.{Ghosts}
+use Rattle.life_runs.specs.of_master_tour.Stands.{StandShows}
+use Rattle.life_runs.specs.of_master_tour.declared.stop.Stand.{Stand}
+use Rattle.life_runs.specs.of_master_tour.declared.stop.Stop.{Stop}
+use Rattle.life_runs.specs.of_state_model.Accounts
 use Rattle.master_node.specs.Shows.{IsLived, side_shows}
 use Rattle.master_node.specs.Told.{IsTold, Tells, answer_at, value_by, value_in}
 use Rattle.master_node.specs.declared.post.Post.{Post}

@@ -3,8 +3,8 @@ use Rattle.std.proofs.Common.{◌≡◌, ◌<◌, ◌≤◌, ◌+◌, ℕ, suc, 
 use Rattle.std.specs.Prelude.{◌==◌, if◌then◌else◌, All}
 use Rattle.std.proofs.lemmas.List.{take_more}
 use Rattle.std.proofs.lemmas.List.Elements.{All-nil, All-cons, All-head, All-tail}
-use Rattle.segment_plan.specs.declared.service.Service.{Service}
-use Rattle.segment_plan.specs.Sound.{IsService, IsAddressed}
+use Rattle.life_runs.specs.of_segment_plan.declared.service.Service.{Service}
+use Rattle.life_runs.specs.of_segment_plan.Sound.{IsService, IsAddressed}
 use Rattle.master_node.specs.Scripts.{script_for}
 
 -- one row, taken or not, stands behind another

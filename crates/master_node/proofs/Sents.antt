@@ -3,31 +3,31 @@ use Rattle.std.proofs.Common.{◌≡◌, ◌<◌, ◌≤◌, ◌+◌, ℕ, zero,
 use Rattle.std.specs.Prelude.{map, All, not, ◌==◌, ◌||◌}
 use Rattle.std.proofs.lemmas.Bool.{ne_eqb}
 use Rattle.std.specs.List.{list_any}
-use Rattle.datagrams.specs.Datagram as Raw
-use Rattle.datagrams.specs.Frame.{IsFrame, MoreButLast, chained}
+use Rattle.life_runs.specs.of_datagrams.Datagram as Raw
+use Rattle.life_runs.specs.of_datagrams.Frame.{IsFrame, MoreButLast, chained}
 use Rattle.life_runs.specs.of_frame_view.View.{Lens, datagram_seen}
 use Rattle.life_runs.specs.of_frame_view.Seen.{seen, datagrams_seen}
 use Rattle.life_runs.proofs.of_frame_view.Octets.{seen_is, seen_chained}
 use Rattle.life_runs.specs.of_frame_view.Frames.{AreApart}
 use Rattle.life_runs.specs.of_frame_view.Shares.{Lived, AllFrom, AllBoth, AllThree, IsElsewhere, AreDistinct}
-use Rattle.master_tour.specs.of_life_model.Lives
-use Rattle.master_tour.specs.of_life_model.Lives.{Spot}
+use Rattle.life_runs.specs.of_life_model.Lives
+use Rattle.life_runs.specs.of_life_model.Lives.{Spot}
 use Rattle.life_runs.specs.Led.{Leads, Turn, Comes, Took, IsTurn, AllTurn, speech_at}
-use Rattle.master_duty.specs.Reply.{Reply}
-use Rattle.master_hand.specs.Spoken.{Asked, acknowledged, is_followed, is_passed}
-use Rattle.master_hand.specs.declared.hand.InHand.{InHand}
-use Rattle.master_side.specs.Shown.{started_by}
-use Rattle.master_side.specs.declared.hand.Hand.{Ghosts}
-use Rattle.master_tour.specs.Goes.{is_live, holds_at, BeginsLive}
-use Rattle.master_tour.specs.Made.{StopLives, StopSent, is_in}
-use Rattle.master_tour.specs.Stands.{StandShows, StandUnder, is_opening}
-use Rattle.master_tour.specs.Walks.{EachPair}
-use Rattle.master_tour.specs.declared.stop.Stand.{Stand}
-use Rattle.master_tour.specs.declared.stop.Stop.{Stop}
-use Rattle.master_tour.proofs.Unpassed.{unpassed_next}
-use Rattle.mailbox_master.specs.Any.{in_area_len}
-use Rattle.master_duty.specs.of_state_model.Stated.{Service}
-use Rattle.master_duty.specs.of_state_model.Accounts.{Account}
+use Rattle.life_runs.specs.of_master_duty.Reply.{Reply}
+use Rattle.life_runs.specs.of_master_hand.Spoken.{Asked, acknowledged, is_followed, is_passed}
+use Rattle.life_runs.specs.of_master_hand.declared.hand.InHand.{InHand}
+use Rattle.life_runs.specs.of_master_side.Shown.{started_by}
+use Rattle.life_runs.specs.of_master_side.declared.hand.Hand.{Ghosts}
+use Rattle.life_runs.specs.of_master_tour.Goes.{is_live, holds_at, BeginsLive}
+use Rattle.life_runs.specs.of_master_tour.Made.{StopLives, StopSent, is_in}
+use Rattle.life_runs.specs.of_master_tour.Stands.{StandShows, StandUnder, is_opening}
+use Rattle.life_runs.specs.of_master_tour.Walks.{EachPair}
+use Rattle.life_runs.specs.of_master_tour.declared.stop.Stand.{Stand}
+use Rattle.life_runs.specs.of_master_tour.declared.stop.Stop.{Stop}
+use Rattle.life_runs.proofs.of_master_tour.Unpassed.{unpassed_next}
+use Rattle.life_runs.specs.of_mailbox_master.Any.{in_area_len}
+use Rattle.life_runs.specs.of_state_model.Stated.{Service}
+use Rattle.life_runs.specs.of_state_model.Accounts.{Account}
 use Rattle.master_node.specs.Rooms.{FitAgain}
 use Rattle.master_node.specs.Begins.{begun_for, begun_of}
 use Rattle.master_node.specs.Filling.{IsAmong}

@@ -1,22 +1,22 @@
 -- What is unfinished of the packets of a serving's slaves, and which of these it gives up, behind a frame.
 use Rattle.std.proofs.Common.{◌≡◌, ℕ, zero, suc, Bool, List, [], ◌∷◌, refl, sym, ap, ◌∙◌}
 use Rattle.std.specs.Prelude.{map, ◌&&◌, Option, None}
-use Rattle.eoe.specs.declared.joining.Unfinished.{Unfinished}
+use Rattle.eoe_switch.specs.of_eoe.declared.joining.Unfinished.{Unfinished}
 use Rattle.life_runs.specs.of_frame_view.Seen.{seen}
 use Rattle.life_runs.specs.of_frame_view.View.{Lens}
 use Rattle.life_runs.specs.of_frame_view.Shares.{AllBoth, AllThree, came_at, given_where}
 use Rattle.life_runs.specs.of_segment_ring.declared.wire.Fate.TheVariants.{Pass, Lost}
 use Rattle.life_runs.specs.Led.{Exchanged, Turn, speech_at}
-use Rattle.master_hand.specs.Joins.{unfinished_behind}
-use Rattle.master_hand.specs.Spoken.{acknowledged, is_followed, is_passed}
-use Rattle.master_hand.specs.declared.hand.InHand.{InHand}
-use Rattle.master_side.specs.Passing.{news_back, news_lost}
-use Rattle.master_side.specs.declared.hand.Hand.{Ghosts}
-use Rattle.master_side.specs.of_link_mails.Body.{Body}
-use Rattle.master_tour.specs.Goes.{holds_at}
-use Rattle.master_tour.specs.Joins.{join_at}
-use Rattle.master_tour.specs.declared.stop.Stop.{Stop}
-use Rattle.master_tour.specs.of_life_model.Lives.{Stand, life_back, life_lost}
+use Rattle.life_runs.specs.of_master_hand.Joins.{unfinished_behind}
+use Rattle.life_runs.specs.of_master_hand.Spoken.{acknowledged, is_followed, is_passed}
+use Rattle.life_runs.specs.of_master_hand.declared.hand.InHand.{InHand}
+use Rattle.life_runs.specs.of_master_side.Passing.{news_back, news_lost}
+use Rattle.life_runs.specs.of_master_side.declared.hand.Hand.{Ghosts}
+use Rattle.life_runs.specs.of_link_mails.Body.{Body}
+use Rattle.life_runs.specs.of_master_tour.Goes.{holds_at}
+use Rattle.life_runs.specs.of_master_tour.Joins.{join_at}
+use Rattle.life_runs.specs.of_master_tour.declared.stop.Stop.{Stop}
+use Rattle.life_runs.specs.of_life_model.Lives.{Stand, life_back, life_lost}
 use Rattle.life_runs.specs.Served.{ServedTurn, served_behind, served_life}
 use Rattle.master_node.specs.Joined.{stand_under, unfinished_after}
 use Rattle.master_node.specs.Serving.{IsServedUnder, run_turn}

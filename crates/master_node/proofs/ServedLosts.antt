@@ -11,27 +11,27 @@ use Rattle.life_runs.specs.of_frame_view.Seen.{seen}
 use Rattle.life_runs.specs.of_frame_view.Shares.{Lived, AllThree, given_where, lived_lost}
 use Rattle.life_runs.specs.of_segment_ring.declared.wire.Fate.{Fate}
 use Rattle.life_runs.specs.of_segment_ring.declared.wire.Fate.TheVariants.{Lost}
-use Rattle.master_duty.specs.Reply.{Reply}
-use Rattle.master_duty.specs.of_segment_model.Record.{Kept, News}
-use Rattle.master_duty.specs.of_segment_model.Slaves.{Datagram}
-use Rattle.master_duty.specs.of_state_model.Accounts.{duty_access}
-use Rattle.master_hand.specs.Laying.{scripted}
-use Rattle.master_hand.specs.Shown.{awaits_reply, knows}
-use Rattle.master_hand.specs.Spoken.{Asked, acknowledged, is_followed, is_passed}
-use Rattle.master_hand.specs.declared.hand.InHand.{InHand}
-use Rattle.master_side.specs.Passing.{news_lost}
-use Rattle.master_side.specs.declared.hand.Hand.{Ghosts}
-use Rattle.master_side.specs.of_link_mails.Body.{Body}
-use Rattle.master_tour.specs.Counting.{StandCounts, StopCounts}
-use Rattle.master_tour.specs.Goes.{holds_at, is_opened, opened_behind}
-use Rattle.master_tour.specs.Passing.{StandPassing}
-use Rattle.master_tour.specs.Stands.{StandUnder, is_opening}
-use Rattle.master_tour.specs.Under.{Under}
-use Rattle.master_tour.specs.Walks.{EachPair}
-use Rattle.master_tour.specs.declared.stop.Stop.{Stop}
-use Rattle.master_tour.specs.of_life_model.Lives
-use Rattle.master_tour.specs.of_life_model.Lives.{Life, Spot, life_lost}
-use Rattle.master_tour.proofs.Backs.{seen_aims}
+use Rattle.life_runs.specs.of_master_duty.Reply.{Reply}
+use Rattle.life_runs.specs.of_segment_model.Record.{Kept, News}
+use Rattle.life_runs.specs.of_segment_model.Slaves.{Datagram}
+use Rattle.life_runs.specs.of_state_model.Accounts.{duty_access}
+use Rattle.life_runs.specs.of_master_hand.Laying.{scripted}
+use Rattle.life_runs.specs.of_master_hand.Shown.{awaits_reply, knows}
+use Rattle.life_runs.specs.of_master_hand.Spoken.{Asked, acknowledged, is_followed, is_passed}
+use Rattle.life_runs.specs.of_master_hand.declared.hand.InHand.{InHand}
+use Rattle.life_runs.specs.of_master_side.Passing.{news_lost}
+use Rattle.life_runs.specs.of_master_side.declared.hand.Hand.{Ghosts}
+use Rattle.life_runs.specs.of_link_mails.Body.{Body}
+use Rattle.life_runs.specs.of_master_tour.Counting.{StandCounts, StopCounts}
+use Rattle.life_runs.specs.of_master_tour.Goes.{holds_at, is_opened, opened_behind}
+use Rattle.life_runs.specs.of_master_tour.Passing.{StandPassing}
+use Rattle.life_runs.specs.of_master_tour.Stands.{StandUnder, is_opening}
+use Rattle.life_runs.specs.of_master_tour.Under.{Under}
+use Rattle.life_runs.specs.of_master_tour.Walks.{EachPair}
+use Rattle.life_runs.specs.of_master_tour.declared.stop.Stop.{Stop}
+use Rattle.life_runs.specs.of_life_model.Lives
+use Rattle.life_runs.specs.of_life_model.Lives.{Life, Spot, life_lost}
+use Rattle.life_runs.proofs.of_master_tour.Backs.{seen_aims}
 use Rattle.life_runs.specs.Served.{Keyed, ServedTurn, served_behind}
 use Rattle.master_node.specs.Handed.{work_at}
 use Rattle.master_node.specs.Inhand.{HasInHand}

@@ -1,21 +1,21 @@
 -- WHAT MIGHT BEGIN AT A VISIT of a slave of a serving did, or nothing is left that might: one visit goes on so.
 use Rattle.std.proofs.Common.{◌≡◌, ℕ, Bool, false, true, Option, None, Some, List, ◌∷◌, map, refl, sym, ◌∙◌, subst, arith}
 use Rattle.std.specs.Prelude.{slice_get}
-use Rattle.datagrams.specs.Datagram as Raw
+use Rattle.life_runs.specs.of_datagrams.Datagram as Raw
 use Rattle.life_runs.specs.of_frame_view.View.{Lens}
 use Rattle.life_runs.specs.of_frame_view.Shares.{AllFrom, AreDistinct, Lived}
-use Rattle.master_duty.specs.Reply.{Reply}
-use Rattle.master_duty.specs.of_state_model.Stated as Stated
-use Rattle.master_hand.specs.Laying.{ready_of}
-use Rattle.master_hand.specs.Spoken.{Asked}
-use Rattle.master_hand.specs.declared.hand.InHand.{InHand}
-use Rattle.master_side.specs.Shown.{wish_begun}
-use Rattle.master_side.specs.declared.carried.Wish.{Wish}
-use Rattle.master_side.specs.declared.hand.Hand.{Ghosts}
-use Rattle.master_tour.proofs.Walks.{steps_both}
-use Rattle.master_tour.specs.Made.{is_in}
-use Rattle.master_tour.specs.Walks.{EachPair, StepsAt}
-use Rattle.master_tour.specs.declared.stop.Stop.{Stop}
+use Rattle.life_runs.specs.of_master_duty.Reply.{Reply}
+use Rattle.life_runs.specs.of_state_model.Stated as Stated
+use Rattle.life_runs.specs.of_master_hand.Laying.{ready_of}
+use Rattle.life_runs.specs.of_master_hand.Spoken.{Asked}
+use Rattle.life_runs.specs.of_master_hand.declared.hand.InHand.{InHand}
+use Rattle.life_runs.specs.of_master_side.Shown.{wish_begun}
+use Rattle.life_runs.specs.of_master_side.declared.carried.Wish.{Wish}
+use Rattle.life_runs.specs.of_master_side.declared.hand.Hand.{Ghosts}
+use Rattle.life_runs.proofs.of_master_tour.Walks.{steps_both}
+use Rattle.life_runs.specs.of_master_tour.Made.{is_in}
+use Rattle.life_runs.specs.of_master_tour.Walks.{EachPair, StepsAt}
+use Rattle.life_runs.specs.of_master_tour.declared.stop.Stop.{Stop}
 use Rattle.life_runs.specs.Served.{Keyed, Serves}
 use Rattle.master_node.proofs.Begins.{at_other, at_place, spot_at}
 use Rattle.master_node.proofs.Eagers.{recall_kept}

@@ -4,19 +4,19 @@ use Rattle.std.specs.Prelude.{is_some, map, slice_get, All, IfSome, if◌then◌
 use Rattle.std.proofs.lemmas.List.Elements.{All-head}
 use Rattle.life_runs.specs.of_frame_view.View.{Lens}
 use Rattle.life_runs.specs.of_frame_view.Shares.{AllBoth}
-use Rattle.master_duty.specs.of_state_model.Stated.{Service}
-use Rattle.master_hand.specs.Laying.{Waiting, ready_by, ready_of}
-use Rattle.master_hand.specs.Spoken.{Asked, is_passed}
-use Rattle.master_hand.specs.declared.hand.InHand.{InHand}
-use Rattle.master_side.specs.Free.{begins_by, is_free_side}
-use Rattle.master_side.specs.Shown.{wish_begun, wished}
-use Rattle.master_side.specs.declared.carried.Wish.{Wish}
-use Rattle.master_side.specs.declared.hand.Hand.{Ghosts}
-use Rattle.master_tour.specs.Frees.{stand_begins}
-use Rattle.master_tour.specs.Made.{is_in}
-use Rattle.master_tour.specs.Walks.{StepsAt}
-use Rattle.master_tour.specs.declared.stop.Stand.{Stand}
-use Rattle.master_tour.specs.declared.stop.Stop.{Stop}
+use Rattle.life_runs.specs.of_state_model.Stated.{Service}
+use Rattle.life_runs.specs.of_master_hand.Laying.{Waiting, ready_by, ready_of}
+use Rattle.life_runs.specs.of_master_hand.Spoken.{Asked, is_passed}
+use Rattle.life_runs.specs.of_master_hand.declared.hand.InHand.{InHand}
+use Rattle.life_runs.specs.of_master_side.Free.{begins_by, is_free_side}
+use Rattle.life_runs.specs.of_master_side.Shown.{wish_begun, wished}
+use Rattle.life_runs.specs.of_master_side.declared.carried.Wish.{Wish}
+use Rattle.life_runs.specs.of_master_side.declared.hand.Hand.{Ghosts}
+use Rattle.life_runs.specs.of_master_tour.Frees.{stand_begins}
+use Rattle.life_runs.specs.of_master_tour.Made.{is_in}
+use Rattle.life_runs.specs.of_master_tour.Walks.{StepsAt}
+use Rattle.life_runs.specs.of_master_tour.declared.stop.Stand.{Stand}
+use Rattle.life_runs.specs.of_master_tour.declared.stop.Stop.{Stop}
 use Rattle.life_runs.specs.Served.{Keyed, Serves, ServedTurn}
 use Rattle.master_node.specs.Begins.{begun_for, begun_of}
 use Rattle.master_node.specs.Coming.{IsLaid, wish_of}

@@ -2,39 +2,39 @@
 use Rattle.std.proofs.Common.{◌≡◌, ◌==◌, ◌+◌, ◌<◌, ℕ, zero, suc, Bool, true, false, Option, None, Some, List, [], ◌∷◌, refl, sym, ap, ◌∙◌, subst, arith, length}
 use Rattle.std.specs.Prelude.{◌&&◌, is_some, is_none, map, All, IfSome, slice_get, if◌then◌else◌}
 use Rattle.std.proofs.lemmas.Bool.{eq-eqb, eqb-true}
-use Rattle.datagrams.specs.Datagram as Raw
+use Rattle.life_runs.specs.of_datagrams.Datagram as Raw
 use Rattle.life_runs.specs.of_frame_view.View.{Lens}
 use Rattle.life_runs.specs.of_frame_view.Shares.{Lived, AllFrom, AreDistinct, IsElsewhere}
 use Rattle.life_runs.specs.Led.{speech_at}
-use Rattle.mailbox_master.specs.Any.{in_area_len}
-use Rattle.master_duty.specs.Reply.{Reply}
-use Rattle.master_duty.specs.of_exchange_model.Exchange.{Speech}
-use Rattle.master_duty.specs.of_segment_model.Seats
-use Rattle.master_duty.specs.of_state_model.Stated.{Service}
-use Rattle.master_duty.specs.of_state_model.Accounts.{Account, Pick}
-use Rattle.master_hand.specs.Laying.{Scripted, ready_of, scripted, scripted_behind}
-use Rattle.master_hand.specs.Shown.{awaits_reply, knows}
-use Rattle.master_hand.specs.Spoken.{Asked, acknowledged, is_followed, is_passed}
-use Rattle.master_hand.specs.declared.hand.InHand.{InHand}
-use Rattle.master_side.specs.Free.{begins_by, is_free_side}
-use Rattle.master_side.specs.Passing.{passing_behind, passing_seen}
-use Rattle.master_side.specs.Shown.{takes_ready, wish_begun}
-use Rattle.master_side.specs.declared.carried.Wish.{Wish}
-use Rattle.master_side.specs.declared.hand.Hand.{Ghosts}
-use Rattle.master_side.specs.declared.passing.Passing.{Passing}
-use Rattle.master_side.specs.of_link_mails.Body.{Body}
-use Rattle.master_tour.specs.Counting.{ReadStays, StandCounts}
-use Rattle.master_tour.specs.Frees.{stand_begins}
-use Rattle.master_tour.specs.Made.{ComesAt, FrameMade, IsPlanned, is_in}
-use Rattle.master_tour.specs.Passing.{StandPassing}
-use Rattle.master_tour.specs.Stands.{Counts, StandShows, StopShows}
-use Rattle.master_tour.specs.Walks.{EachPair, StepsAt}
-use Rattle.master_tour.proofs.Walks.{steps_both}
-use Rattle.master_tour.specs.declared.stop.Stand.{Stand}
-use Rattle.master_tour.specs.declared.stop.Stop.{Stop}
-use Rattle.master_tour.specs.of_life_model.Lives
-use Rattle.master_tour.specs.of_life_model.Lives.{Life, Spot, life_next}
-use Rattle.segment_plan.specs.declared.service.Service as Plan
+use Rattle.life_runs.specs.of_mailbox_master.Any.{in_area_len}
+use Rattle.life_runs.specs.of_master_duty.Reply.{Reply}
+use Rattle.life_runs.specs.of_exchange_model.Exchange.{Speech}
+use Rattle.life_runs.specs.of_segment_model.Seats
+use Rattle.life_runs.specs.of_state_model.Stated.{Service}
+use Rattle.life_runs.specs.of_state_model.Accounts.{Account, Pick}
+use Rattle.life_runs.specs.of_master_hand.Laying.{Scripted, ready_of, scripted, scripted_behind}
+use Rattle.life_runs.specs.of_master_hand.Shown.{awaits_reply, knows}
+use Rattle.life_runs.specs.of_master_hand.Spoken.{Asked, acknowledged, is_followed, is_passed}
+use Rattle.life_runs.specs.of_master_hand.declared.hand.InHand.{InHand}
+use Rattle.life_runs.specs.of_master_side.Free.{begins_by, is_free_side}
+use Rattle.life_runs.specs.of_master_side.Passing.{passing_behind, passing_seen}
+use Rattle.life_runs.specs.of_master_side.Shown.{takes_ready, wish_begun}
+use Rattle.life_runs.specs.of_master_side.declared.carried.Wish.{Wish}
+use Rattle.life_runs.specs.of_master_side.declared.hand.Hand.{Ghosts}
+use Rattle.life_runs.specs.of_master_side.declared.passing.Passing.{Passing}
+use Rattle.life_runs.specs.of_link_mails.Body.{Body}
+use Rattle.life_runs.specs.of_master_tour.Counting.{ReadStays, StandCounts}
+use Rattle.life_runs.specs.of_master_tour.Frees.{stand_begins}
+use Rattle.life_runs.specs.of_master_tour.Made.{ComesAt, FrameMade, IsPlanned, is_in}
+use Rattle.life_runs.specs.of_master_tour.Passing.{StandPassing}
+use Rattle.life_runs.specs.of_master_tour.Stands.{Counts, StandShows, StopShows}
+use Rattle.life_runs.specs.of_master_tour.Walks.{EachPair, StepsAt}
+use Rattle.life_runs.proofs.of_master_tour.Walks.{steps_both}
+use Rattle.life_runs.specs.of_master_tour.declared.stop.Stand.{Stand}
+use Rattle.life_runs.specs.of_master_tour.declared.stop.Stop.{Stop}
+use Rattle.life_runs.specs.of_life_model.Lives
+use Rattle.life_runs.specs.of_life_model.Lives.{Life, Spot, life_next}
+use Rattle.life_runs.specs.of_segment_plan.declared.service.Service as Plan
 use Rattle.life_runs.specs.Served.{Keyed, Serves, ServedComes}
 use Rattle.master_node.specs.Begins.{LaysOldest, PacketFirst, begins_by as packets_by, begins_other, taken_where}
 use Rattle.master_node.specs.Coming.{CameBy, IsLaid, next_of, wish_of}

@@ -10,39 +10,39 @@ use Rattle.life_runs.specs.of_frame_view.Frames.{Share, AreApart}
 use Rattle.life_runs.specs.of_frame_view.Shares.{Lived, AllBoth, AllThree, AreDistinct, IsElsewhere, came_at, lived_back}
 use Rattle.life_runs.specs.of_segment_ring.declared.wire.Fate.{Fate}
 use Rattle.life_runs.specs.of_segment_ring.declared.wire.Fate.TheVariants.{Pass}
-use Rattle.mailbox_master.specs.of_link_model.Link.{Halves}
-use Rattle.master_duty.specs.Reply.{Reply}
-use Rattle.master_duty.specs.of_exchange_model.Exchange.{Speech}
-use Rattle.master_duty.specs.of_segment_model.Ends as Ends
-use Rattle.master_duty.specs.of_segment_model.Record.{Kept, News}
-use Rattle.master_duty.specs.of_segment_model.Returned.{Returns}
-use Rattle.master_duty.specs.of_segment_model.Seats.{Side}
-use Rattle.master_duty.specs.of_segment_model.Slaves.{Access, Datagram, Found}
-use Rattle.master_duty.specs.of_state_model.Accounts as Accounts
-use Rattle.master_duty.specs.of_state_model.Accounts.{Account, duty_access}
-use Rattle.master_hand.specs.Laying.{scripted}
-use Rattle.master_hand.specs.Shown.{awaits_reply, knows}
-use Rattle.master_hand.specs.Spoken.{Asked, acknowledged, is_followed, is_passed}
-use Rattle.master_hand.specs.declared.hand.InHand.{InHand}
-use Rattle.master_side.specs.Passing.{PassingShows, counts_at, news_back}
-use Rattle.master_side.specs.declared.carried.Carried.{Carried}
-use Rattle.master_side.specs.declared.hand.Hand.{Ghosts}
-use Rattle.master_side.specs.declared.passing.Passing.{Passing}
-use Rattle.master_side.specs.of_link_mails.Body.{Body}
-use Rattle.master_tour.specs.Counting.{StandCounts, StopCounts}
-use Rattle.master_tour.specs.Goes.{is_opened, holds_at, opened_behind}
-use Rattle.master_tour.specs.Passing.{StandPassing}
-use Rattle.master_tour.specs.Stands.{StandShows, StandUnder, is_opening}
-use Rattle.master_tour.specs.Brings.{accepted_in}
-use Rattle.master_tour.specs.Under.{Under, mine}
-use Rattle.master_tour.specs.Walks.{EachPair}
-use Rattle.master_tour.specs.declared.stop.Stand.{Stand}
-use Rattle.master_tour.specs.declared.stop.Stop.{Stop}
-use Rattle.master_tour.specs.of_life_model.Lives
-use Rattle.master_tour.specs.of_life_model.Lives.{Life, Spot, era_back, life_back, opens_state, passes, reopening, reopens, reopens_at, returns_to_init}
-use Rattle.master_tour.proofs.Backs.{seen_aims}
-use Rattle.master_tour.proofs.Passings.{nothing_told}
-use Rattle.master_tour.proofs.Unders.{SameAim, under_back}
+use Rattle.life_runs.specs.of_link_model.Link.{Halves}
+use Rattle.life_runs.specs.of_master_duty.Reply.{Reply}
+use Rattle.life_runs.specs.of_exchange_model.Exchange.{Speech}
+use Rattle.life_runs.specs.of_segment_model.Ends as Ends
+use Rattle.life_runs.specs.of_segment_model.Record.{Kept, News}
+use Rattle.life_runs.specs.of_segment_model.Returned.{Returns}
+use Rattle.life_runs.specs.of_segment_model.Seats.{Side}
+use Rattle.life_runs.specs.of_segment_model.Slaves.{Access, Datagram, Found}
+use Rattle.life_runs.specs.of_state_model.Accounts as Accounts
+use Rattle.life_runs.specs.of_state_model.Accounts.{Account, duty_access}
+use Rattle.life_runs.specs.of_master_hand.Laying.{scripted}
+use Rattle.life_runs.specs.of_master_hand.Shown.{awaits_reply, knows}
+use Rattle.life_runs.specs.of_master_hand.Spoken.{Asked, acknowledged, is_followed, is_passed}
+use Rattle.life_runs.specs.of_master_hand.declared.hand.InHand.{InHand}
+use Rattle.life_runs.specs.of_master_side.Passing.{PassingShows, counts_at, news_back}
+use Rattle.life_runs.specs.of_master_side.declared.carried.Carried.{Carried}
+use Rattle.life_runs.specs.of_master_side.declared.hand.Hand.{Ghosts}
+use Rattle.life_runs.specs.of_master_side.declared.passing.Passing.{Passing}
+use Rattle.life_runs.specs.of_link_mails.Body.{Body}
+use Rattle.life_runs.specs.of_master_tour.Counting.{StandCounts, StopCounts}
+use Rattle.life_runs.specs.of_master_tour.Goes.{is_opened, holds_at, opened_behind}
+use Rattle.life_runs.specs.of_master_tour.Passing.{StandPassing}
+use Rattle.life_runs.specs.of_master_tour.Stands.{StandShows, StandUnder, is_opening}
+use Rattle.life_runs.specs.of_master_tour.Brings.{accepted_in}
+use Rattle.life_runs.specs.of_master_tour.Under.{Under, mine}
+use Rattle.life_runs.specs.of_master_tour.Walks.{EachPair}
+use Rattle.life_runs.specs.of_master_tour.declared.stop.Stand.{Stand}
+use Rattle.life_runs.specs.of_master_tour.declared.stop.Stop.{Stop}
+use Rattle.life_runs.specs.of_life_model.Lives
+use Rattle.life_runs.specs.of_life_model.Lives.{Life, Spot, era_back, life_back, opens_state, passes, reopening, reopens, reopens_at, returns_to_init}
+use Rattle.life_runs.proofs.of_master_tour.Backs.{seen_aims}
+use Rattle.life_runs.proofs.of_master_tour.Passings.{nothing_told}
+use Rattle.life_runs.proofs.of_master_tour.Unders.{SameAim, under_back}
 use Rattle.life_runs.specs.of_master_side.Counts.{counts_on}
 use Rattle.life_runs.specs.Served.{Serves, ServedTurn, served_behind}
 use Rattle.master_node.specs.Besides.{back_does, by_stop, stays}

@@ -4,29 +4,29 @@ use Rattle.std.specs.Prelude.{map, All, is_some, ⊤}
 use Rattle.std.proofs.lemmas.List.Elements.{All-nil, All-head, All-tail, All-push}
 use Rattle.life_runs.specs.Lives.{LifeKept}
 use Rattle.life_runs.specs.First.{leads_from}
-use Rattle.master_hand.specs.Spoken as Talk
-use Rattle.master_side.specs.Passing.{passing_seen}
-use Rattle.master_side.specs.declared.passing.Passing.{Passing}
-use Rattle.master_side.specs.of_link_mails.Body.{Body}
-use Rattle.master_duty.specs.Reply.{Reply}
-use Rattle.master_duty.specs.of_segment_model.Record.{nothing_kept}
-use Rattle.master_tour.specs.Counting.{StandCounts}
-use Rattle.master_tour.specs.Passing.{StandPassing}
-use Rattle.master_tour.specs.declared.stop.Stand.{Stand}
-use Rattle.master_tour.specs.of_life_model.Lives.{Life, new_life}
+use Rattle.life_runs.specs.of_master_hand.Spoken as Talk
+use Rattle.life_runs.specs.of_master_side.Passing.{passing_seen}
+use Rattle.life_runs.specs.of_master_side.declared.passing.Passing.{Passing}
+use Rattle.life_runs.specs.of_link_mails.Body.{Body}
+use Rattle.life_runs.specs.of_master_duty.Reply.{Reply}
+use Rattle.life_runs.specs.of_segment_model.Record.{nothing_kept}
+use Rattle.life_runs.specs.of_master_tour.Counting.{StandCounts}
+use Rattle.life_runs.specs.of_master_tour.Passing.{StandPassing}
+use Rattle.life_runs.specs.of_master_tour.declared.stop.Stand.{Stand}
+use Rattle.life_runs.specs.of_life_model.Lives.{Life, new_life}
 use Rattle.life_runs.specs.of_master_side.Counts.{CountsAt}
 use Rattle.life_runs.proofs.of_master_side.Kepts.{new_kept}
-use Rattle.segment_plan.specs.declared.service.Service as Plan
-use Rattle.segment_plan.specs.declared.slave.SlaveSpec.{SlaveSpec}
+use Rattle.life_runs.specs.of_segment_plan.declared.service.Service as Plan
+use Rattle.life_runs.specs.of_segment_plan.declared.slave.SlaveSpec.{SlaveSpec}
 use Rattle.life_runs.specs.of_frame_view.View.{Lens}
 use Rattle.life_runs.specs.of_frame_view.Shares.{AllBoth, AllThree}
 use Rattle.life_runs.specs.Led.{Leads, speech_at}
-use Rattle.master_hand.specs.Shown.{knows}
-use Rattle.master_hand.specs.declared.hand.InHand.{InHand}
-use Rattle.master_side.specs.declared.hand.Hand.{Ghosts}
-use Rattle.master_side.specs.of_mailbox_mail.declared.mail.Mail.{Mail}
-use Rattle.master_tour.specs.Walks.{StepsAt}
-use Rattle.master_tour.specs.declared.stop.Stop.{Stop}
+use Rattle.life_runs.specs.of_master_hand.Shown.{knows}
+use Rattle.life_runs.specs.of_master_hand.declared.hand.InHand.{InHand}
+use Rattle.life_runs.specs.of_master_side.declared.hand.Hand.{Ghosts}
+use Rattle.life_runs.specs.of_mailbox_mail.declared.mail.Mail.{Mail}
+use Rattle.life_runs.specs.of_master_tour.Walks.{StepsAt}
+use Rattle.life_runs.specs.of_master_tour.declared.stop.Stop.{Stop}
 use Rattle.life_runs.specs.Served.{Keyed, Serves, MayAsk, asked_at, all_serve, new_serves}
 use Rattle.master_node.specs.Appends.{AppendsMail}
 use Rattle.master_node.specs.Inhand.{HasInHand}

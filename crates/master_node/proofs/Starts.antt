@@ -2,33 +2,33 @@
 use Rattle.std.proofs.Common.{◌≡◌, ◌==◌, ◌+◌, ◌<◌, ℕ, zero, suc, Bool, true, false, Option, Some, None, List, [], ◌∷◌, refl, sym, ap, ◌∙◌, subst, arith}
 use Rattle.std.specs.Prelude.{IfSome, length, map, nat_lt, slice_get}
 use Rattle.std.proofs.lemmas.Bool.{eq-eqb, eqb-true, ltb-false}
-use Rattle.datagrams.specs.Datagram as Raw
+use Rattle.life_runs.specs.of_datagrams.Datagram as Raw
 use Rattle.life_runs.specs.of_frame_view.View.{Lens}
 use Rattle.life_runs.specs.of_frame_view.Shares.{AllBoth, AllFrom, Lived}
 use Rattle.life_runs.specs.Led.{Leads, Turn, speech_at}
-use Rattle.master_duty.specs.Reply.{Reply}
-use Rattle.master_duty.specs.of_state_model.Stated as Stated
-use Rattle.master_duty.specs.of_state_model.Accounts.{Pick}
-use Rattle.master_hand.specs.Laying.{Waiting, asked_next, ready_by, ready_of}
-use Rattle.master_hand.specs.Shown.{Shows, awaits_reply, knows}
-use Rattle.master_hand.specs.Spoken.{Asked, acknowledged, is_followed, is_passed}
-use Rattle.master_hand.specs.declared.hand.InHand.{InHand}
-use Rattle.master_hand.specs.declared.laying.Laid.{Laid}
-use Rattle.master_side.specs.Passing.{passing_behind}
-use Rattle.master_side.specs.Recall.{BeginsNone}
-use Rattle.master_side.specs.Shown.{SideShows, wish_begun}
-use Rattle.master_side.specs.declared.carried.Wish.{Wish}
-use Rattle.master_side.specs.declared.hand.Hand.{Ghosts}
-use Rattle.master_side.specs.of_link_mails.Body.{Body}
-use Rattle.master_tour.specs.Made.{is_in}
-use Rattle.master_tour.specs.Recalls.{BeginsAll as Begins}
-use Rattle.master_tour.specs.Passing.{StandPassing}
-use Rattle.master_tour.specs.Stands.{HoldShows, StopShows}
-use Rattle.master_tour.specs.Walks.{StepsAt}
-use Rattle.master_tour.specs.declared.stop.Stand.{Stand}
-use Rattle.master_tour.specs.declared.stop.Stop.{Stop}
-use Rattle.master_tour.specs.of_life_model.Lives.{Life, life_next}
-use Rattle.segment_plan.specs.declared.service.Service as Plan
+use Rattle.life_runs.specs.of_master_duty.Reply.{Reply}
+use Rattle.life_runs.specs.of_state_model.Stated as Stated
+use Rattle.life_runs.specs.of_state_model.Accounts.{Pick}
+use Rattle.life_runs.specs.of_master_hand.Laying.{Waiting, asked_next, ready_by, ready_of}
+use Rattle.life_runs.specs.of_master_hand.Shown.{Shows, awaits_reply, knows}
+use Rattle.life_runs.specs.of_master_hand.Spoken.{Asked, acknowledged, is_followed, is_passed}
+use Rattle.life_runs.specs.of_master_hand.declared.hand.InHand.{InHand}
+use Rattle.life_runs.specs.of_master_hand.declared.laying.Laid.{Laid}
+use Rattle.life_runs.specs.of_master_side.Passing.{passing_behind}
+use Rattle.life_runs.specs.of_master_side.Recall.{BeginsNone}
+use Rattle.life_runs.specs.of_master_side.Shown.{SideShows, wish_begun}
+use Rattle.life_runs.specs.of_master_side.declared.carried.Wish.{Wish}
+use Rattle.life_runs.specs.of_master_side.declared.hand.Hand.{Ghosts}
+use Rattle.life_runs.specs.of_link_mails.Body.{Body}
+use Rattle.life_runs.specs.of_master_tour.Made.{is_in}
+use Rattle.life_runs.specs.of_master_tour.Recalls.{BeginsAll as Begins}
+use Rattle.life_runs.specs.of_master_tour.Passing.{StandPassing}
+use Rattle.life_runs.specs.of_master_tour.Stands.{HoldShows, StopShows}
+use Rattle.life_runs.specs.of_master_tour.Walks.{StepsAt}
+use Rattle.life_runs.specs.of_master_tour.declared.stop.Stand.{Stand}
+use Rattle.life_runs.specs.of_master_tour.declared.stop.Stop.{Stop}
+use Rattle.life_runs.specs.of_life_model.Lives.{Life, life_next}
+use Rattle.life_runs.specs.of_segment_plan.declared.service.Service as Plan
 use Rattle.life_runs.specs.Served.{Keyed, Serves}
 use Rattle.master_node.specs.Begins.{NoneMore, PacketFirst, begun_of}
 use Rattle.master_node.specs.Coming.{IsComing, IsLaid, next_of, wish_of}

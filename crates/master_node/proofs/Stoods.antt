@@ -1,19 +1,19 @@
 -- HOW A MASTER STANDS to a slave.
 use Rattle.std.proofs.Common.{◌≡◌, ℕ, Bool, true, false, refl, ap, sym, ◌∙◌}
 use Rattle.std.specs.Prelude.{◌&&◌, nat_lt}
-use Rattle.al_state.specs.declared.bringing.BringStep.{BringStep}
+use Rattle.life_runs.specs.of_al_state.declared.bringing.BringStep.{BringStep}
 use Rattle.life_runs.specs.of_frame_view.View.{Lens}
 use Rattle.life_runs.specs.Spans.{is_leaving, is_open}
 use Rattle.life_runs.specs.of_frame_view.Openings.{step_number}
 use Rattle.life_runs.specs.Led.{Leads}
-use Rattle.master_hand.specs.declared.hand.InHand.{InHand}
+use Rattle.life_runs.specs.of_master_hand.declared.hand.InHand.{InHand}
 use Rattle.master_node.specs.Shows.{side_shows}
 use Rattle.master_node.specs.Told.{IsTold}
 use Rattle.master_node.specs.Standing.{is_before_init, leaves, is_up}
-use Rattle.master_side.specs.declared.hand.Hand.{Ghosts}
-use Rattle.master_tour.specs.Stands.{StandShows}
-use Rattle.master_tour.specs.declared.stop.Stand.{Stand}
-use Rattle.master_tour.specs.declared.stop.Stop.{Stop}
+use Rattle.life_runs.specs.of_master_side.declared.hand.Hand.{Ghosts}
+use Rattle.life_runs.specs.of_master_tour.Stands.{StandShows}
+use Rattle.life_runs.specs.of_master_tour.declared.stop.Stand.{Stand}
+use Rattle.life_runs.specs.of_master_tour.declared.stop.Stop.{Stop}
 
 same_leaves : (again : Bool) (step : BringStep) → (again && nat_lt (step_number again step) 3) ≡ (again && is_before_init step)
 same_leaves false step = refl

@@ -1,11 +1,11 @@
 -- A master that tells what happened stays what it is.
 use Rattle.std.proofs.Common.{◌≡◌, ℕ, ◌<◌, List, refl, sym, ap, subst, length, get_or, set}
 use Rattle.std.specs.Prelude.{All}
-use Rattle.master_hand.specs.declared.hand.InHand.{InHand}
-use Rattle.master_side.specs.declared.hand.Hand.{Ghosts}
-use Rattle.master_tour.specs.Walks.{EachPair}
-use Rattle.master_tour.specs.declared.stop.Stop.{Stop}
-use Rattle.master_tour.proofs.Walks.{steps_set}
+use Rattle.life_runs.specs.of_master_hand.declared.hand.InHand.{InHand}
+use Rattle.life_runs.specs.of_master_side.declared.hand.Hand.{Ghosts}
+use Rattle.life_runs.specs.of_master_tour.Walks.{EachPair}
+use Rattle.life_runs.specs.of_master_tour.declared.stop.Stop.{Stop}
+use Rattle.life_runs.proofs.of_master_tour.Walks.{steps_set}
 use Rattle.master_node.specs.declared.node.MasterNode.{MasterNode}
 use Rattle.master_node.specs.Origins.{forwards_at}
 use Rattle.master_node.specs.Shows.{WaitsNone}

@@ -2,7 +2,7 @@
 use Rattle.std.proofs.Common.{ℕ, suc, List, [], ◌∷◌}
 use Rattle.std.specs.Prelude.{map}
 use Rattle.life_runs.specs.of_frame_view.Shares.{AllFrom, AllThree}
-use Rattle.master_tour.specs.Walks.{EachPair}
+use Rattle.life_runs.specs.of_master_tour.Walks.{EachPair}
 use Rattle.master_node.specs.Passes.{ThreeFrom}
 
 -- where each goes so

@@ -3,23 +3,23 @@ use Rattle.std.proofs.Common.{◌≡◌, ◌⊎◌, inl, inr, ◌<◌, ◌≤◌
 use Rattle.std.specs.Prelude.{nat_lt, ◌&&◌, not, if◌then◌else◌, IfSome, slice_get}
 use Rattle.std.proofs.lemmas.Bool.{eq-eqb, eqb-true, lt-ltb, le-ltb, ltb-true, ltb-false}
 use Rattle.life_runs.specs.of_frame_view.Frames.{Share}
-use Rattle.master_hand.specs.contracts.hand.InHandHand.TheImpl as Impl
-use Rattle.master_hand.specs.declared.hand.InHand.{InHand}
-use Rattle.master_tour.specs.declared.tour.Tour as Tours
-use Rattle.master_side.specs.declared.hand.Hand.{Ghosts}
-use Rattle.master_tour.specs.Goes.{is_live, holds_at, opened_behind}
-use Rattle.master_tour.specs.Made.{is_in}
-use Rattle.master_tour.specs.Rooms.{StopRepeats, stop_len}
-use Rattle.master_tour.proofs.Walks.{steps_both}
+use Rattle.life_runs.specs.of_master_hand.contracts.hand.InHandHand.TheImpl as Impl
+use Rattle.life_runs.specs.of_master_hand.declared.hand.InHand.{InHand}
+use Rattle.life_runs.specs.of_master_tour.declared.tour.Tour as Tours
+use Rattle.life_runs.specs.of_master_side.declared.hand.Hand.{Ghosts}
+use Rattle.life_runs.specs.of_master_tour.Goes.{is_live, holds_at, opened_behind}
+use Rattle.life_runs.specs.of_master_tour.Made.{is_in}
+use Rattle.life_runs.specs.of_master_tour.Rooms.{StopRepeats, stop_len}
+use Rattle.life_runs.proofs.of_master_tour.Walks.{steps_both}
 use Rattle.master_node.specs.Rooms.{FitFrom, IsSentStop, Takes, len_in, LeavesFull, area_in}
 use Rattle.master_node.proofs.Fits.{again_here, fit_else, fit_ends, fit_less, fit_more, fit_most, stays_here, way_here}
 use Rattle.master_node.proofs.Lists.{steps_map, steps_trans, steps_holds, both_holds, both_length}
-use Rattle.master_side.specs.Again.{HasNoRoom}
-use Rattle.master_tour.specs.Orders.{visits_left, visited_of, is_fixed, AreOnce, IsCarried, last_behind}
-use Rattle.master_tour.specs.Toured.{Tour, HaveFrom, Carries, IsOfTour, has_number, visit_of, visit_on, goes_on, lost_on}
-use Rattle.master_tour.specs.Walks.{StepsAt, EachPair}
-use Rattle.master_tour.specs.declared.stop.Stop.{Stop}
-use Rattle.master_tour.proofs.Firsts.{visits_once, visited_same}
+use Rattle.life_runs.specs.of_master_side.Again.{HasNoRoom}
+use Rattle.life_runs.specs.of_master_tour.Orders.{visits_left, visited_of, is_fixed, AreOnce, IsCarried, last_behind}
+use Rattle.life_runs.specs.of_master_tour.Toured.{Tour, HaveFrom, Carries, IsOfTour, has_number, visit_of, visit_on, goes_on, lost_on}
+use Rattle.life_runs.specs.of_master_tour.Walks.{StepsAt, EachPair}
+use Rattle.life_runs.specs.of_master_tour.declared.stop.Stop.{Stop}
+use Rattle.life_runs.proofs.of_master_tour.Firsts.{visits_once, visited_same}
 use Rattle.master_node.specs.Kept.{TourOn}
 use Rattle.master_node.specs.Toured.{stop_share, turn_share, again_of, tour_of, StaysPut, TakesPart, IsBare, HasVisited}
 use Rattle.master_node.specs.Shows.{IsOnFrame}

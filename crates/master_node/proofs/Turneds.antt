@@ -6,15 +6,15 @@ use Rattle.life_runs.specs.of_frame_view.View.{Lens}
 use Rattle.life_runs.specs.of_frame_view.Seen.{seen}
 use Rattle.life_runs.specs.of_frame_view.Shares.{AllThree, given_where}
 use Rattle.life_runs.specs.of_segment_ring.declared.wire.Fate.TheVariants.{Lost}
-use Rattle.master_hand.specs.Spoken.{acknowledged, is_followed, is_passed}
-use Rattle.master_hand.specs.declared.hand.InHand.{InHand}
-use Rattle.master_side.specs.Passing.{news_lost}
-use Rattle.master_side.specs.declared.hand.Hand.{Ghosts}
-use Rattle.master_tour.specs.Stands.{turned}
-use Rattle.master_tour.specs.Walks.{EachPair}
-use Rattle.master_tour.specs.declared.stop.Stop.{Stop}
-use Rattle.master_tour.specs.declared.stop.Turned.{Turned}
-use Rattle.master_tour.specs.of_life_model.Lives.{life_lost}
+use Rattle.life_runs.specs.of_master_hand.Spoken.{acknowledged, is_followed, is_passed}
+use Rattle.life_runs.specs.of_master_hand.declared.hand.InHand.{InHand}
+use Rattle.life_runs.specs.of_master_side.Passing.{news_lost}
+use Rattle.life_runs.specs.of_master_side.declared.hand.Hand.{Ghosts}
+use Rattle.life_runs.specs.of_master_tour.Stands.{turned}
+use Rattle.life_runs.specs.of_master_tour.Walks.{EachPair}
+use Rattle.life_runs.specs.of_master_tour.declared.stop.Stop.{Stop}
+use Rattle.life_runs.specs.of_master_tour.declared.stop.Turned.{Turned}
+use Rattle.life_runs.specs.of_life_model.Lives.{life_lost}
 use Rattle.life_runs.specs.Served.{Serves, ServedTurn, served_behind}
 use Rattle.master_node.specs.Besides.{by_stop}
 use Rattle.master_node.specs.Lifetold.{told_at}

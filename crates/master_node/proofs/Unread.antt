@@ -5,27 +5,27 @@ use Rattle.life_runs.specs.Led.{speech_at}
 use Rattle.life_runs.specs.of_frame_view.Seen.{seen}
 use Rattle.life_runs.specs.of_frame_view.View.{Lens}
 use Rattle.life_runs.specs.of_frame_view.Shares.{came_at}
-use Rattle.master_duty.specs.Reply.{Reply}
-use Rattle.master_duty.specs.of_exchange_model.Exchange.{Speech, plain}
-use Rattle.master_duty.specs.of_exchange_model.Rows.{Row, answer_after, row_heard}
-use Rattle.master_duty.specs.of_segment_model.Record.{News}
-use Rattle.master_duty.specs.of_segment_model.Returned.{Returns}
-use Rattle.master_duty.specs.of_segment_model.Seats.{side_back}
-use Rattle.master_duty.specs.of_segment_model.Slaves.{Datagram, Found}
-use Rattle.master_duty.specs.of_state_model.Accounts.{Duty, account_back}
-use Rattle.master_hand.specs.Shown.{knows}
-use Rattle.master_hand.specs.Spoken.{Asked, acknowledged, is_followed, is_passed}
-use Rattle.master_hand.specs.contracts.hand.InHandHand.TheImpl as Impl
-use Rattle.master_hand.specs.declared.hand.InHand.{InHand}
-use Rattle.master_side.specs.Passing.{news_back}
-use Rattle.master_side.specs.of_link_mails.Body.{Body}
-use Rattle.master_tour.specs.of_life_model.Lives
-use Rattle.master_tour.specs.of_life_model.Lives.{Era, Life, Spot, era_back, life_back, passes}
-use Rattle.master_tour.specs.of_life_model.Own
-use Rattle.master_tour.specs.Stands.{StandShows}
-use Rattle.master_tour.specs.declared.stop.Stand.{Stand}
-use Rattle.master_tour.specs.declared.stop.Stop.{Stop}
-use Rattle.master_tour.proofs.Backs.{seen_aims}
+use Rattle.life_runs.specs.of_master_duty.Reply.{Reply}
+use Rattle.life_runs.specs.of_exchange_model.Exchange.{Speech, plain}
+use Rattle.life_runs.specs.of_exchange_model.Rows.{Row, answer_after, row_heard}
+use Rattle.life_runs.specs.of_segment_model.Record.{News}
+use Rattle.life_runs.specs.of_segment_model.Returned.{Returns}
+use Rattle.life_runs.specs.of_segment_model.Seats.{side_back}
+use Rattle.life_runs.specs.of_segment_model.Slaves.{Datagram, Found}
+use Rattle.life_runs.specs.of_state_model.Accounts.{Duty, account_back}
+use Rattle.life_runs.specs.of_master_hand.Shown.{knows}
+use Rattle.life_runs.specs.of_master_hand.Spoken.{Asked, acknowledged, is_followed, is_passed}
+use Rattle.life_runs.specs.of_master_hand.contracts.hand.InHandHand.TheImpl as Impl
+use Rattle.life_runs.specs.of_master_hand.declared.hand.InHand.{InHand}
+use Rattle.life_runs.specs.of_master_side.Passing.{news_back}
+use Rattle.life_runs.specs.of_link_mails.Body.{Body}
+use Rattle.life_runs.specs.of_life_model.Lives
+use Rattle.life_runs.specs.of_life_model.Lives.{Era, Life, Spot, era_back, life_back, passes}
+use Rattle.life_runs.specs.of_life_model.Own
+use Rattle.life_runs.specs.of_master_tour.Stands.{StandShows}
+use Rattle.life_runs.specs.of_master_tour.declared.stop.Stand.{Stand}
+use Rattle.life_runs.specs.of_master_tour.declared.stop.Stop.{Stop}
+use Rattle.life_runs.proofs.of_master_tour.Backs.{seen_aims}
 use Rattle.life_runs.specs.Served.{ServedTurn}
 use Rattle.master_node.specs.Besides.{back_does}
 use Rattle.master_node.specs.Inhand.{HasInHand, OpenHas}

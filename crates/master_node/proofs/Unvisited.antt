@@ -1,41 +1,41 @@
 -- WITHOUT A DATAGRAM NOTHING COMES INTO HAND: a service that came into hand at a visit had room in the frame, and has something to send.
 use Rattle.std.proofs.Common.{◌≡◌, ◌+◌, ℕ, zero, suc, Bool, true, false, Option, Some, None, List, [], ◌∷◌, ◌++◌, refl, ap, ◌∙◌, subst, arith}
 use Rattle.std.specs.Prelude.{◌&&◌, is_none, is_some, option_map}
-use Rattle.datagrams.specs.Datagram as Raw
-use Rattle.mailbox_mail.specs.declared.mail.Mail.{Mail}
-use Rattle.mailbox_master.specs.of_link_model.Link.{Halves}
+use Rattle.life_runs.specs.of_datagrams.Datagram as Raw
+use Rattle.life_runs.specs.of_mailbox_mail.declared.mail.Mail.{Mail}
+use Rattle.life_runs.specs.of_link_model.Link.{Halves}
 use Rattle.life_runs.specs.of_frame_view.View.{Lens}
 use Rattle.life_runs.specs.of_frame_view.Shares.{AllFrom, Lived}
 use Rattle.life_runs.specs.Led.{speech_at}
-use Rattle.master_duty.specs.Reply.{Reply}
-use Rattle.master_duty.specs.of_state_model.Stated.{Service}
-use Rattle.master_duty.specs.of_state_model.Accounts.{Pick}
-use Rattle.master_hand.proofs.Firsts.{some_planned}
-use Rattle.master_hand.specs.Laying.{ready_of}
-use Rattle.master_hand.specs.Over.{over_by}
-use Rattle.master_hand.specs.Shown.{Shows, knows}
-use Rattle.master_hand.specs.Spoken.{Asked, acknowledged, is_followed, is_passed}
-use Rattle.master_hand.specs.Talk.{Talking}
-use Rattle.master_hand.specs.contracts.hand.InHandHand.TheImpl as Impl
-use Rattle.master_hand.specs.declared.clients.Which.{Which}
-use Rattle.master_hand.specs.declared.course.Course.{Course}
-use Rattle.master_hand.specs.declared.hand.InHand.{InHand}
-use Rattle.master_side.specs.Carried.{in_hand}
-use Rattle.master_side.specs.First.{HoldsFirst}
-use Rattle.master_side.specs.Free.{is_free_side}
-use Rattle.master_side.specs.Shown.{SideShows, started_by, wish_begun}
-use Rattle.master_side.specs.declared.carried.Target.{Target}
-use Rattle.master_side.specs.declared.carried.Wish.{Wish}
-use Rattle.master_side.specs.declared.side.Side.{Side}
-use Rattle.master_side.specs.of_link_mails.Body.{Body, link_mail}
-use Rattle.master_tour.proofs.FirstRooms.{has_datagram}
-use Rattle.master_tour.specs.First.{FitsFirst, LacksFirst}
-use Rattle.master_tour.specs.Recalls.{TakesUp as Holds}
-use Rattle.master_tour.specs.Stands.{Counts, StandShows, StopShows}
-use Rattle.master_tour.specs.Walks.{StepsAt}
-use Rattle.master_tour.specs.declared.stop.Stand.{Stand}
-use Rattle.master_tour.specs.declared.stop.Stop.{Stop}
-use Rattle.master_tour.specs.of_life_model.Lives.{Life, Spot, life_next}
+use Rattle.life_runs.specs.of_master_duty.Reply.{Reply}
+use Rattle.life_runs.specs.of_state_model.Stated.{Service}
+use Rattle.life_runs.specs.of_state_model.Accounts.{Pick}
+use Rattle.life_runs.proofs.of_master_hand.Firsts.{some_planned}
+use Rattle.life_runs.specs.of_master_hand.Laying.{ready_of}
+use Rattle.life_runs.specs.of_master_hand.Over.{over_by}
+use Rattle.life_runs.specs.of_master_hand.Shown.{Shows, knows}
+use Rattle.life_runs.specs.of_master_hand.Spoken.{Asked, acknowledged, is_followed, is_passed}
+use Rattle.life_runs.specs.of_master_hand.Talk.{Talking}
+use Rattle.life_runs.specs.of_master_hand.contracts.hand.InHandHand.TheImpl as Impl
+use Rattle.life_runs.specs.of_master_hand.declared.clients.Which.{Which}
+use Rattle.life_runs.specs.of_master_hand.declared.course.Course.{Course}
+use Rattle.life_runs.specs.of_master_hand.declared.hand.InHand.{InHand}
+use Rattle.life_runs.specs.of_master_side.Carried.{in_hand}
+use Rattle.life_runs.specs.of_master_side.First.{HoldsFirst}
+use Rattle.life_runs.specs.of_master_side.Free.{is_free_side}
+use Rattle.life_runs.specs.of_master_side.Shown.{SideShows, started_by, wish_begun}
+use Rattle.life_runs.specs.of_master_side.declared.carried.Target.{Target}
+use Rattle.life_runs.specs.of_master_side.declared.carried.Wish.{Wish}
+use Rattle.life_runs.specs.of_master_side.declared.side.Side.{Side}
+use Rattle.life_runs.specs.of_link_mails.Body.{Body, link_mail}
+use Rattle.life_runs.proofs.of_master_tour.FirstRooms.{has_datagram}
+use Rattle.life_runs.specs.of_master_tour.First.{FitsFirst, LacksFirst}
+use Rattle.life_runs.specs.of_master_tour.Recalls.{TakesUp as Holds}
+use Rattle.life_runs.specs.of_master_tour.Stands.{Counts, StandShows, StopShows}
+use Rattle.life_runs.specs.of_master_tour.Walks.{StepsAt}
+use Rattle.life_runs.specs.of_master_tour.declared.stop.Stand.{Stand}
+use Rattle.life_runs.specs.of_master_tour.declared.stop.Stop.{Stop}
+use Rattle.life_runs.specs.of_life_model.Lives.{Life, Spot, life_next}
 use Rattle.master_node.specs.Coming.{wish_of}
 use Rattle.master_node.specs.Eager.{recall_of}
 use Rattle.master_node.specs.Filling.{StopFills}

@@ -2,44 +2,44 @@
 use Rattle.std.proofs.Common.{◌≡◌, ◌+◌, ◌==◌, ℕ, suc, Bool, true, false, List, [], ◌∷◌, ◌++◌, Option, Some, None, refl, sym, ap, ◌∙◌, subst}
 use Rattle.std.proofs.lemmas.Bool.{eqb-true}
 use Rattle.std.specs.Prelude.{cond, ◌&&◌, ◌||◌, not, if◌then◌else◌, is_some, option_map, map, length}
-use Rattle.life_model.specs.Visits.{Visit, mails_visit, drain_visit}
+use Rattle.life_runs.specs.of_life_model.Visits.{Visit, mails_visit, drain_visit}
 use Rattle.life_runs.specs.of_frame_view.View.{Lens}
 use Rattle.life_runs.specs.of_frame_view.Seen.{seen}
 use Rattle.life_runs.specs.of_frame_view.Shares.{AllBoth}
 use Rattle.life_runs.specs.of_state_model.States.{Phase}
 use Rattle.life_runs.specs.Led.{Turn}
-use Rattle.mailbox_mail.specs.declared.mail.Mail.{Mail}
-use Rattle.mailbox_master.specs.Any.{in_half_of}
-use Rattle.mailbox_master.specs.Seat.{seat_half}
-use Rattle.mailbox_master.specs.of_link_model.Frames.{Ask, in_ask}
-use Rattle.mailbox_master.specs.of_link_model.Link.{Halves}
-use Rattle.mailbox_master.specs.of_link_model.Master.{InState}
-use Rattle.master_duty.specs.Stages.{errand_of, stage_of, phase_of, climb_errand}
-use Rattle.master_duty.specs.declared.duty.Duty as Duties
-use Rattle.master_duty.specs.declared.stage.Errand.{Errand}
-use Rattle.master_duty.specs.declared.stage.Stage as Stages
-use Rattle.master_duty.specs.of_segment_model.Ends as Ends
-use Rattle.master_duty.specs.of_segment_model.Record.{is_for}
-use Rattle.master_duty.specs.of_segment_model.Slaves.{Access, Datagram}
-use Rattle.master_duty.specs.of_state_model.Accounts.{Duty, Stage, duty_access, stage_access, phase_access}
-use Rattle.master_hand.specs.declared.hand.InHand.{InHand}
-use Rattle.master_side.specs.Again.{IsOnWay}
-use Rattle.master_side.specs.Carried.{Asks, Meant, in_hand, is_clear, duty_choice, link_choice, drain_choice, errand_choice, errand_carried, mails_choice}
-use Rattle.master_side.specs.Passing.{passing_seen}
-use Rattle.master_side.specs.Shown.{DutyShows}
-use Rattle.master_side.specs.declared.carried.Carried.{Carried}
-use Rattle.master_side.specs.declared.hand.Hand.{Ghosts}
-use Rattle.master_side.specs.declared.passing.Passing.{Passing}
-use Rattle.master_side.specs.of_link_mails.Body.{Body, link_mail}
-use Rattle.master_tour.specs.of_life_model.Own.{own}
-use Rattle.master_tour.specs.Goes.{holds_at}
-use Rattle.master_tour.specs.Made.{is_in}
-use Rattle.master_tour.specs.Stands.{StandShows, StandUnder}
-use Rattle.master_tour.specs.Rooms.{StandOnWay}
-use Rattle.master_tour.specs.Toured.{Tour, visit_of, visit_on, IsOfTour}
-use Rattle.master_tour.specs.Under.{Grams, mine, Under}
-use Rattle.master_tour.specs.declared.stop.Stand.{Stand}
-use Rattle.master_tour.specs.declared.stop.Stop.{Stop}
+use Rattle.life_runs.specs.of_mailbox_mail.declared.mail.Mail.{Mail}
+use Rattle.life_runs.specs.of_mailbox_master.Any.{in_half_of}
+use Rattle.life_runs.specs.of_mailbox_master.Seat.{seat_half}
+use Rattle.life_runs.specs.of_link_model.Frames.{Ask, in_ask}
+use Rattle.life_runs.specs.of_link_model.Link.{Halves}
+use Rattle.life_runs.specs.of_link_model.Master.{InState}
+use Rattle.life_runs.specs.of_master_duty.Stages.{errand_of, stage_of, phase_of, climb_errand}
+use Rattle.life_runs.specs.of_master_duty.declared.duty.Duty as Duties
+use Rattle.life_runs.specs.of_master_duty.declared.stage.Errand.{Errand}
+use Rattle.life_runs.specs.of_master_duty.declared.stage.Stage as Stages
+use Rattle.life_runs.specs.of_segment_model.Ends as Ends
+use Rattle.life_runs.specs.of_segment_model.Record.{is_for}
+use Rattle.life_runs.specs.of_segment_model.Slaves.{Access, Datagram}
+use Rattle.life_runs.specs.of_state_model.Accounts.{Duty, Stage, duty_access, stage_access, phase_access}
+use Rattle.life_runs.specs.of_master_hand.declared.hand.InHand.{InHand}
+use Rattle.life_runs.specs.of_master_side.Again.{IsOnWay}
+use Rattle.life_runs.specs.of_master_side.Carried.{Asks, Meant, in_hand, is_clear, duty_choice, link_choice, drain_choice, errand_choice, errand_carried, mails_choice}
+use Rattle.life_runs.specs.of_master_side.Passing.{passing_seen}
+use Rattle.life_runs.specs.of_master_side.Shown.{DutyShows}
+use Rattle.life_runs.specs.of_master_side.declared.carried.Carried.{Carried}
+use Rattle.life_runs.specs.of_master_side.declared.hand.Hand.{Ghosts}
+use Rattle.life_runs.specs.of_master_side.declared.passing.Passing.{Passing}
+use Rattle.life_runs.specs.of_link_mails.Body.{Body, link_mail}
+use Rattle.life_runs.specs.of_life_model.Own.{own}
+use Rattle.life_runs.specs.of_master_tour.Goes.{holds_at}
+use Rattle.life_runs.specs.of_master_tour.Made.{is_in}
+use Rattle.life_runs.specs.of_master_tour.Stands.{StandShows, StandUnder}
+use Rattle.life_runs.specs.of_master_tour.Rooms.{StandOnWay}
+use Rattle.life_runs.specs.of_master_tour.Toured.{Tour, visit_of, visit_on, IsOfTour}
+use Rattle.life_runs.specs.of_master_tour.Under.{Grams, mine, Under}
+use Rattle.life_runs.specs.of_master_tour.declared.stop.Stand.{Stand}
+use Rattle.life_runs.specs.of_master_tour.declared.stop.Stop.{Stop}
 use Rattle.master_node.proofs.Asking.{AreFor, seen_for}
 use Rattle.master_node.proofs.Lefts.{in_first}
 use Rattle.master_node.specs.Eager.{AllVisit, AsksVisit, AsksSo, EachSo, Recall, VisitAsks, next_visit, recall_of, stage_visit}

@@ -3,20 +3,20 @@ use Rattle.std.proofs.Common.{◌≡◌, ◌<◌, ℕ, suc, Bool, true, false, O
 use Rattle.std.specs.Prelude.{is_some, slice_get, map, IfSome, if◌then◌else◌}
 use Rattle.life_runs.specs.of_frame_view.View.{Lens}
 use Rattle.life_runs.specs.of_frame_view.Shares.{Lived, AllFrom, AreDistinct}
-use Rattle.master_duty.specs.Reply.{Reply}
+use Rattle.life_runs.specs.of_master_duty.Reply.{Reply}
 use Rattle.life_runs.specs.Led.{Leads, Comes}
-use Rattle.master_hand.specs.Laying.{Scripted, scripted, scripted_behind, ready_of}
-use Rattle.master_hand.specs.Spoken.{Asked, is_passed}
-use Rattle.master_hand.specs.declared.hand.InHand.{InHand}
-use Rattle.master_side.specs.Shown.{wish_begun, takes_ready}
-use Rattle.master_side.specs.declared.carried.Target.{Target}
-use Rattle.master_side.specs.declared.carried.Wish.{Wish}
-use Rattle.master_side.specs.declared.hand.Hand.{Ghosts}
-use Rattle.master_tour.specs.Made.{ComesAt, FrameMade, is_in}
-use Rattle.master_tour.specs.Walks.{EachPair, StepsAt}
-use Rattle.master_tour.specs.declared.stop.Stop.{Stop}
-use Rattle.segment_plan.specs.declared.service.Service as Plan
-use Rattle.master_duty.specs.of_state_model.Stated.{Service}
+use Rattle.life_runs.specs.of_master_hand.Laying.{Scripted, scripted, scripted_behind, ready_of}
+use Rattle.life_runs.specs.of_master_hand.Spoken.{Asked, is_passed}
+use Rattle.life_runs.specs.of_master_hand.declared.hand.InHand.{InHand}
+use Rattle.life_runs.specs.of_master_side.Shown.{wish_begun, takes_ready}
+use Rattle.life_runs.specs.of_master_side.declared.carried.Target.{Target}
+use Rattle.life_runs.specs.of_master_side.declared.carried.Wish.{Wish}
+use Rattle.life_runs.specs.of_master_side.declared.hand.Hand.{Ghosts}
+use Rattle.life_runs.specs.of_master_tour.Made.{ComesAt, FrameMade, is_in}
+use Rattle.life_runs.specs.of_master_tour.Walks.{EachPair, StepsAt}
+use Rattle.life_runs.specs.of_master_tour.declared.stop.Stop.{Stop}
+use Rattle.life_runs.specs.of_segment_plan.declared.service.Service as Plan
+use Rattle.life_runs.specs.of_state_model.Stated.{Service}
 use Rattle.master_node.specs.Begins.{LaysOldest, PacketFirst, begins_by, begins_other, taken_where}
 use Rattle.master_node.specs.Coming.{IsComing, IsLaid, PassesBy, CameBy, next_of, wish_of}
 use Rattle.master_node.specs.Filling.{IsAmong, StopFills}

@@ -1,6 +1,6 @@
 -- THE LAST ANSWERS of the slaves, as the events of a step leave them.
 use Rattle.std.specs.Prelude.{◌≡◌, ◌==◌, ℕ, zero, suc, if◌then◌else◌, Option, Some, None, List, [], ◌∷◌}
-use Rattle.mailbox_mail.specs.declared.outcome.ReplyKind.{ReplyKind}
+use Rattle.life_runs.specs.of_mailbox_mail.declared.outcome.ReplyKind.{ReplyKind}
 use Rattle.master_node.specs.Listing.{events_in}
 use Rattle.master_node.specs.declared.event.Event.{Event}
 use Rattle.master_node.specs.declared.node.MasterNode.{MasterNode}

@@ -1,6 +1,6 @@
 -- A MAIL IS ASKED of a slave.
 use Rattle.std.specs.Prelude.{◌≡◌, ℕ, List, [], ◌∷◌, ◌++◌}
-use Rattle.master_side.specs.of_mailbox_mail.declared.mail.Mail.{Mail}
+use Rattle.life_runs.specs.of_mailbox_mail.declared.mail.Mail.{Mail}
 use Rattle.master_node.specs.declared.post.Asked.{Asked}
 
 -- it waits behind those that do, under its key, without address and counter

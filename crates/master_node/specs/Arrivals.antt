@@ -1,17 +1,17 @@
 -- WHICH PACKETS COME IN at the ports of slaves behind a frame that came back, by the mails accepted of the slaves.
 use Rattle.std.specs.Prelude.{◌≡◌, ℕ, zero, suc, nat_lt, Bool, true, false, Option, Some, None, List, [], ◌∷◌, ◌++◌, length, slice_get}
-use Rattle.eoe.specs.declared.joining.Unfinished.{Unfinished}
+use Rattle.eoe_switch.specs.of_eoe.declared.joining.Unfinished.{Unfinished}
 use Rattle.eoe_switch.specs.declared.switching.SwitchEvent.{SwitchEvent}
 use Rattle.eoe_switch.specs.declared.switching.SwitchEvent.TheVariants.{Arrive}
 use Rattle.life_runs.specs.Led.{Turn}
-use Rattle.master_duty.specs.of_segment_model.Slaves.{Datagram}
-use Rattle.master_hand.specs.Brings.{as_list}
-use Rattle.master_hand.specs.Joins.{packet_kept, packets_in}
-use Rattle.master_hand.specs.declared.hand.InHand.{InHand}
-use Rattle.master_side.specs.of_link_mails.Body.{Body}
-use Rattle.master_side.specs.declared.hand.Hand.{Ghosts}
-use Rattle.master_side.specs.declared.hand.Heard.{Heard}
-use Rattle.master_tour.specs.declared.stop.Stop.{Stop}
+use Rattle.life_runs.specs.of_segment_model.Slaves.{Datagram}
+use Rattle.life_runs.specs.of_master_hand.Brings.{as_list}
+use Rattle.life_runs.specs.of_master_hand.Joins.{packet_kept, packets_in}
+use Rattle.life_runs.specs.of_master_hand.declared.hand.InHand.{InHand}
+use Rattle.life_runs.specs.of_link_mails.Body.{Body}
+use Rattle.life_runs.specs.of_master_side.declared.hand.Hand.{Ghosts}
+use Rattle.life_runs.specs.of_master_side.declared.hand.Heard.{Heard}
+use Rattle.life_runs.specs.of_master_tour.declared.stop.Stop.{Stop}
 use Rattle.master_node.specs.Forwards.{port_by}
 use Rattle.master_node.specs.Happened.{events_of}
 use Rattle.master_node.specs.Joined.{mails_back}

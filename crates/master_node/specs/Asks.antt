@@ -1,13 +1,13 @@
 -- WHAT A FRAME ASKS AN OPEN SLAVE whose last read was lost.
 use Rattle.std.specs.Prelude.{◌≡◌, false, List, [], ◌∷◌, ⊤}
 use Rattle.life_runs.specs.Led.{Turn}
-use Rattle.master_duty.specs.of_segment_model.Slaves.{Datagram}
-use Rattle.master_side.specs.Carried.{is_clear}
-use Rattle.master_side.specs.of_link_mails.Body.{Body}
-use Rattle.master_tour.specs.of_life_model.Lives.{Stand}
-use Rattle.master_tour.specs.of_life_model.Own.{own}
-use Rattle.mailbox_master.specs.of_link_model.Frames.{in_ask}
-use Rattle.mailbox_master.specs.of_link_model.Master.{InHalf}
+use Rattle.life_runs.specs.of_segment_model.Slaves.{Datagram}
+use Rattle.life_runs.specs.of_master_side.Carried.{is_clear}
+use Rattle.life_runs.specs.of_link_mails.Body.{Body}
+use Rattle.life_runs.specs.of_life_model.Lives.{Stand}
+use Rattle.life_runs.specs.of_life_model.Own.{own}
+use Rattle.life_runs.specs.of_link_model.Frames.{in_ask}
+use Rattle.life_runs.specs.of_link_model.Master.{InHalf}
 
 -- a datagram is the inward half's, unless that is clear
 abbrev pub AsksHalf : InHalf → Datagram Body → Type 0

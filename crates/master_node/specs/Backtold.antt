@@ -2,25 +2,25 @@
 use Rattle.std.specs.Prelude.{◌&&◌, not, ℕ, zero, suc, Bool, true, false, is_some, Option, Some, None, List, [], ◌∷◌, ◌++◌, length}
 use Rattle.life_runs.specs.Led.{speech_at}
 use Rattle.life_runs.specs.of_frame_view.View.{Lens}
-use Rattle.mailbox_mail.specs.declared.outcome.ReplyKind.{ReplyKind}
-use Rattle.master_duty.specs.Reply.{Reply}
-use Rattle.master_duty.specs.of_exchange_model.Exchange.{Speech}
-use Rattle.master_duty.specs.of_exchange_model.Rows.{Row}
-use Rattle.master_duty.specs.of_segment_model.Ends.{Outcome, Passing}
-use Rattle.master_duty.specs.of_segment_model.Slaves.{Datagram}
-use Rattle.master_duty.specs.of_state_model.Accounts.{Change, is_free}
-use Rattle.master_hand.specs.Brings.{emergencies_in}
-use Rattle.master_hand.specs.Spoken.{Asked}
-use Rattle.master_side.specs.Recall.{Recall}
-use Rattle.master_side.specs.of_link_mails.Body.{Body}
-use Rattle.master_tour.specs.Brings.{accepted_in}
-use Rattle.master_tour.specs.Stands.{turned}
-use Rattle.master_tour.specs.declared.stop.Turned.{Turned}
-use Rattle.master_tour.specs.of_life_model.Lives
-use Rattle.master_tour.specs.of_life_model.Lives.{Life}
+use Rattle.life_runs.specs.of_mailbox_mail.declared.outcome.ReplyKind.{ReplyKind}
+use Rattle.life_runs.specs.of_master_duty.Reply.{Reply}
+use Rattle.life_runs.specs.of_exchange_model.Exchange.{Speech}
+use Rattle.life_runs.specs.of_exchange_model.Rows.{Row}
+use Rattle.life_runs.specs.of_segment_model.Ends.{Outcome, Passing}
+use Rattle.life_runs.specs.of_segment_model.Slaves.{Datagram}
+use Rattle.life_runs.specs.of_state_model.Accounts.{Change, is_free}
+use Rattle.life_runs.specs.of_master_hand.Brings.{emergencies_in}
+use Rattle.life_runs.specs.of_master_hand.Spoken.{Asked}
+use Rattle.life_runs.specs.of_master_side.Recall.{Recall}
+use Rattle.life_runs.specs.of_link_mails.Body.{Body}
+use Rattle.life_runs.specs.of_master_tour.Brings.{accepted_in}
+use Rattle.life_runs.specs.of_master_tour.Stands.{turned}
+use Rattle.life_runs.specs.of_master_tour.declared.stop.Turned.{Turned}
+use Rattle.life_runs.specs.of_life_model.Lives
+use Rattle.life_runs.specs.of_life_model.Lives.{Life}
 use Rattle.life_runs.specs.Served.{Serves, ServedTurn}
 use Rattle.life_runs.specs.Told.{Passed, replies_in}
-use Rattle.master_hand.specs.Hears.{kind_in}
+use Rattle.life_runs.specs.of_master_hand.Hears.{kind_in}
 use Rattle.master_node.specs.Begins.{is_other}
 use Rattle.master_node.specs.Gateways.{replies_told}
 pub use Rattle.master_node.specs.Inhand.{AnswerHas, HasInHand, HasPassed, IsFresh, MailsWork, NewestHas, OpenHas, OpeningHas, PacketHas, ServiceHas, WorkOf}

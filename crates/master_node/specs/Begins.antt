@@ -5,15 +5,15 @@ use Rattle.eoe_switch.specs.Switch.{Switched, arrived, begun_at, downed_at, queu
 use Rattle.eoe_switch.specs.declared.switching.SwitchEvent.{SwitchEvent}
 use Rattle.eoe_switch.specs.declared.switching.SwitchEvent.TheVariants.{Arrive, Begun, Down}
 use Rattle.life_runs.specs.Led.{Leads, Turn}
-use Rattle.master_duty.specs.of_state_model.Stated.{Service}
-use Rattle.master_hand.specs.of_protocol_models.EoeClient as EoeClient
-use Rattle.master_hand.specs.Spoken.{Asked, sdo, file, drive, net, passed}
-use Rattle.master_hand.specs.declared.hand.InHand.{InHand}
-use Rattle.master_hand.specs.declared.laying.Laid.{Laid}
-use Rattle.master_side.specs.declared.hand.Hand.{Ghosts}
-use Rattle.master_tour.specs.Made.{is_in}
-use Rattle.master_tour.specs.Orders.{AreOnce}
-use Rattle.master_tour.specs.declared.stop.Stop.{Stop}
+use Rattle.life_runs.specs.of_state_model.Stated.{Service}
+use Rattle.life_runs.specs.of_protocol_models.EoeClient as EoeClient
+use Rattle.life_runs.specs.of_master_hand.Spoken.{Asked, sdo, file, drive, net, passed}
+use Rattle.life_runs.specs.of_master_hand.declared.hand.InHand.{InHand}
+use Rattle.life_runs.specs.of_master_hand.declared.laying.Laid.{Laid}
+use Rattle.life_runs.specs.of_master_side.declared.hand.Hand.{Ghosts}
+use Rattle.life_runs.specs.of_master_tour.Made.{is_in}
+use Rattle.life_runs.specs.of_master_tour.Orders.{AreOnce}
+use Rattle.life_runs.specs.of_master_tour.declared.stop.Stop.{Stop}
 use Rattle.master_node.specs.Forwards.{forwarded, port_by}
 use Rattle.master_node.specs.Happened.{events_of}
 use Rattle.master_node.specs.declared.coming.Coming.{Coming}

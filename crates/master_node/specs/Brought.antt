@@ -2,14 +2,14 @@
 use Rattle.std.specs.Prelude.{List}
 use Rattle.life_runs.specs.of_frame_view.Shares.{AllBoth}
 use Rattle.life_runs.specs.Led.{Turn}
-use Rattle.master_side.specs.of_link_mails.Body.{Body}
-use Rattle.master_hand.specs.Brings.{Brings}
-use Rattle.master_hand.specs.declared.hand.InHand.{InHand}
-use Rattle.master_side.specs.Heard.{Brought}
-use Rattle.master_side.specs.declared.hand.Hand.{Ghosts}
-use Rattle.master_tour.specs.Brings.{accepted_in}
-use Rattle.master_tour.specs.declared.stop.Stop.{Stop}
-use Rattle.master_duty.specs.of_segment_model.Slaves.{Datagram}
+use Rattle.life_runs.specs.of_link_mails.Body.{Body}
+use Rattle.life_runs.specs.of_master_hand.Brings.{Brings}
+use Rattle.life_runs.specs.of_master_hand.declared.hand.InHand.{InHand}
+use Rattle.life_runs.specs.of_master_side.Heard.{Brought}
+use Rattle.life_runs.specs.of_master_side.declared.hand.Hand.{Ghosts}
+use Rattle.life_runs.specs.of_master_tour.Brings.{accepted_in}
+use Rattle.life_runs.specs.of_master_tour.declared.stop.Stop.{Stop}
+use Rattle.life_runs.specs.of_segment_model.Slaves.{Datagram}
 use Rattle.master_node.specs.declared.node.MasterNode.{MasterNode}
 
 -- a slave's hand tells of the mails that its life accepted

@@ -1,11 +1,11 @@
 -- WHAT MAY COME INTO HAND at a visit.
 use Rattle.std.specs.Prelude.{Bool, true, false, ◌≡◌, ◌⊎◌, ◌<◌, ℕ, suc, ◌%◌, Option, Some, None, length, slice_get, ⊤}
-use Rattle.master_hand.specs.declared.hand.InHand.{InHand}
-use Rattle.master_hand.specs.declared.laying.Laid.{Laid}
-use Rattle.master_side.specs.declared.carried.Wish.{Wish}
-use Rattle.master_side.specs.declared.hand.Hand.{Ghosts}
-use Rattle.master_tour.specs.declared.stop.Stop.{Stop}
-use Rattle.segment_plan.specs.declared.service.Service.{Service}
+use Rattle.life_runs.specs.of_master_hand.declared.hand.InHand.{InHand}
+use Rattle.life_runs.specs.of_master_hand.declared.laying.Laid.{Laid}
+use Rattle.life_runs.specs.of_master_side.declared.carried.Wish.{Wish}
+use Rattle.life_runs.specs.of_master_side.declared.hand.Hand.{Ghosts}
+use Rattle.life_runs.specs.of_master_tour.declared.stop.Stop.{Stop}
+use Rattle.life_runs.specs.of_segment_plan.declared.service.Service.{Service}
 use Rattle.master_node.specs.Kept.{StopKept, StopStays}
 use Rattle.master_node.specs.declared.coming.Coming.{Coming}
 

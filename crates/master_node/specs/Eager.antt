@@ -1,30 +1,30 @@
 -- A MASTER MAKES NO VISIT IN VAIN where more could go on: what it remembers of a slave's visits, what the datagram of a visit asks, and that behind a visit
 -- no mail is left that could be held.
 use Rattle.std.specs.Prelude.{◌≡◌, ℕ, Bool, true, is_some, Option, Some, None, List, [], ◌∷◌, map, ⊤}
-use Rattle.life_model.specs.Visits.{Visit, mails_visit, drain_visit}
+use Rattle.life_runs.specs.of_life_model.Visits.{Visit, mails_visit, drain_visit}
 use Rattle.life_runs.specs.of_frame_view.View.{Lens}
 use Rattle.life_runs.specs.Led.{Turn, speech_at}
 use Rattle.life_runs.specs.of_state_model.States.{Phase}
-use Rattle.mailbox_master.specs.of_link_model.Frames.{Ask}
-use Rattle.mailbox_master.specs.of_link_model.Link.{Halves}
-use Rattle.mailbox_master.specs.of_link_model.Mails.{LinkMail}
-use Rattle.mailbox_master.specs.of_link_model.Master.{InState}
-use Rattle.master_duty.specs.Reply.{Reply}
-use Rattle.master_duty.specs.of_exchange_model.Rows.{Row, left}
-use Rattle.master_duty.specs.of_segment_model.Slaves.{Datagram, Access}
-use Rattle.master_duty.specs.of_state_model.Accounts.{Duty, Stage, phase_access}
-use Rattle.master_hand.specs.Spoken.{Asked}
-use Rattle.master_hand.specs.Shown.{Shows, knows}
-use Rattle.master_hand.specs.declared.hand.InHand.{InHand}
-pub use Rattle.master_side.specs.Recall.{Recall, recall_by}
-use Rattle.master_side.specs.of_link_mails.Body.{Body}
-use Rattle.master_side.specs.declared.hand.Hand.{Ghosts}
-use Rattle.master_side.specs.Shown.{SideShows}
-use Rattle.master_tour.specs.Recalls.{TakesUp as Holds}
-use Rattle.master_tour.specs.Walks.{EachPair}
-use Rattle.master_tour.specs.of_life_model.Lives.{Stand}
-use Rattle.master_tour.specs.of_life_model.Own.{own}
-use Rattle.master_tour.specs.declared.stop.Stop.{Stop}
+use Rattle.life_runs.specs.of_link_model.Frames.{Ask}
+use Rattle.life_runs.specs.of_link_model.Link.{Halves}
+use Rattle.life_runs.specs.of_link_model.Mails.{LinkMail}
+use Rattle.life_runs.specs.of_link_model.Master.{InState}
+use Rattle.life_runs.specs.of_master_duty.Reply.{Reply}
+use Rattle.life_runs.specs.of_exchange_model.Rows.{Row, left}
+use Rattle.life_runs.specs.of_segment_model.Slaves.{Datagram, Access}
+use Rattle.life_runs.specs.of_state_model.Accounts.{Duty, Stage, phase_access}
+use Rattle.life_runs.specs.of_master_hand.Spoken.{Asked}
+use Rattle.life_runs.specs.of_master_hand.Shown.{Shows, knows}
+use Rattle.life_runs.specs.of_master_hand.declared.hand.InHand.{InHand}
+pub use Rattle.life_runs.specs.of_master_side.Recall.{Recall, recall_by}
+use Rattle.life_runs.specs.of_link_mails.Body.{Body}
+use Rattle.life_runs.specs.of_master_side.declared.hand.Hand.{Ghosts}
+use Rattle.life_runs.specs.of_master_side.Shown.{SideShows}
+use Rattle.life_runs.specs.of_master_tour.Recalls.{TakesUp as Holds}
+use Rattle.life_runs.specs.of_master_tour.Walks.{EachPair}
+use Rattle.life_runs.specs.of_life_model.Lives.{Stand}
+use Rattle.life_runs.specs.of_life_model.Own.{own}
+use Rattle.life_runs.specs.of_master_tour.declared.stop.Stop.{Stop}
 use Rattle.master_node.specs.declared.node.MasterNode.{MasterNode}
 
 -- WHAT A MASTER REMEMBERS of a slave's visits

@@ -1,9 +1,9 @@
 -- WHAT COMES INTO HAND of the slaves of a serving, as its master lists it.
 use Rattle.std.specs.Prelude.{◌≡◌, ◌-◌, ◌%◌, ℕ, zero, suc, false, if◌then◌else◌, Option, Some, None, List, [], ◌∷◌, map, length}
-use Rattle.master_duty.specs.of_state_model.Stated.{Service}
-use Rattle.master_hand.specs.Spoken.{Asked, is_passed}
-use Rattle.master_tour.specs.Made.{is_in}
-use Rattle.master_tour.specs.Orders.{AreOnce}
+use Rattle.life_runs.specs.of_state_model.Stated.{Service}
+use Rattle.life_runs.specs.of_master_hand.Spoken.{Asked, is_passed}
+use Rattle.life_runs.specs.of_master_tour.Made.{is_in}
+use Rattle.life_runs.specs.of_master_tour.Orders.{AreOnce}
 use Rattle.life_runs.specs.Served.{Serves, ServedTurn}
 use Rattle.master_node.specs.Begins.{begun_of}
 use Rattle.master_node.specs.Listing.{events_in, forwards_behind, number_at, origin_of, told_in}

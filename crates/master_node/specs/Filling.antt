@@ -1,22 +1,22 @@
 -- WHILE A FRAME IS MADE: what each slave has of it, and what came into hand.
 use Rattle.std.specs.Prelude.{◌≡◌, ◌≤◌, ◌<◌, ℕ, ◌%◌, true, false, Option, None, List, [], map, length, All}
 use Rattle.std.specs.List.{list_any}
-use Rattle.datagrams.specs.Datagram as Raw
+use Rattle.life_runs.specs.of_datagrams.Datagram as Raw
 use Rattle.life_runs.specs.of_frame_view.View.{Lens}
 use Rattle.life_runs.specs.of_frame_view.Shares.{Lived, AllFrom}
 use Rattle.life_runs.specs.Led.{Leads, Comes, speech_at}
-use Rattle.master_duty.specs.Reply.{Reply}
-use Rattle.master_hand.specs.Spoken.{Asked, acknowledged, is_followed, is_passed}
-use Rattle.master_hand.specs.declared.hand.InHand.{InHand}
-use Rattle.master_side.specs.declared.hand.Hand.{Ghosts}
-use Rattle.master_tour.specs.Made.{StopMade, FrameMade, is_in}
-use Rattle.master_tour.specs.declared.stop.Stop.{Stop}
-use Rattle.master_duty.specs.of_state_model.Stated.{Service}
+use Rattle.life_runs.specs.of_master_duty.Reply.{Reply}
+use Rattle.life_runs.specs.of_master_hand.Spoken.{Asked, acknowledged, is_followed, is_passed}
+use Rattle.life_runs.specs.of_master_hand.declared.hand.InHand.{InHand}
+use Rattle.life_runs.specs.of_master_side.declared.hand.Hand.{Ghosts}
+use Rattle.life_runs.specs.of_master_tour.Made.{StopMade, FrameMade, is_in}
+use Rattle.life_runs.specs.of_master_tour.declared.stop.Stop.{Stop}
+use Rattle.life_runs.specs.of_state_model.Stated.{Service}
 use Rattle.master_node.specs.Begins.{HasBegun}
 use Rattle.master_node.specs.Listing.{Before, HasListed, run_tells}
 use Rattle.master_node.specs.Starts.{HaveStarted}
 use Rattle.master_node.specs.declared.node.MasterNode.{MasterNode}
-use Rattle.master_tour.specs.Goes.{is_live, holds_at, BeginsLive}
+use Rattle.life_runs.specs.of_master_tour.Goes.{is_live, holds_at, BeginsLive}
 use Rattle.master_node.specs.Shows.{WaitsNone, ComeAgain, side_shows, lived_of, is_live_lead}
 
 module _ (lens : ℕ → Lens) where

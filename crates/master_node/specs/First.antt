@@ -3,18 +3,18 @@ use Rattle.std.specs.Prelude.{◌≡◌, ℕ, true, None, List}
 use Rattle.life_runs.specs.of_frame_view.View.{Lens}
 use Rattle.life_runs.specs.Led.{new_leads}
 use Rattle.life_runs.specs.First.{spot_of, script_for}
-use Rattle.mailbox_master.specs.Any.{in_area_len}
-use Rattle.master_hand.specs.Shown.{Shows, knows}
-use Rattle.master_hand.specs.Spoken.{hand_speech}
-use Rattle.master_hand.specs.declared.hand.InHand.{InHand}
-use Rattle.master_side.specs.Shown.{SideShows, new_side}
-use Rattle.master_side.specs.declared.hand.Hand.{Ghosts}
-use Rattle.master_side.specs.declared.side.Side.{Side}
-use Rattle.master_tour.specs.declared.stop.Stop.{Stop}
-use Rattle.segment_plan.specs.declared.plan.Scenario.{Scenario}
-use Rattle.segment_plan.specs.declared.service.Service.{Service}
-use Rattle.segment_plan.specs.declared.slave.SlaveSpec.{SlaveSpec}
-use Rattle.master_duty.specs.of_state_model.Accounts.{new_account}
+use Rattle.life_runs.specs.of_mailbox_master.Any.{in_area_len}
+use Rattle.life_runs.specs.of_master_hand.Shown.{Shows, knows}
+use Rattle.life_runs.specs.of_master_hand.Spoken.{hand_speech}
+use Rattle.life_runs.specs.of_master_hand.declared.hand.InHand.{InHand}
+use Rattle.life_runs.specs.of_master_side.Shown.{SideShows, new_side}
+use Rattle.life_runs.specs.of_master_side.declared.hand.Hand.{Ghosts}
+use Rattle.life_runs.specs.of_master_side.declared.side.Side.{Side}
+use Rattle.life_runs.specs.of_master_tour.declared.stop.Stop.{Stop}
+use Rattle.life_runs.specs.of_segment_plan.declared.plan.Scenario.{Scenario}
+use Rattle.life_runs.specs.of_segment_plan.declared.service.Service.{Service}
+use Rattle.life_runs.specs.of_segment_plan.declared.slave.SlaveSpec.{SlaveSpec}
+use Rattle.life_runs.specs.of_state_model.Accounts.{new_account}
 use Rattle.master_node.specs.Shows.{IsLead}
 
 -- a slave's side: its mailboxes and services are new, and its script begins

@@ -1,11 +1,11 @@
 -- WHAT A FRAME THAT CAME BACK TELLS TO WHO ASKED, by the lives of the slaves: the replies of a mail that is passed on, and its end.
 use Rattle.std.specs.Prelude.{◌≡◌, ◌≤◌, ℕ, zero, suc, Bool, true, false, if◌then◌else◌, is_some, Option, Some, None, List, [], ◌∷◌, ◌++◌, filter, Ok, Err}
-use Rattle.master_duty.specs.Reply.{Reply}
-use Rattle.master_duty.specs.of_segment_model.Slaves.{Datagram}
-use Rattle.master_hand.specs.Spoken.{Asked}
-use Rattle.master_side.specs.of_link_mails.Body.{Body}
-use Rattle.master_tour.specs.Brings.{accepted_in}
-use Rattle.master_tour.specs.of_life_model.Lives.{Life}
+use Rattle.life_runs.specs.of_master_duty.Reply.{Reply}
+use Rattle.life_runs.specs.of_segment_model.Slaves.{Datagram}
+use Rattle.life_runs.specs.of_master_hand.Spoken.{Asked}
+use Rattle.life_runs.specs.of_link_mails.Body.{Body}
+use Rattle.life_runs.specs.of_master_tour.Brings.{accepted_in}
+use Rattle.life_runs.specs.of_life_model.Lives.{Life}
 use Rattle.life_runs.specs.Served.{Serves, ServedTurn}
 use Rattle.life_runs.specs.Told.{Passed, replies_in}
 use Rattle.master_node.specs.Listing.{events_in, told_in}

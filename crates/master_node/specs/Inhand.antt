@@ -1,16 +1,16 @@
 -- WHAT A POST HAS IN HAND, by its slave's life between two frames, and once this or that came into hand.
 use Rattle.std.specs.Prelude.{◌≡◌, ◌⊎◌, ℕ, Bool, true, false, is_some, Option, Some, None}
-use Rattle.master_duty.specs.Reply.{Reply}
-use Rattle.master_duty.specs.of_exchange_model.Exchange.{Speech}
-use Rattle.master_duty.specs.of_exchange_model.Rows.{Row}
-use Rattle.master_duty.specs.of_segment_model.Ends.{Passing}
-use Rattle.master_duty.specs.of_segment_model.Seats.{Side}
-use Rattle.master_duty.specs.of_state_model.Stated.{Service}
-use Rattle.master_duty.specs.of_state_model.Accounts.{Duty, is_free, new_account}
-use Rattle.master_hand.specs.Spoken.{Asked, is_passed}
-use Rattle.master_side.specs.of_link_mails.Body.{Body}
-use Rattle.master_tour.specs.of_life_model.Lives
-use Rattle.master_tour.specs.of_life_model.Lives.{Life}
+use Rattle.life_runs.specs.of_master_duty.Reply.{Reply}
+use Rattle.life_runs.specs.of_exchange_model.Exchange.{Speech}
+use Rattle.life_runs.specs.of_exchange_model.Rows.{Row}
+use Rattle.life_runs.specs.of_segment_model.Ends.{Passing}
+use Rattle.life_runs.specs.of_segment_model.Seats.{Side}
+use Rattle.life_runs.specs.of_state_model.Stated.{Service}
+use Rattle.life_runs.specs.of_state_model.Accounts.{Duty, is_free, new_account}
+use Rattle.life_runs.specs.of_master_hand.Spoken.{Asked, is_passed}
+use Rattle.life_runs.specs.of_link_mails.Body.{Body}
+use Rattle.life_runs.specs.of_life_model.Lives
+use Rattle.life_runs.specs.of_life_model.Lives.{Life}
 use Rattle.master_node.specs.Begins.{is_other}
 use Rattle.master_node.specs.Named.{is_left}
 use Rattle.master_node.specs.declared.post.Work.{Work}

@@ -1,20 +1,20 @@
 -- THE PACKETS THAT SLAVES SEND, as a master joins them: what is unfinished of each, by the lives of the slaves, and what a frame that came back completed.
 use Rattle.std.specs.Prelude.{◌≡◌, ⊤, false, Option, None, List, [], ◌∷◌}
-use Rattle.eoe.specs.declared.joining.Unfinished.{Unfinished}
+use Rattle.eoe_switch.specs.of_eoe.declared.joining.Unfinished.{Unfinished}
 use Rattle.life_runs.specs.of_frame_view.Shares.{AllThree}
-use Rattle.master_tour.specs.of_life_model.Lives.{Stand}
+use Rattle.life_runs.specs.of_life_model.Lives.{Stand}
 use Rattle.life_runs.specs.Led.{Leads, Turn}
 use Rattle.life_runs.specs.Spans.{is_leaving}
-use Rattle.master_side.specs.of_link_mails.Body.{Body}
-use Rattle.master_hand.specs.Joins.{unfinished_behind, Completes}
-use Rattle.master_hand.specs.declared.hand.InHand.{InHand}
-use Rattle.master_side.specs.Heard.{Brought}
-use Rattle.master_side.specs.declared.hand.Hand.{Ghosts}
-use Rattle.master_tour.specs.Brings.{accepted_in}
-use Rattle.master_tour.specs.Joins.{join_at}
-use Rattle.master_tour.specs.Walks.{EachPair}
-use Rattle.master_tour.specs.declared.stop.Stop.{Stop}
-use Rattle.master_duty.specs.of_segment_model.Slaves.{Datagram}
+use Rattle.life_runs.specs.of_link_mails.Body.{Body}
+use Rattle.life_runs.specs.of_master_hand.Joins.{unfinished_behind, Completes}
+use Rattle.life_runs.specs.of_master_hand.declared.hand.InHand.{InHand}
+use Rattle.life_runs.specs.of_master_side.Heard.{Brought}
+use Rattle.life_runs.specs.of_master_side.declared.hand.Hand.{Ghosts}
+use Rattle.life_runs.specs.of_master_tour.Brings.{accepted_in}
+use Rattle.life_runs.specs.of_master_tour.Joins.{join_at}
+use Rattle.life_runs.specs.of_master_tour.Walks.{EachPair}
+use Rattle.life_runs.specs.of_master_tour.declared.stop.Stop.{Stop}
+use Rattle.life_runs.specs.of_segment_model.Slaves.{Datagram}
 use Rattle.master_node.specs.declared.node.MasterNode.{MasterNode}
 
 -- what is unfinished at a slave's hand, by how the master stands to it: of an open slave this, and of one that is opened nothing, once it needn't

@@ -1,12 +1,12 @@
 -- WHAT STAYS of a master where it only tells what happened, or lays a service ready.
 use Rattle.std.specs.Prelude.{◌≡◌, ℕ, All}
-use Rattle.master_hand.specs.Shown.{SameHand}
-use Rattle.master_hand.specs.declared.hand.InHand.{InHand}
-use Rattle.master_side.specs.Sent.{SameSide}
-use Rattle.master_side.specs.declared.hand.Hand.{Ghosts}
-use Rattle.master_side.specs.declared.side.Side.{Side}
-use Rattle.master_tour.specs.Walks.{EachPair}
-use Rattle.master_tour.specs.declared.stop.Stop.{Stop}
+use Rattle.life_runs.specs.of_master_hand.Shown.{SameHand}
+use Rattle.life_runs.specs.of_master_hand.declared.hand.InHand.{InHand}
+use Rattle.life_runs.specs.of_master_side.Sent.{SameSide}
+use Rattle.life_runs.specs.of_master_side.declared.hand.Hand.{Ghosts}
+use Rattle.life_runs.specs.of_master_side.declared.side.Side.{Side}
+use Rattle.life_runs.specs.of_master_tour.Walks.{EachPair}
+use Rattle.life_runs.specs.of_master_tour.declared.stop.Stop.{Stop}
 use Rattle.master_node.specs.declared.node.MasterNode.{MasterNode}
 use Rattle.master_node.specs.Numbered.{StaysNumbered}
 use Rattle.master_node.specs.Origins.{forwards_at}

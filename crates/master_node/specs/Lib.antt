@@ -1,15 +1,17 @@
-pub use Rattle.life_runs.specs as of_life_runs
-pub use Rattle.al_state.specs as of_al_state
-pub use Rattle.datagrams.specs as of_datagrams
-pub use Rattle.life_model.specs as of_life_model
+pub use Rattle.life_runs.specs.of_al_state as of_al_state
+pub use Rattle.life_runs.specs.of_coe_client as of_coe_client
+pub use Rattle.life_runs.specs.of_datagrams as of_datagrams
+pub use Rattle.eoe_switch.specs.of_eoe as of_eoe
+pub use Rattle.eoe_switch.specs as of_eoe_switch
 pub use Rattle.life_runs.specs.of_frame_view as of_frame_view
-pub use Rattle.master_duty.specs as of_master_duty
-pub use Rattle.master_hand.specs as of_master_hand
-pub use Rattle.master_side.specs as of_master_side
-pub use Rattle.master_tour.specs as of_master_tour
-pub use Rattle.master_duty.specs.of_segment_model as of_segment_model
+pub use Rattle.life_runs.specs.of_life_model as of_life_model
+pub use Rattle.life_runs.specs as of_life_runs
+pub use Rattle.life_runs.specs.of_link_model as of_link_model
+pub use Rattle.life_runs.specs.of_master_duty as of_master_duty
+pub use Rattle.life_runs.specs.of_master_hand as of_master_hand
+pub use Rattle.life_runs.specs.of_master_side as of_master_side
+pub use Rattle.life_runs.specs.of_master_tour as of_master_tour
 pub use Rattle.life_runs.specs.of_segment_ring as of_segment_ring
-pub use Rattle.master_duty.specs.of_state_model as of_state_model
 pub mod Listed
 pub mod Numbered
 pub mod Lives

@@ -1,10 +1,10 @@
 -- WHAT A FRAME TELLS, by the lives of the slaves before it and behind it.
 use Rattle.std.specs.Prelude.{◌≡◌, ◌≤◌, ℕ, zero, suc, List, [], ◌∷◌}
-use Rattle.master_duty.specs.Reply.{Reply}
-use Rattle.master_hand.specs.Spoken.{Asked}
-use Rattle.master_side.specs.of_link_mails.Body.{Body}
-use Rattle.master_tour.specs.Stands.{turned}
-use Rattle.master_tour.specs.of_life_model.Lives.{Life}
+use Rattle.life_runs.specs.of_master_duty.Reply.{Reply}
+use Rattle.life_runs.specs.of_master_hand.Spoken.{Asked}
+use Rattle.life_runs.specs.of_link_mails.Body.{Body}
+use Rattle.life_runs.specs.of_master_tour.Stands.{turned}
+use Rattle.life_runs.specs.of_life_model.Lives.{Life}
 use Rattle.life_runs.specs.Served.{Serves, ServedTurn}
 use Rattle.master_node.specs.Besides.{given_told}
 use Rattle.master_node.specs.Listing.{events_in, told_in}

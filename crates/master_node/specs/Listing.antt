@@ -2,11 +2,11 @@
 use Rattle.std.specs.Prelude.{◌≡◌, ◌<◌, ℕ, zero, suc, Bool, true, false, if◌then◌else◌, Option, Some, None, List, [], ◌∷◌, ◌++◌}
 use Rattle.eoe_switch.specs.Switch.{Switched}
 use Rattle.life_runs.specs.Led.{Leads, Turn}
-use Rattle.mailbox_mail.specs.declared.outcome.ReplyKind.{ReplyKind}
-use Rattle.master_duty.specs.of_state_model.Stated.{Service}
-use Rattle.master_hand.specs.Spoken.{Asked}
-use Rattle.master_tour.specs.Made.{is_in}
-use Rattle.master_tour.specs.Orders.{AreOnce}
+use Rattle.life_runs.specs.of_mailbox_mail.declared.outcome.ReplyKind.{ReplyKind}
+use Rattle.life_runs.specs.of_state_model.Stated.{Service}
+use Rattle.life_runs.specs.of_master_hand.Spoken.{Asked}
+use Rattle.life_runs.specs.of_master_tour.Made.{is_in}
+use Rattle.life_runs.specs.of_master_tour.Orders.{AreOnce}
 use Rattle.master_node.specs.Begins.{begun_for, begun_of, is_other}
 use Rattle.master_node.specs.Listed.{listed_before, listed_last}
 use Rattle.master_node.specs.Numbered.{StaysNumbered}

@@ -1,6 +1,6 @@
 -- What a master has of its slaves.
 use Rattle.std.specs.Prelude.{ℕ, zero, suc, List, [], ◌∷◌, length}
-pub use Rattle.master_tour.specs.Goes.{holds_at}
+pub use Rattle.life_runs.specs.of_master_tour.Goes.{holds_at}
 use Rattle.master_node.specs.declared.post.Post.{Post}
 
 -- how many mails wait to be passed on to the slave at a place

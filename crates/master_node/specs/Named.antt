@@ -1,10 +1,10 @@
 -- A MAIL THAT IS PASSED ON IS TOLD UNDER THE KEY OF ITS ASKER just while the life of its slave has it in hand.
 use Rattle.std.specs.Prelude.{◌≡◌, ◌&&◌, ℕ, Bool, true, false, nat_lt, is_some, Option, Some, None}
-use Rattle.master_duty.specs.Reply.{Reply}
-use Rattle.master_hand.specs.Spoken.{Asked}
-use Rattle.master_side.specs.of_link_mails.Body.{Body}
-use Rattle.master_tour.specs.of_life_model.Lives
-use Rattle.master_tour.specs.of_life_model.Lives.{Life}
+use Rattle.life_runs.specs.of_master_duty.Reply.{Reply}
+use Rattle.life_runs.specs.of_master_hand.Spoken.{Asked}
+use Rattle.life_runs.specs.of_link_mails.Body.{Body}
+use Rattle.life_runs.specs.of_life_model.Lives
+use Rattle.life_runs.specs.of_life_model.Lives.{Life}
 use Rattle.life_runs.specs.Told.{Passed}
 use Rattle.master_node.specs.declared.post.Work.{Work}
 

@@ -5,25 +5,25 @@ use Rattle.life_runs.specs.Lives.{LifeKept}
 use Rattle.life_runs.specs.Led.{Leads}
 use Rattle.life_runs.specs.of_frame_view.View.{Lens}
 use Rattle.life_runs.specs.of_frame_view.Shares.{AllBoth}
-use Rattle.master_duty.specs.Reply.{Reply}
-use Rattle.master_duty.specs.of_state_model.Stated as Stated
-use Rattle.master_hand.specs.Laying.{Waiting, ready_of}
-use Rattle.master_hand.specs.Shown.{awaits_reply, knows}
-use Rattle.master_hand.specs.Spoken.{Asked, is_passed, passed}
-use Rattle.master_hand.specs.declared.hand.InHand.{InHand}
-use Rattle.master_hand.specs.declared.laying.Laid.{Laid}
-use Rattle.master_side.specs.Passing.{passing_behind}
-use Rattle.master_side.specs.declared.hand.Hand.{Ghosts}
-use Rattle.master_side.specs.of_link_mails.Body.{Body}
-use Rattle.master_tour.specs.Counting.{StopCounts}
-use Rattle.master_tour.specs.Goes.{BeginsLive, holds_at, is_live}
-use Rattle.master_side.specs.of_mailbox_mail.declared.mail.Mail.{Mail}
-use Rattle.master_tour.specs.Made.{FrameMade, is_in}
-use Rattle.master_tour.specs.Passing.{StandPassing}
-use Rattle.master_tour.specs.declared.stop.Stop.{Stop}
-use Rattle.master_tour.specs.of_life_model.Lives
-use Rattle.master_tour.specs.of_life_model.Lives.{Life}
-use Rattle.segment_plan.specs.declared.service.Service.{Service}
+use Rattle.life_runs.specs.of_master_duty.Reply.{Reply}
+use Rattle.life_runs.specs.of_state_model.Stated as Stated
+use Rattle.life_runs.specs.of_master_hand.Laying.{Waiting, ready_of}
+use Rattle.life_runs.specs.of_master_hand.Shown.{awaits_reply, knows}
+use Rattle.life_runs.specs.of_master_hand.Spoken.{Asked, is_passed, passed}
+use Rattle.life_runs.specs.of_master_hand.declared.hand.InHand.{InHand}
+use Rattle.life_runs.specs.of_master_hand.declared.laying.Laid.{Laid}
+use Rattle.life_runs.specs.of_master_side.Passing.{passing_behind}
+use Rattle.life_runs.specs.of_master_side.declared.hand.Hand.{Ghosts}
+use Rattle.life_runs.specs.of_link_mails.Body.{Body}
+use Rattle.life_runs.specs.of_master_tour.Counting.{StopCounts}
+use Rattle.life_runs.specs.of_master_tour.Goes.{BeginsLive, holds_at, is_live}
+use Rattle.life_runs.specs.of_mailbox_mail.declared.mail.Mail.{Mail}
+use Rattle.life_runs.specs.of_master_tour.Made.{FrameMade, is_in}
+use Rattle.life_runs.specs.of_master_tour.Passing.{StandPassing}
+use Rattle.life_runs.specs.of_master_tour.declared.stop.Stop.{Stop}
+use Rattle.life_runs.specs.of_life_model.Lives
+use Rattle.life_runs.specs.of_life_model.Lives.{Life}
+use Rattle.life_runs.specs.of_segment_plan.declared.service.Service.{Service}
 use Rattle.life_runs.specs.Served.{Keyed, Serves, ServedComes}
 use Rattle.life_runs.specs.Told.{Passed}
 use Rattle.master_node.specs.Events.{served_tells}

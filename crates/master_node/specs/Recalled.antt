@@ -1,16 +1,16 @@
 -- WHAT A FRAME THAT CAME BACK LEAVES TO REMEMBER of a slave's visits, by what was remembered before.
 use Rattle.std.specs.Prelude.{◌≡◌, ◌==◌, ℕ, Bool, true, false, Some, List, [], ◌∷◌, ⊤}
-use Rattle.life_model.specs.Visits.{Visit}
+use Rattle.life_runs.specs.of_life_model.Visits.{Visit}
 use Rattle.life_runs.specs.of_frame_view.View.{Lens}
 use Rattle.life_runs.specs.of_frame_view.Shares.{AllThree}
 use Rattle.life_runs.specs.Led.{Turn, speech_at}
-use Rattle.master_duty.specs.of_segment_model.Slaves.{Datagram, Found}
-use Rattle.master_side.specs.Due.{EachDue}
-use Rattle.master_side.specs.Recall.{Recall}
-use Rattle.master_side.specs.of_link_mails.Body.{Body}
-use Rattle.master_tour.specs.Brings.{accepted_in}
-use Rattle.master_tour.specs.of_life_model.Lives.{Stand}
-use Rattle.master_tour.specs.of_life_model.Own.{own}
+use Rattle.life_runs.specs.of_segment_model.Slaves.{Datagram, Found}
+use Rattle.life_runs.specs.of_master_side.Due.{EachDue}
+use Rattle.life_runs.specs.of_master_side.Recall.{Recall}
+use Rattle.life_runs.specs.of_link_mails.Body.{Body}
+use Rattle.life_runs.specs.of_master_tour.Brings.{accepted_in}
+use Rattle.life_runs.specs.of_life_model.Lives.{Stand}
+use Rattle.life_runs.specs.of_life_model.Own.{own}
 use Rattle.master_node.specs.Eager.{IsClear, turn_visit}
 
 -- BEHIND A VISIT: a write that was not done pauses, until a read comes back

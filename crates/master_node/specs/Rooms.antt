@@ -2,12 +2,12 @@
 use Rattle.std.specs.Prelude.{◌≡◌, ◌≤◌, ◌+◌, ℕ, zero, suc, Bool, true, false, List, [], ◌∷◌, length, ⊤}
 use Rattle.life_runs.specs.of_frame_view.View.{Lens}
 use Rattle.life_runs.specs.Led.{Leads}
-use Rattle.master_hand.specs.declared.hand.InHand.{InHand}
-use Rattle.master_side.specs.Again.{HasNoRoom, area_of, larger}
-use Rattle.master_side.specs.declared.hand.Hand.{Ghosts}
-use Rattle.master_tour.specs.Goes.{is_live, holds_at}
-use Rattle.master_tour.specs.Rooms.{StopOnWay, StopRepeats, stop_len}
-use Rattle.master_tour.specs.declared.stop.Stop.{Stop}
+use Rattle.life_runs.specs.of_master_hand.declared.hand.InHand.{InHand}
+use Rattle.life_runs.specs.of_master_side.Again.{HasNoRoom, area_of, larger}
+use Rattle.life_runs.specs.of_master_side.declared.hand.Hand.{Ghosts}
+use Rattle.life_runs.specs.of_master_tour.Goes.{is_live, holds_at}
+use Rattle.life_runs.specs.of_master_tour.Rooms.{StopOnWay, StopRepeats, stop_len}
+use Rattle.life_runs.specs.of_master_tour.declared.stop.Stop.{Stop}
 
 -- the length of the larger mailbox of the slave at a place of a tour, 0 where none stands there
 abbrev pub area_in : {G : Ghosts InHand} → List (Stop InHand G) → ℕ → ℕ

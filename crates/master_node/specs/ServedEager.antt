@@ -1,18 +1,18 @@
 -- A MASTER MAKES NO VISIT IN VAIN ALSO WHILE MAILS ARE PASSED ON: what its frames ask a slave of a serving, what is then remembered, what begins, and when all rest.
 use Rattle.std.specs.Prelude.{◌≡◌, ◌⊎◌, ℕ, suc, Bool, true, false, is_some, Option, Some, None, List, [], ◌∷◌, ⊤}
-use Rattle.life_model.specs.Visits.{Visit, mails_visit, drain_visit}
+use Rattle.life_runs.specs.of_life_model.Visits.{Visit, mails_visit, drain_visit}
 use Rattle.life_runs.specs.of_frame_view.View.{Lens}
 use Rattle.life_runs.specs.of_frame_view.Shares.{AllThree}
 use Rattle.life_runs.specs.Led.{Leads, Turn, speech_at}
-use Rattle.master_duty.specs.of_segment_model.Slaves.{Datagram}
-use Rattle.master_duty.specs.of_state_model.Accounts.{Duty}
-use Rattle.master_side.specs.Due.{EachDue}
-use Rattle.master_side.specs.Recall.{Recall}
-use Rattle.master_side.specs.of_link_mails.Body.{Body}
-use Rattle.master_tour.specs.Brings.{accepted_in}
-use Rattle.master_duty.specs.of_segment_model.Ends.{Passing}
-use Rattle.master_tour.specs.of_life_model.Lives.{Stand}
-use Rattle.master_tour.specs.of_life_model.Own.{own}
+use Rattle.life_runs.specs.of_segment_model.Slaves.{Datagram}
+use Rattle.life_runs.specs.of_state_model.Accounts.{Duty}
+use Rattle.life_runs.specs.of_master_side.Due.{EachDue}
+use Rattle.life_runs.specs.of_master_side.Recall.{Recall}
+use Rattle.life_runs.specs.of_link_mails.Body.{Body}
+use Rattle.life_runs.specs.of_master_tour.Brings.{accepted_in}
+use Rattle.life_runs.specs.of_segment_model.Ends.{Passing}
+use Rattle.life_runs.specs.of_life_model.Lives.{Stand}
+use Rattle.life_runs.specs.of_life_model.Own.{own}
 use Rattle.life_runs.specs.Served.{Serves, ServedTurn}
 use Rattle.master_node.specs.Eager.{EachSo, IsClear, stage_visit}
 use Rattle.master_node.specs.Recalled.{IsFull, paused_behind, turn_behind}

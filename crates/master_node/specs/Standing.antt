@@ -1,7 +1,7 @@
 -- HOW A MASTER STANDS TO A SLAVE, as the epochs of its life have it.
 use Rattle.std.specs.Prelude.{◌&&◌, Bool, true, false}
-use Rattle.al_state.specs.declared.bringing.BringStep.{BringStep}
-use Rattle.master_tour.specs.declared.stop.Stand.{Stand}
+use Rattle.life_runs.specs.of_al_state.declared.bringing.BringStep.{BringStep}
+use Rattle.life_runs.specs.of_master_tour.declared.stop.Stand.{Stand}
 
 -- an access that comes before a reopening has shown Init
 abbrev pub is_before_init : BringStep → Bool

@@ -3,27 +3,27 @@ use Rattle.std.specs.Prelude.{◌≡◌, ℕ, suc, true, false, Option, Some, No
 use Rattle.life_runs.specs.of_frame_view.View.{Lens}
 use Rattle.life_runs.specs.of_frame_view.Shares.{AllFrom}
 use Rattle.life_runs.specs.Led.{Leads, Turn}
-use Rattle.master_duty.specs.Reply.{Reply}
-use Rattle.master_duty.specs.of_exchange_model.Exchange.{Speech}
-use Rattle.master_duty.specs.of_segment_model.Seats
-use Rattle.master_duty.specs.of_state_model.Stated as Stated
-use Rattle.master_duty.specs.of_state_model.Accounts.{Account, is_free, is_acknowledged}
-use Rattle.master_hand.specs.Shown.{Shows, knows}
-use Rattle.master_hand.specs.Spoken.{Asked, acknowledged}
-use Rattle.master_hand.specs.Talk.{asked_of}
-use Rattle.master_hand.specs.declared.hand.InHand.{InHand}
-use Rattle.master_hand.specs.declared.laying.Laid.{Laid}
-use Rattle.master_side.specs.Carried.{in_hand}
-use Rattle.master_side.specs.Recall.{Recall}
-use Rattle.master_side.specs.Shown.{SideShows}
-use Rattle.master_side.specs.declared.hand.Hand.{Ghosts}
-use Rattle.master_side.specs.declared.side.Side.{Side}
-use Rattle.master_side.specs.of_link_mails.Body.{Body}
-use Rattle.master_tour.specs.Made.{is_in}
-use Rattle.master_tour.specs.declared.stop.Stop.{Stop}
-use Rattle.segment_plan.specs.declared.service.Service.{Service}
+use Rattle.life_runs.specs.of_master_duty.Reply.{Reply}
+use Rattle.life_runs.specs.of_exchange_model.Exchange.{Speech}
+use Rattle.life_runs.specs.of_segment_model.Seats
+use Rattle.life_runs.specs.of_state_model.Stated as Stated
+use Rattle.life_runs.specs.of_state_model.Accounts.{Account, is_free, is_acknowledged}
+use Rattle.life_runs.specs.of_master_hand.Shown.{Shows, knows}
+use Rattle.life_runs.specs.of_master_hand.Spoken.{Asked, acknowledged}
+use Rattle.life_runs.specs.of_master_hand.Talk.{asked_of}
+use Rattle.life_runs.specs.of_master_hand.declared.hand.InHand.{InHand}
+use Rattle.life_runs.specs.of_master_hand.declared.laying.Laid.{Laid}
+use Rattle.life_runs.specs.of_master_side.Carried.{in_hand}
+use Rattle.life_runs.specs.of_master_side.Recall.{Recall}
+use Rattle.life_runs.specs.of_master_side.Shown.{SideShows}
+use Rattle.life_runs.specs.of_master_side.declared.hand.Hand.{Ghosts}
+use Rattle.life_runs.specs.of_master_side.declared.side.Side.{Side}
+use Rattle.life_runs.specs.of_link_mails.Body.{Body}
+use Rattle.life_runs.specs.of_master_tour.Made.{is_in}
+use Rattle.life_runs.specs.of_master_tour.declared.stop.Stop.{Stop}
+use Rattle.life_runs.specs.of_segment_plan.declared.service.Service.{Service}
 use Rattle.life_runs.specs.Served.{Keyed}
-use Rattle.segment_plan.specs.declared.service.Service.TheVariants.{State}
+use Rattle.life_runs.specs.of_segment_plan.declared.service.Service.TheVariants.{State}
 use Rattle.master_node.specs.Begins.{begun_for}
 use Rattle.master_node.specs.Forwards.{forwarded}
 use Rattle.master_node.specs.Resting.{MayBegin}

@@ -1,17 +1,17 @@
 -- WHAT A MASTER SAYS OF THE NEWEST SERVICE of a slave, by what it has of it.
 use Rattle.std.specs.Prelude.{◌≡◌, ℕ, Bool, true, false, Option, Some, None, List, [], ◌++◌, IfSome, slice_get}
-use Rattle.master_duty.specs.of_exchange_model.Rows.{Row}
+use Rattle.life_runs.specs.of_exchange_model.Rows.{Row}
 use Rattle.life_runs.specs.of_frame_view.View.{Lens}
 use Rattle.life_runs.specs.of_frame_view.Shares.{AllBoth, Lived}
 use Rattle.life_runs.specs.Led.{Leads}
-use Rattle.master_tour.specs.of_life_model.Lives.{Stand}
-use Rattle.master_side.specs.of_link_mails.Body.{Body}
-use Rattle.master_duty.specs.Reply.{Reply}
-use Rattle.master_hand.specs.Spoken.{Asked, is_passed}
-use Rattle.master_hand.specs.declared.hand.InHand.{InHand}
-use Rattle.master_side.specs.declared.hand.Hand.{Ghosts}
-use Rattle.master_tour.specs.declared.stop.Stop.{Stop}
-use Rattle.mailbox_mail.specs.declared.outcome.ReplyKind.{ReplyKind}
+use Rattle.life_runs.specs.of_life_model.Lives.{Stand}
+use Rattle.life_runs.specs.of_link_mails.Body.{Body}
+use Rattle.life_runs.specs.of_master_duty.Reply.{Reply}
+use Rattle.life_runs.specs.of_master_hand.Spoken.{Asked, is_passed}
+use Rattle.life_runs.specs.of_master_hand.declared.hand.InHand.{InHand}
+use Rattle.life_runs.specs.of_master_side.declared.hand.Hand.{Ghosts}
+use Rattle.life_runs.specs.of_master_tour.declared.stop.Stop.{Stop}
+use Rattle.life_runs.specs.of_mailbox_mail.declared.outcome.ReplyKind.{ReplyKind}
 pub use Rattle.master_node.specs.Answered.{answer_at}
 use Rattle.master_node.specs.Shows.{IsLived}
 use Rattle.master_node.specs.declared.node.MasterNode.{MasterNode}

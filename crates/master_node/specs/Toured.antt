@@ -2,12 +2,12 @@
 use Rattle.std.specs.Prelude.{◌≡◌, ◌≤◌, ℕ, Bool, true, false, Option, Some, None, List, [], ◌++◌, length}
 use Rattle.life_runs.specs.of_frame_view.Frames.{Share}
 use Rattle.life_runs.specs.Led.{Turn}
-use Rattle.master_hand.specs.declared.hand.InHand.{InHand}
-use Rattle.master_side.specs.declared.hand.Hand.{Ghosts}
-use Rattle.master_tour.specs.Goes.{is_live, holds_at}
-use Rattle.master_tour.specs.Orders.{AreOnce}
-use Rattle.master_tour.specs.Toured.{Tour, Carries, visit_of, visit_on}
-use Rattle.master_tour.specs.declared.stop.Stop.{Stop}
+use Rattle.life_runs.specs.of_master_hand.declared.hand.InHand.{InHand}
+use Rattle.life_runs.specs.of_master_side.declared.hand.Hand.{Ghosts}
+use Rattle.life_runs.specs.of_master_tour.Goes.{is_live, holds_at}
+use Rattle.life_runs.specs.of_master_tour.Orders.{AreOnce}
+use Rattle.life_runs.specs.of_master_tour.Toured.{Tour, Carries, visit_of, visit_on}
+use Rattle.life_runs.specs.of_master_tour.declared.stop.Stop.{Stop}
 use Rattle.master_node.specs.Rooms.{FitAgain, FitFrom, IsSentStop, LeavesFull}
 use Rattle.master_node.specs.declared.node.MasterNode.{MasterNode}
 

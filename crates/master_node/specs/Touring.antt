@@ -2,9 +2,9 @@
 use Rattle.std.specs.Prelude.{◌≡◌, ℕ, List, map, length}
 use Rattle.life_runs.specs.of_frame_view.Seen.{seen}
 use Rattle.life_runs.specs.of_frame_view.View.{Lens}
-use Rattle.master_tour.specs.Goes.{holds_at}
-use Rattle.master_tour.specs.Sizes.{frame_size}
-use Rattle.master_tour.specs.Toured.{IsOfTour}
+use Rattle.life_runs.specs.of_master_tour.Goes.{holds_at}
+use Rattle.life_runs.specs.of_master_tour.Sizes.{frame_size}
+use Rattle.life_runs.specs.of_master_tour.Toured.{IsOfTour}
 use Rattle.life_runs.specs.Served.{Serves, ServedTurn}
 use Rattle.master_node.specs.Asks.{AllAsk}
 use Rattle.master_node.specs.Begins.{PacketsBegin}

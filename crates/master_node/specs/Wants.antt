@@ -1,27 +1,27 @@
 -- WHAT A MASTER STILL WANTS of the slaves that it leads, and how often each was given up.
 use Rattle.std.specs.Prelude.{◌≡◌, ◌⊎◌, ◌≤◌, ℕ, suc, ◌-◌, Bool, true, false, nat_lt, nat_le, Option, None, IfSome, List, [], ◌∷◌, length, slice_get, ⊤}
 use Rattle.std.specs.List.{list_any}
-use Rattle.master_duty.specs.of_exchange_model.Exchange.{Speech}
+use Rattle.life_runs.specs.of_exchange_model.Exchange.{Speech}
 use Rattle.life_runs.specs.of_frame_view.View.{Lens}
-use Rattle.master_tour.specs.of_life_model.Lives
+use Rattle.life_runs.specs.of_life_model.Lives
 use Rattle.life_runs.specs.Led.{Leads, speech_at}
-use Rattle.master_side.specs.of_link_mails.Body.{Body}
-use Rattle.mailbox_master.specs.of_link_model.Master.{InState}
-use Rattle.mailbox_master.specs.Any.{in_half_of}
-use Rattle.master_duty.specs.Reply.{Reply}
-use Rattle.master_hand.specs.Shown.{Shows}
-use Rattle.master_hand.specs.Spoken.{Asked}
-use Rattle.master_hand.specs.declared.hand.InHand.{InHand}
-use Rattle.master_side.specs.Carried.{in_hand}
-use Rattle.master_side.specs.Shown.{SideShows}
-use Rattle.master_side.specs.declared.hand.Hand.{Ghosts}
-use Rattle.master_side.specs.declared.passing.Passing.{Passing}
-use Rattle.master_side.specs.declared.side.Side as Sides
-use Rattle.master_tour.specs.Goes.{holds_at, is_live}
-use Rattle.master_tour.specs.declared.stop.Stand.{Stand}
-use Rattle.master_duty.specs.of_segment_model.Laws.{WantsNothing}
-use Rattle.master_duty.specs.of_segment_model.Seats
-use Rattle.master_duty.specs.of_state_model.Accounts.{Account, is_free}
+use Rattle.life_runs.specs.of_link_mails.Body.{Body}
+use Rattle.life_runs.specs.of_link_model.Master.{InState}
+use Rattle.life_runs.specs.of_mailbox_master.Any.{in_half_of}
+use Rattle.life_runs.specs.of_master_duty.Reply.{Reply}
+use Rattle.life_runs.specs.of_master_hand.Shown.{Shows}
+use Rattle.life_runs.specs.of_master_hand.Spoken.{Asked}
+use Rattle.life_runs.specs.of_master_hand.declared.hand.InHand.{InHand}
+use Rattle.life_runs.specs.of_master_side.Carried.{in_hand}
+use Rattle.life_runs.specs.of_master_side.Shown.{SideShows}
+use Rattle.life_runs.specs.of_master_side.declared.hand.Hand.{Ghosts}
+use Rattle.life_runs.specs.of_master_side.declared.passing.Passing.{Passing}
+use Rattle.life_runs.specs.of_master_side.declared.side.Side as Sides
+use Rattle.life_runs.specs.of_master_tour.Goes.{holds_at, is_live}
+use Rattle.life_runs.specs.of_master_tour.declared.stop.Stand.{Stand}
+use Rattle.life_runs.specs.of_segment_model.Laws.{WantsNothing}
+use Rattle.life_runs.specs.of_segment_model.Seats
+use Rattle.life_runs.specs.of_state_model.Accounts.{Account, is_free}
 use Rattle.life_runs.specs.Served.{Serves}
 use Rattle.master_node.specs.Forwards.{forwarded}
 use Rattle.master_node.specs.Lives.{waiting_at}

@@ -1,17 +1,17 @@
 //! What a frame that came back brought of a slave besides replies.
 
 ghost use Rattle.std.specs.Prelude.{◌≡◌, List, Option, option_map};
-ghost use Rattle.eoe.specs.declared.joining.Unfinished.{Unfinished};
-ghost use Rattle.master_side.specs.of_link_mails.Body.{Body};
-ghost use Rattle.master_hand.specs.Brings.{Brings, as_list, emergencies_in};
-ghost use Rattle.master_hand.specs.Joins.{Completes, packets_in};
-ghost use Rattle.master_side.specs.Heard.{Brought};
+ghost use Rattle.eoe_switch.specs.of_eoe.declared.joining.Unfinished.{Unfinished};
+ghost use Rattle.life_runs.specs.of_link_mails.Body.{Body};
+ghost use Rattle.life_runs.specs.of_master_hand.Brings.{Brings, as_list, emergencies_in};
+ghost use Rattle.life_runs.specs.of_master_hand.Joins.{Completes, packets_in};
+ghost use Rattle.life_runs.specs.of_master_side.Heard.{Brought};
 
 use crate::node::MasterNode;
 use arrayvec::ArrayVec;
-use eoe::Packet;
-use master_hand::InHand;
-use master_side::Side;
+use eoe_switch::eoe::Packet;
+use life_runs::master_hand::InHand;
+use life_runs::master_side::Side;
 
 // The emergency that the last returned frame brought.
 fn emergency_of(side: &Side<InHand>) -> Option<&ArrayVec<u8, 8>>
@@ -35,14 +35,14 @@ fn packet_of(side: &Side<InHand>) -> Option<&Packet>
 
 impl MasterNode {
     ghost use Rattle.std.specs.Prelude.{◌≡◌, ◌<◌, ℕ, List, Option, IfSome, slice_get, vec_len, option_map};
-    ghost use Rattle.eoe.specs.declared.joining.Unfinished.{Unfinished};
+    ghost use Rattle.eoe_switch.specs.of_eoe.declared.joining.Unfinished.{Unfinished};
     ghost use Rattle.life_runs.specs.Led.{Turn};
-    ghost use Rattle.master_side.specs.of_link_mails.Body.{Body};
-    ghost use Rattle.master_duty.specs.of_segment_model.Slaves.{Datagram};
-    ghost use Rattle.master_hand.specs.Brings.{as_list, emergencies_in};
-    ghost use Rattle.master_tour.specs.Brings.{accepted_in};
+    ghost use Rattle.life_runs.specs.of_link_mails.Body.{Body};
+    ghost use Rattle.life_runs.specs.of_segment_model.Slaves.{Datagram};
+    ghost use Rattle.life_runs.specs.of_master_hand.Brings.{as_list, emergencies_in};
+    ghost use Rattle.life_runs.specs.of_master_tour.Brings.{accepted_in};
     ghost use Rattle.master_node.specs.Brought.{HasBrought};
-    ghost use Rattle.master_hand.specs.Joins.{packets_in};
+    ghost use Rattle.life_runs.specs.of_master_hand.Joins.{packets_in};
     ghost use Rattle.master_node.specs.Joined.{HasCompleted, mails_back};
 
     /// The octets of the emergency that the last returned frame brought of a slave.

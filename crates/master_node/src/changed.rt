@@ -1,15 +1,15 @@
 //! What a master says of the newest change of state of a slave.
 
 ghost use Rattle.std.specs.Prelude.{◌≡◌, Option};
-ghost use Rattle.master_duty.specs.Reply.{Reply};
-ghost use Rattle.master_hand.specs.Spoken.{Asked};
-ghost use Rattle.master_side.specs.Carried.{in_hand};
-ghost use Rattle.master_side.specs.Shown.{DutyShows, OverShows};
-ghost use Rattle.master_duty.specs.of_state_model.Accounts.{Account};
+ghost use Rattle.life_runs.specs.of_master_duty.Reply.{Reply};
+ghost use Rattle.life_runs.specs.of_master_hand.Spoken.{Asked};
+ghost use Rattle.life_runs.specs.of_master_side.Carried.{in_hand};
+ghost use Rattle.life_runs.specs.of_master_side.Shown.{DutyShows, OverShows};
+ghost use Rattle.life_runs.specs.of_state_model.Accounts.{Account};
 ghost use Rattle.master_node.specs.Changed.{TellsChange};
 
 use crate::node::MasterNode;
-use master_duty::Met;
+use life_runs::master_duty::Met;
 
 /// What became of the newest change of state since a slave was opened.
 #[derive(Clone, Copy)]
@@ -39,7 +39,7 @@ fn changed_by(duty: Option<Met>) -> Changed
 impl MasterNode {
     ghost use Rattle.std.specs.Prelude.{◌≡◌, ◌<◌, ℕ, List, IfSome, slice_get, vec_len};
     ghost use Rattle.life_runs.specs.of_frame_view.View.{Lens};
-    ghost use Rattle.master_tour.specs.of_life_model.Lives.{Stand};
+    ghost use Rattle.life_runs.specs.of_life_model.Lives.{Stand};
     ghost use Rattle.life_runs.specs.Led.{Leads};
     ghost use Rattle.master_node.specs.Told.{HasLeads};
 

@@ -1,19 +1,17 @@
-ghost use Rattle.std.specs.Prelude.{◌≡◌, ◌≤◌, ◌<◌, ◌+◌, ◌%◌, ◌==◌, [], length, nat_lt, true, count_by, if◌then◌else◌, All, IfOk, IfSome, None, Some, slice_get, drop};
+ghost use Rattle.std.specs.Prelude.{◌≡◌, ◌≤◌, ◌<◌, ◌+◌, ◌%◌, ◌==◌, [], length, nat_lt, true, count_by, if◌then◌else◌, All, IfOk, IfSome, None, Some, slice_get, drop, ◌++◌, ◌∷◌};
 ghost use Rattle.eoe_switch.specs.Switch.{first_switch};
-ghost use Rattle.segment_plan.specs.declared.slave.SlaveSpec.{SlaveSpec as Spec};
-ghost use Rattle.segment_plan.specs.Sound.{IsPlan};
-ghost use Rattle.segment_plan.specs.Sound.{IsPacket};
+ghost use Rattle.life_runs.specs.of_segment_plan.declared.slave.SlaveSpec.{SlaveSpec as Spec};
+ghost use Rattle.life_runs.specs.of_segment_plan.Sound.{IsPlan, IsPacket};
 ghost use Rattle.master_node.specs.Ported.{are_ports, are_long, are_queued};
-ghost use Rattle.std.specs.Prelude.{◌++◌, ◌∷◌};
 ghost use Rattle.master_node.specs.Ports.{ports_of, port_where, ports_behind};
 ghost use Rattle.master_node.specs.Forwards.{port_by, forwarded};
 
 use crate::happened::{Happening, Happenings};
 use arrayvec::ArrayVec;
-use ec_fields::{NoMemory, Rows, buffer_of};
-use eoe::Packet;
+use eoe_switch::ec_fields::{NoMemory, Rows, buffer_of};
+use eoe_switch::eoe::Packet;
 use eoe_switch::{Ports, Switch, SwitchEvent};
-use segment_plan::{Scenario, SlaveSpec};
+use life_runs::segment_plan::{Scenario, SlaveSpec};
 use std::alloc::Global;
 
 /// The port of the host.
@@ -107,7 +105,7 @@ fn has_host(ports: Ports) -> bool
 
 impl Lan {
     ghost use Rattle.std.specs.Prelude.{◌≡◌, ◌∷◌, [], IfOk};
-    ghost use Rattle.segment_plan.specs.Sound.{IsPlan};
+    ghost use Rattle.life_runs.specs.of_segment_plan.Sound.{IsPlan};
     ghost use Rattle.master_node.specs.Ports.{ports_of, ports_behind};
     ghost use Rattle.std.specs.Prelude.{true};
     ghost use Rattle.master_node.specs.Happened.{HasHappened, Happens, HappensSo, Comes, NoneWaits};

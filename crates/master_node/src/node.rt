@@ -6,10 +6,10 @@ use crate::happened::Happening;
 use crate::lan::Lan;
 use crate::laying::pass_by;
 use crate::post::{Post, Work};
-use datagrams::FrameBuf;
-use mailbox_mail::Mail;
-use master_hand::InHand;
-use master_tour::{Stand, Tour};
+use life_runs::datagrams::FrameBuf;
+use life_runs::mailbox_mail::Mail;
+use life_runs::master_hand::InHand;
+use life_runs::master_tour::{Stand, Tour};
 
 /// The most slaves of a segment.
 const SLAVES: usize = 16;
@@ -43,14 +43,14 @@ pub struct MasterNode {
 impl MasterNode {
     ghost use Rattle.master_node.specs.Entering.{IsIdle, AllStopsRest, EntersFirst, HostMayEnter};
     ghost use Rattle.std.specs.Prelude.{◌≡◌, ◌<◌, ◌≤◌, ◌^◌, suc, ℕ, List, true, false, vec_len, length, ◌↔◌, All, IfSome, Some, slice_get, ◌⊎◌, ◌+◌, [], nat_lt, map, take, if◌then◌else◌, None};
-    ghost use Rattle.datagrams.specs.Datagram as Raw;
-    ghost use Rattle.datagrams.specs.Frame.{IsBegun};
+    ghost use Rattle.life_runs.specs.of_datagrams.Datagram as Raw;
+    ghost use Rattle.life_runs.specs.of_datagrams.Frame.{IsBegun};
     ghost use Rattle.master_node.specs.Listed.{listed, listed_last};
     ghost use Rattle.master_node.specs.Lives.{holds_at, waiting_at};
-    ghost use Rattle.master_tour.specs.Goes.{is_live};
+    ghost use Rattle.life_runs.specs.of_master_tour.Goes.{is_live};
     ghost use Rattle.std.specs.List.{list_any};
     ghost use Rattle.master_node.specs.declared.node.Next.{Next};
-    ghost use Rattle.master_tour.specs.Walks.{StepsAt};
+    ghost use Rattle.life_runs.specs.of_master_tour.Walks.{StepsAt};
     ghost use Rattle.master_node.specs.declared.coming.Coming.{Coming};
     ghost use Rattle.master_node.specs.Appends.{AppendsMail};
     ghost use Rattle.master_node.specs.Serving.{FitsAt, IsAsked, ServedShows, ServedUnder, mails_in, run_lead, run_turn};
@@ -67,18 +67,18 @@ impl MasterNode {
     ghost use Rattle.life_runs.specs.of_frame_view.Seen.{seen};
     ghost use Rattle.life_runs.specs.of_frame_view.Shares.{AreDistinct};
     ghost use Rattle.life_runs.specs.Led.{Leads, Turn, IsLedFrame};
-    ghost use Rattle.master_tour.specs.Made.{is_in};
-    ghost use Rattle.master_tour.specs.Orders.{IsCarried};
+    ghost use Rattle.life_runs.specs.of_master_tour.Made.{is_in};
+    ghost use Rattle.life_runs.specs.of_master_tour.Orders.{IsCarried};
     ghost use Rattle.master_node.specs.Filling.{IsFilling, IsEmpty, IsFilled};
     ghost use Rattle.master_node.specs.Joined.{JoinsKept};
-    ghost use Rattle.master_tour.specs.Toured.{IsOfTour};
-    ghost use Rattle.master_side.specs.Again.{HasNoRoom};
-    ghost use Rattle.master_tour.specs.Sizes.{frame_size};
+    ghost use Rattle.life_runs.specs.of_master_tour.Toured.{IsOfTour};
+    ghost use Rattle.life_runs.specs.of_master_side.Again.{HasNoRoom};
+    ghost use Rattle.life_runs.specs.of_master_tour.Sizes.{frame_size};
     ghost use Rattle.master_node.specs.Rooms.{FitAgain, SendsSame, Takes, area_at, area_in};
     ghost use Rattle.master_node.specs.Asks.{AllAsk};
     ghost use Rattle.master_node.specs.Eager.{AllTakeUp, AllVisit, EagerFrom, EagerOn, recalls};
     ghost use Rattle.master_node.specs.Starts.{AllBegin, AllUnvisited};
-    ghost use Rattle.master_tour.specs.declared.stop.Stand.{Stand};
+    ghost use Rattle.life_runs.specs.of_master_tour.declared.stop.Stand.{Stand};
     ghost use Rattle.master_node.specs.Toured.{StaysPut, TakesPart, IsBare, HasVisited, stop_share, turn_share, tour_of};
     ghost use Rattle.master_node.specs.Happened.{Happens, HappensSo};
     ghost use Rattle.master_node.specs.Made.{Makes, AreOfMaking};

@@ -7,12 +7,12 @@ use crate::event::Origin;
 use crate::laying::{lay_mail, lay_nothing, lay_packet, lay_script};
 use crate::node::MasterNode;
 use crate::post::Work;
-use master_tour::Stand;
+use life_runs::master_tour::Stand;
 
 impl MasterNode {
     ghost use Rattle.std.specs.Prelude.{◌≡◌, ◌<◌, vec_len};
     ghost use Rattle.std.specs.Prelude.{All, IfSome, Some, List, [], slice_get};
-    ghost use Rattle.master_tour.specs.Walks.{StepsAt};
+    ghost use Rattle.life_runs.specs.of_master_tour.Walks.{StepsAt};
     ghost use Rattle.master_node.specs.declared.coming.Coming.{Coming};
     ghost use Rattle.master_node.specs.Shows.{WaitsNone};
     ghost use Rattle.master_node.specs.Kept.{StopStays, TourKept};
@@ -20,15 +20,15 @@ impl MasterNode {
     ghost use Rattle.std.specs.Prelude.{if◌then◌else◌};
     ghost use Rattle.master_node.specs.Joined.{JoinsKept};
     ghost use Rattle.master_node.specs.Starts.{IsByMails, LaysPacket, NoPacket, NoneComes, SideFrees, WaitsFor};
-    ghost use Rattle.master_hand.specs.declared.laying.Laid.{Laid};
-    ghost use Rattle.master_tour.specs.declared.stop.Stand.{Stand};
+    ghost use Rattle.life_runs.specs.of_master_hand.declared.laying.Laid.{Laid};
+    ghost use Rattle.life_runs.specs.of_master_tour.declared.stop.Stand.{Stand};
     ghost use Rattle.std.specs.Prelude.{None, is_some, true};
-    ghost use Rattle.master_side.specs.Free.{is_free_side};
+    ghost use Rattle.life_runs.specs.of_master_side.Free.{is_free_side};
     ghost use Rattle.master_node.specs.Numbered.{StaysNumbered};
     ghost use Rattle.master_node.specs.Origins.{LaysFrom};
     ghost use Rattle.master_node.specs.Begins.{IsOldest, LaysOldest, PacketFirst};
     ghost use Rattle.master_node.specs.Handed.{LaysWork};
-    ghost use Rattle.master_side.specs.declared.carried.Target.{Target};
+    ghost use Rattle.life_runs.specs.of_master_side.declared.carried.Target.{Target};
     ghost use Rattle.master_node.specs.Serving.{mails_in};
     ghost use Rattle.master_node.specs.Passes.{IsNextState, IsReady, LaysMail, MailWaits, ScriptLast, waits_behind, waits_in};
 

@@ -4,7 +4,7 @@ ghost use Rattle.std.specs.Prelude.{◌≡◌, ◌≤◌, ◌<◌, length, map, 
 ghost use Rattle.life_runs.specs.of_frame_view.Shares.{AllBoth, AllFrom};
 ghost use Rattle.master_node.specs.Serving.{IsPaced};
 ghost use Rattle.master_node.specs.Lives.{waiting_of};
-ghost use Rattle.segment_plan.specs.Sound.{IsPlan, IsSlave, IsPace};
+ghost use Rattle.life_runs.specs.of_segment_plan.Sound.{IsPlan, IsSlave, IsPace};
 ghost use Rattle.master_node.specs.First.{IsNewSide, IsFirst};
 ghost use Rattle.master_node.specs.Origins.{CountsNone};
 ghost use Rattle.master_node.specs.declared.post.Work.{Work};
@@ -15,13 +15,13 @@ use crate::event::EventList;
 use crate::lan::Lan;
 use crate::node::MasterNode;
 use crate::post::Post;
-use al_state::bring_new;
 use arrayvec::ArrayVec;
-use ec_fields::NoMemory;
-use master_hand::InHand;
-use master_side::Side;
-use master_tour::{Stand, Stop, Tour};
-use segment_plan::{Scenario, SlaveSpec};
+use eoe_switch::ec_fields::NoMemory;
+use life_runs::al_state::bring_new;
+use life_runs::master_hand::InHand;
+use life_runs::master_side::Side;
+use life_runs::master_tour::{Stand, Stop, Tour};
+use life_runs::segment_plan::{Scenario, SlaveSpec};
 use std::alloc::Global;
 
 // The side of a slave: nothing is in hand, and its script is its own.
@@ -133,7 +133,7 @@ impl MasterNode {
     ghost use Rattle.master_node.specs.Lives.{waiting_of};
     ghost use Rattle.master_node.specs.Origins.{forwards_at};
     ghost use Rattle.master_node.specs.Answered.{answer_at};
-    ghost use Rattle.segment_plan.specs.Sound.{IsPlan};
+    ghost use Rattle.life_runs.specs.of_segment_plan.Sound.{IsPlan};
     ghost use Rattle.life_runs.specs.First.{lens_of, first_leads};
     ghost use Rattle.master_node.specs.Shows.{MasterShows};
     ghost use Rattle.master_node.specs.Serving.{ServedShows};
@@ -142,7 +142,7 @@ impl MasterNode {
     ghost use Rattle.eoe_switch.specs.Switch.{first_switch};
     ghost use Rattle.master_node.specs.Happened.{HasHappened};
     ghost use Rattle.master_node.specs.Ports.{ports_of, ports_behind};
-    ghost use Rattle.master_tour.specs.Toured.{new_tour};
+    ghost use Rattle.life_runs.specs.of_master_tour.Toured.{new_tour};
     ghost use Rattle.master_node.specs.Toured.{tour_of};
     ghost use Rattle.master_node.specs.Eager.{recalls};
     ghost use Rattle.master_node.specs.Recalled.{AllKnow};

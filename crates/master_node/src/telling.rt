@@ -6,12 +6,12 @@ ghost use Rattle.master_node.specs.Downs.{is_given_up};
 use crate::event::Event;
 use crate::node::MasterNode;
 use crate::post::{Work, bare};
-use datagrams::FrameBuf;
-use ec_fields::buffer_of;
-use mailbox_mail::ReplyKind;
-use master_duty::Met;
-use master_side::Heard;
-use master_tour::{Stand, Turned};
+use eoe_switch::ec_fields::buffer_of;
+use life_runs::datagrams::FrameBuf;
+use life_runs::mailbox_mail::ReplyKind;
+use life_runs::master_duty::Met;
+use life_runs::master_side::Heard;
+use life_runs::master_tour::{Stand, Turned};
 
 // Whether a frame turned a slave into one that is given up.
 fn is_given_up(news: Option<Turned>) -> bool
@@ -22,14 +22,14 @@ fn is_given_up(news: Option<Turned>) -> bool
 
 impl MasterNode {
     ghost use Rattle.std.specs.Prelude.{◌≡◌, ◌<◌, ◌≤◌, ◌&&◌, not, ℕ, Option, List, map, length, slice_get, ◌∷◌, suc, [], ◌++◌, take, true, Some, None};
-    ghost use Rattle.master_tour.specs.Goes.{is_live, holds_at};
+    ghost use Rattle.life_runs.specs.of_master_tour.Goes.{is_live, holds_at};
     ghost use Rattle.master_node.specs.Arrivals.{arrive_by, arrivals_in, packets_of, kept_at, heard_at, completed_at, ComeIn};
     ghost use Rattle.master_node.specs.Downs.{Lists, down_by, downs_in, is_given_up, gives_at, GoDown};
     ghost use Rattle.master_node.specs.Forwards.{port_by};
-    ghost use Rattle.eoe.specs.declared.joining.Unfinished.{Unfinished};
+    ghost use Rattle.eoe_switch.specs.of_eoe.declared.joining.Unfinished.{Unfinished};
     ghost use Rattle.life_runs.specs.of_frame_view.View.{Lens};
     ghost use Rattle.life_runs.specs.of_frame_view.Seen.{seen};
-    ghost use Rattle.master_duty.specs.of_segment_model.Returned.{Returns};
+    ghost use Rattle.life_runs.specs.of_segment_model.Returned.{Returns};
     ghost use Rattle.life_runs.specs.of_segment_ring.declared.wire.Fate.{Fate};
     ghost use Rattle.life_runs.specs.Led.{Leads, Turn, Exchanged, led_behind, gives_up_at, missed_behind};
     ghost use Rattle.master_node.specs.Brought.{HasBrought};
@@ -46,12 +46,12 @@ impl MasterNode {
     ghost use Rattle.master_node.specs.Gateways.{TellsGateway, lives_told};
     ghost use Rattle.master_node.specs.Lifetold.{TellsJust, lost_at};
     ghost use Rattle.master_node.specs.Backtold.{returned_at};
-    ghost use Rattle.master_tour.specs.Orders.{AreOnce};
+    ghost use Rattle.life_runs.specs.of_master_tour.Orders.{AreOnce};
     ghost use Rattle.master_node.specs.Handed.{DropsWork, EndsWork, NonePassed, passing_at, work_at};
     ghost use Rattle.master_node.specs.declared.post.Work.{Work};
-    ghost use Rattle.master_tour.specs.Walks.{StepsAt};
+    ghost use Rattle.life_runs.specs.of_master_tour.Walks.{StepsAt};
     ghost use Rattle.life_runs.specs.Served.{ServedTurn, served_behind};
-    ghost use Rattle.master_tour.specs.Toured.{goes_on, lost_on};
+    ghost use Rattle.life_runs.specs.of_master_tour.Toured.{goes_on, lost_on};
     ghost use Rattle.master_node.specs.Told.{HasLives};
     ghost use Rattle.master_node.specs.Toured.{tour_of};
     ghost use Rattle.master_node.specs.Answered.{AnswersSo};

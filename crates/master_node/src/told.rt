@@ -1,18 +1,18 @@
 //! What a master says of the newest service of a slave, by what it has of it.
 
 ghost use Rattle.std.specs.Prelude.{◌≡◌, ◌++◌, true, ℕ, Option, IfOk, OnErr};
-ghost use Rattle.master_duty.specs.of_exchange_model.Exchange.{Speech};
-ghost use Rattle.master_duty.specs.of_exchange_model.Rows.{Row};
-ghost use Rattle.master_side.specs.of_link_mails.Body.{Body};
-ghost use Rattle.master_duty.specs.Reply.{Reply};
-ghost use Rattle.master_hand.specs.Shown.{Shows, has_reply};
-ghost use Rattle.master_hand.specs.Spoken.{Asked};
+ghost use Rattle.life_runs.specs.of_exchange_model.Exchange.{Speech};
+ghost use Rattle.life_runs.specs.of_exchange_model.Rows.{Row};
+ghost use Rattle.life_runs.specs.of_link_mails.Body.{Body};
+ghost use Rattle.life_runs.specs.of_master_duty.Reply.{Reply};
+ghost use Rattle.life_runs.specs.of_master_hand.Shown.{Shows, has_reply};
+ghost use Rattle.life_runs.specs.of_master_hand.Spoken.{Asked};
 ghost use Rattle.master_node.specs.Told.{Tells, has_value, value_in};
 
 use crate::node::MasterNode;
-use ec_fields::{NoMemory, Octets};
-use mailbox_mail::ReplyKind;
-use master_hand::InHand;
+use eoe_switch::ec_fields::{NoMemory, Octets};
+use life_runs::mailbox_mail::ReplyKind;
+use life_runs::master_hand::InHand;
 
 /// What became of the newest service by mails of a slave.
 #[derive(Clone, Copy)]
@@ -61,7 +61,7 @@ fn has_value(answer: Option<ReplyKind>) -> bool
 impl MasterNode {
     ghost use Rattle.std.specs.Prelude.{◌≡◌, ◌<◌, ℕ, List, IfOk, IfSome, is_some, slice_get, vec_len, false, OnOk, OnErr};
     ghost use Rattle.life_runs.specs.of_frame_view.View.{Lens};
-    ghost use Rattle.master_tour.specs.of_life_model.Lives.{Stand};
+    ghost use Rattle.life_runs.specs.of_life_model.Lives.{Stand};
     ghost use Rattle.life_runs.specs.Led.{Leads};
     ghost use Rattle.master_node.specs.Told.{AppendsValue, HasLeads, Tells, answer_at, has_value};
 

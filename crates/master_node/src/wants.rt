@@ -2,16 +2,16 @@
 
 ghost use Rattle.std.specs.Prelude.{◌≡◌, ◌<◌, None, vec_len, true, false};
 ghost use Rattle.std.specs.Bool.{OnTrue, OnFalse};
-ghost use Rattle.mailbox_master.specs.of_link_model.Master.{InState};
-ghost use Rattle.mailbox_master.specs.Any.{in_half_of};
+ghost use Rattle.life_runs.specs.of_link_model.Master.{InState};
+ghost use Rattle.life_runs.specs.of_mailbox_master.Any.{in_half_of};
 ghost use Rattle.master_node.specs.Resting.{SideRests};
 ghost use Rattle.master_node.specs.Wants.{IsQuiet, gave_more};
 
 use crate::node::MasterNode;
-use mailbox_master::InwardHalf;
-use master_hand::InHand;
-use master_side::Side;
-use master_tour::Stand;
+use life_runs::mailbox_master::InwardHalf;
+use life_runs::master_hand::InHand;
+use life_runs::master_side::Side;
+use life_runs::master_tour::Stand;
 
 // Whether a slave's link is at rest: no mail is held, and nothing is asked again.
 fn is_at_rest(side: &Side<InHand>) -> bool
@@ -53,10 +53,10 @@ impl MasterNode {
     ghost use Rattle.std.specs.List.{list_any};
     ghost use Rattle.life_runs.specs.of_frame_view.View.{Lens};
     ghost use Rattle.life_runs.specs.Led.{Leads};
-    ghost use Rattle.master_tour.specs.Goes.{is_live, holds_at};
+    ghost use Rattle.life_runs.specs.of_master_tour.Goes.{is_live, holds_at};
     ghost use Rattle.master_node.specs.Shows.{MasterShows, lived_of, WaitsNone};
     ghost use Rattle.master_node.specs.Told.{HasLives};
-    ghost use Rattle.master_tour.specs.declared.stop.Stand.{Stand};
+    ghost use Rattle.life_runs.specs.of_master_tour.declared.stop.Stand.{Stand};
     ghost use Rattle.master_node.specs.Entering.{IsIdle};
     ghost use Rattle.master_node.specs.Passes.{waits_in};
     ghost use Rattle.master_node.specs.Serving.{mails_in, ServedShows, run_lead};

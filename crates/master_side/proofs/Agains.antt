@@ -2,8 +2,8 @@
 use Rattle.std.proofs.Common.{◌≡◌, ◌≤◌, ℕ, Bool, true, false, Option, Some, None, length, refl, sym, ap, ◌∙◌, subst, arith, leb-true, leb-false, nat_le}
 use Rattle.std.specs.Prelude.{◌&&◌, not, is_some, if◌then◌else◌}
 use Rattle.std.proofs.lemmas.List.{length-replicate}
-use Rattle.mailbox_mail.specs.declared.mail.Mail.{Mail}
-use Rattle.frame_view.specs.of_link_model.Master.{InState, InHalf, in_lost}
+use Rattle.master_duty.specs.of_mailbox_mail.declared.mail.Mail.{Mail}
+use Rattle.mailbox_master.specs.of_link_model.Master.{InState, InHalf, in_lost}
 use Rattle.mailbox_master.specs.declared.halves.InwardHalf.{InwardHalf}
 use Rattle.mailbox_master.specs.Links.{OutLink}
 use Rattle.mailbox_master.specs.Any.{in_half_of, in_area_len, in_access, in_access_of}

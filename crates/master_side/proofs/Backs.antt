@@ -3,23 +3,23 @@ use Rattle.std.proofs.lemmas.Bool.{eqb-true}
 use Rattle.std.proofs.lemmas.List.{length-take}
 use Rattle.std.proofs.Common.{◌≡◌, ◌≢◌, ◌≤◌, ◌-◌, ℕ, ◌==◌, List, [], ◌++◌, Bool, true, false, Option, Some, None, refl, sym, ap, ◌∙◌, subst, append-nil, eq-eqb, take, drop, length, arith, inl, inr}
 use Rattle.std.specs.Prelude.{◌&&◌, ◌||◌, not, if◌then◌else◌, option_map, ◌⊎◌, Result, Ok, Err, IfSome, nat_lt, ⊤}
-use Rattle.mailbox_mail.specs.declared.mail.Mail.{Mail}
-use Rattle.mailbox_mail.specs.declared.mail.MailFault.{MailFault}
-use Rattle.mailbox_mail.specs.declared.mail.MailFault.TheVariants.{Short, LengthPastArea}
-use Rattle.mailbox_mail.specs.declared.mail.MailView.{MailView}
-use Rattle.mailbox_mail.specs.declared.mail.Kind.{Kind}
-use Rattle.mailbox_mail.specs.Kind.{kind_of}
-use Rattle.mailbox_mail.specs.Mail.{mail_read, mail_of, is_past, type_in}
-use Rattle.ec_fields.specs.Fields.{number_at}
+use Rattle.master_duty.specs.of_mailbox_mail.declared.mail.Mail.{Mail}
+use Rattle.master_duty.specs.of_mailbox_mail.declared.mail.MailFault.{MailFault}
+use Rattle.master_duty.specs.of_mailbox_mail.declared.mail.MailFault.TheVariants.{Short, LengthPastArea}
+use Rattle.master_duty.specs.of_mailbox_mail.declared.mail.MailView.{MailView}
+use Rattle.master_duty.specs.of_mailbox_mail.declared.mail.Kind.{Kind}
+use Rattle.master_duty.specs.of_mailbox_mail.Kind.{kind_of}
+use Rattle.master_duty.specs.of_mailbox_mail.Mail.{mail_read, mail_of, is_past, type_in}
+use Rattle.master_duty.specs.of_ec_fields.Fields.{number_at}
 use Rattle.frame_view.specs.of_exchange_model.Rows.{Row, row_heard}
-use Rattle.frame_view.specs.of_link_mails.Body.{Body, link_mail, mail_brought}
-use Rattle.frame_view.specs.of_link_model.Mails.{LinkMail, news}
-use Rattle.frame_view.specs.of_link_model.Counters.{repeats}
-use Rattle.frame_view.specs.of_link_model.Master.{InHalf, InState, in_lost, out_answered, read_answered, doubt_answered, asked_answered}
-use Rattle.frame_view.specs.of_link_model.Link.{Halves}
-use Rattle.frame_view.specs.of_link_model.Frames.{Ask, Gram, in_ask, halves_answered, halves_accept, halves_lost, all_accepted, mail_back}
-use Rattle.frame_view.specs.of_segment_model.Slaves.{Datagram, grams, Address, Access, Found}
-use Rattle.frame_view.specs.of_segment_model.Seats.{Side, is_write, side_lost, side_back}
+use Rattle.mailbox_master.specs.of_link_mails.Body.{Body, link_mail, mail_brought}
+use Rattle.mailbox_master.specs.of_link_model.Mails.{LinkMail, news}
+use Rattle.mailbox_master.specs.of_link_model.Counters.{repeats}
+use Rattle.mailbox_master.specs.of_link_model.Master.{InHalf, InState, in_lost, out_answered, read_answered, doubt_answered, asked_answered}
+use Rattle.mailbox_master.specs.of_link_model.Link.{Halves}
+use Rattle.mailbox_master.specs.of_link_model.Frames.{Ask, Gram, in_ask, halves_answered, halves_accept, halves_lost, all_accepted, mail_back}
+use Rattle.master_duty.specs.of_segment_model.Slaves.{Datagram, grams, Address, Access, Found}
+use Rattle.master_duty.specs.of_segment_model.Seats.{Side, is_write, side_lost, side_back}
 use Rattle.master_duty.specs.of_state_model.Accounts.{Account, account_back, account_met, account_by, access_done, duty_access}
 use Rattle.mailbox_master.specs.Links.{OutLink}
 use Rattle.mailbox_master.specs.Seat.{seat_half, got_seen}
@@ -36,8 +36,8 @@ use Rattle.frame_view.specs.View.{link_counter, register_counter, link_mail_in, 
 use Rattle.master_duty.specs.declared.stage.Met.{Met}
 use Rattle.master_duty.specs.Stages.{stage_of}
 use Rattle.master_duty.specs.Mets.{progress_of, KeepsTarget}
-use Rattle.frame_view.specs.of_segment_model.Ends.{Outcome}
-use Rattle.frame_view.specs.of_segment_model.Record.{is_for}
+use Rattle.master_duty.specs.of_segment_model.Ends.{Outcome}
+use Rattle.master_duty.specs.of_segment_model.Record.{is_for}
 use Rattle.master_duty.specs.of_state_model.Accounts as Tasks
 use Rattle.master_side.specs.Heard.{view_in, heard_of}
 use Rattle.mailbox_master.specs.Next.{got_by, got_of, accepted_by}

@@ -3,13 +3,13 @@ use Rattle.std.proofs.Common.{◌≡◌, ℕ, List, [], ◌∷◌, ◌++◌, Boo
 use Rattle.std.specs.Prelude.{◌&&◌, is_none, is_some, if◌then◌else◌, Ok}
 use Rattle.frame_view.specs.of_exchange_model.Exchange.{Speech}
 use Rattle.frame_view.specs.of_exchange_model.Rows.{Row, begun}
-use Rattle.mailbox_mail.specs.declared.mail.Mail.{Mail}
-use Rattle.frame_view.specs.of_link_mails.Body.{Body, uncounted}
-use Rattle.frame_view.specs.of_link_model.Mails.{LinkMail}
-use Rattle.frame_view.specs.of_link_model.Master.{out_hold}
-use Rattle.frame_view.specs.of_link_model.Link.{Halves}
-use Rattle.frame_view.specs.of_segment_model.Seats
-use Rattle.frame_view.specs.of_segment_model.Seats.{Side, next_mail, side_holds}
+use Rattle.master_duty.specs.of_mailbox_mail.declared.mail.Mail.{Mail}
+use Rattle.mailbox_master.specs.of_link_mails.Body.{Body, uncounted}
+use Rattle.mailbox_master.specs.of_link_model.Mails.{LinkMail}
+use Rattle.mailbox_master.specs.of_link_model.Master.{out_hold}
+use Rattle.mailbox_master.specs.of_link_model.Link.{Halves}
+use Rattle.master_duty.specs.of_segment_model.Seats
+use Rattle.master_duty.specs.of_segment_model.Seats.{Side, next_mail, side_holds}
 use Rattle.master_duty.specs.of_state_model.Stated.{Service}
 use Rattle.master_duty.specs.of_state_model.Accounts
 use Rattle.master_duty.specs.of_state_model.Accounts.{Account, is_free, is_acknowledged, mails_begin, account_begins, starts, state_begins}

@@ -6,13 +6,13 @@ use Rattle.std.proofs.lemmas.Nat.{le-div}
 use Rattle.std.proofs.lemmas.Bool.{cases_lt}
 use Rattle.std.proofs.lemmas.Bool.Decides.{nat_tests}
 use Rattle.frame_view.specs.View.{link_counter}
-use Rattle.frame_view.specs.of_link_mails.Body.{Body}
-use Rattle.frame_view.specs.of_link_model.Frames.{Ask, in_ask}
-use Rattle.frame_view.specs.of_link_model.Master.{InState}
-use Rattle.frame_view.specs.of_segment_model.Record as Record
-use Rattle.frame_view.specs.of_segment_model.Record.{did_read}
-use Rattle.frame_view.specs.of_segment_model.Seats.{Side}
-use Rattle.frame_view.specs.of_segment_model.Slaves.{Datagram, Access, grams}
+use Rattle.mailbox_master.specs.of_link_mails.Body.{Body}
+use Rattle.mailbox_master.specs.of_link_model.Frames.{Ask, in_ask}
+use Rattle.mailbox_master.specs.of_link_model.Master.{InState}
+use Rattle.master_duty.specs.of_segment_model.Record as Record
+use Rattle.master_duty.specs.of_segment_model.Record.{did_read}
+use Rattle.master_duty.specs.of_segment_model.Seats.{Side}
+use Rattle.master_duty.specs.of_segment_model.Slaves.{Datagram, Access, grams}
 use Rattle.master_duty.specs.Reply.{Reply}
 use Rattle.master_side.specs.Carried.{Asks, Meant, IsBack, one, is_read}
 use Rattle.master_side.specs.Passing.{counts_at, read_behind}

@@ -1,8 +1,8 @@
 -- The datagram with which a service begins.
 use Rattle.std.proofs.Common.{◌≡◌, Bool, true, false, Option, Some, None, refl, ap, ◌∙◌}
 use Rattle.std.specs.Prelude.{is_some, if◌then◌else◌}
-use Rattle.mailbox_mail.specs.declared.mail.Mail.{Mail}
-use Rattle.frame_view.specs.of_link_model.Master.{InState}
+use Rattle.master_duty.specs.of_mailbox_mail.declared.mail.Mail.{Mail}
+use Rattle.mailbox_master.specs.of_link_model.Master.{InState}
 use Rattle.mailbox_master.specs.Any.{in_half_of}
 use Rattle.mailbox_master.specs.Links.{OutLink}
 use Rattle.mailbox_master.specs.declared.halves.InwardHalf.{InwardHalf}

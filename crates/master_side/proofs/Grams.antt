@@ -3,18 +3,18 @@ use Rattle.std.proofs.Common.{◌≡◌, ℕ, suc, zero, ◌<◌, ◌==◌, List
 use Rattle.std.proofs.lemmas.List.{length-replicate}
 use Rattle.std.specs.Prelude.{if◌then◌else◌, Ok, option_map, not, is_none, IsSome}
 use Rattle.byteorder.specs.Endian.{little_bytes}
-use Rattle.ec_fields.specs.Fields.{number_at, bits_of}
-use Rattle.datagrams.specs.declared.head.Head.{Head}
-use Rattle.datagrams.specs.Datagram as Raw
-use Rattle.mailbox_mail.specs.declared.mail.Mail.{Mail}
-use Rattle.mailbox_mail.specs.Area.{mail_area}
-use Rattle.mailbox_mail.specs.Mail.{mail_read}
-use Rattle.frame_view.specs.of_link_mails.Body.{Body, link_mail, link_read}
-use Rattle.frame_view.specs.of_link_model.Master.{InHalf}
-use Rattle.frame_view.specs.of_link_model.Link.{Halves}
-use Rattle.frame_view.specs.of_link_model.Frames.{Ask, in_ask}
-use Rattle.frame_view.specs.of_segment_model.Slaves as Slaves
-use Rattle.frame_view.specs.of_segment_model.Slaves.{Access, Datagram}
+use Rattle.master_duty.specs.of_ec_fields.Fields.{number_at, bits_of}
+use Rattle.mailbox_master.specs.of_datagrams.declared.head.Head.{Head}
+use Rattle.mailbox_master.specs.of_datagrams.Datagram as Raw
+use Rattle.master_duty.specs.of_mailbox_mail.declared.mail.Mail.{Mail}
+use Rattle.master_duty.specs.of_mailbox_mail.Area.{mail_area}
+use Rattle.master_duty.specs.of_mailbox_mail.Mail.{mail_read}
+use Rattle.mailbox_master.specs.of_link_mails.Body.{Body, link_mail, link_read}
+use Rattle.mailbox_master.specs.of_link_model.Master.{InHalf}
+use Rattle.mailbox_master.specs.of_link_model.Link.{Halves}
+use Rattle.mailbox_master.specs.of_link_model.Frames.{Ask, in_ask}
+use Rattle.master_duty.specs.of_segment_model.Slaves as Slaves
+use Rattle.master_duty.specs.of_segment_model.Slaves.{Access, Datagram}
 use Rattle.master_duty.specs.of_state_model.Accounts
 use Rattle.master_duty.specs.of_state_model.Accounts.{duty_access, stage_access}
 use Rattle.frame_view.specs.View.{Lens, datagram_seen}
@@ -31,7 +31,7 @@ use Rattle.master_duty.specs.Stages.{stage_of, errand_of, access_of, errand_acce
 use Rattle.master_side.specs.declared.carried.Carried.{Carried}
 use Rattle.master_side.specs.Carried.{Meant, errand_carried, in_hand}
 use Rattle.master_side.specs.Sent.{IsSent, IsWord, write_gram, inward_gram, errand_gram, duty_gram, visit_gram, full_head}
-use Rattle.datagrams.specs.Frame.{datagram_of}
+use Rattle.mailbox_master.specs.of_datagrams.Frame.{datagram_of}
 use Rattle.master_side.specs.Shown.{DutyShows}
 
 -- a number of 16 bits is that of its two octets

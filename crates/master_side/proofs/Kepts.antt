@@ -4,16 +4,16 @@ use Rattle.std.specs.Prelude.{◌&&◌, ◌||◌, not, if◌then◌else◌}
 use Rattle.std.proofs.lemmas.Bool.Decides.{nat_tests}
 use Rattle.frame_view.specs.of_exchange_model.Exchange.{Speech}
 use Rattle.frame_view.specs.of_exchange_model.Rows.{Row, begun}
-use Rattle.frame_view.specs.of_link_mails.Body.{Body}
-use Rattle.frame_view.specs.of_link_model.Counters.{next_counter}
-use Rattle.frame_view.specs.of_link_model.Mails.{LinkMail, seen, differs}
-use Rattle.frame_view.specs.of_link_model.Master.{InState, out_answered}
-use Rattle.frame_view.specs.of_link_model.Link.{Halves}
-use Rattle.frame_view.specs.of_link_model.Frames.{Ask, Gram, in_ask, halves_answered, halves_lost, mail_back}
-use Rattle.frame_view.specs.of_link_model.Segment.{RingFate}
-use Rattle.frame_view.specs.of_segment_model.Record.{Kept, kept_after, nothing_kept, last_told, last_heard}
-use Rattle.frame_view.specs.of_segment_model.Seats.{Side, Choice, side_begins, side_holds, next_mail, side_next, side_back, side_lost, is_write, is_over}
-use Rattle.frame_view.specs.of_segment_model.Slaves.{Datagram, Access}
+use Rattle.mailbox_master.specs.of_link_mails.Body.{Body}
+use Rattle.mailbox_master.specs.of_link_model.Counters.{next_counter}
+use Rattle.mailbox_master.specs.of_link_model.Mails.{LinkMail, seen, differs}
+use Rattle.mailbox_master.specs.of_link_model.Master.{InState, out_answered}
+use Rattle.mailbox_master.specs.of_link_model.Link.{Halves}
+use Rattle.mailbox_master.specs.of_link_model.Frames.{Ask, Gram, in_ask, halves_answered, halves_lost, mail_back}
+use Rattle.mailbox_master.specs.of_link_model.Segment.{RingFate}
+use Rattle.master_duty.specs.of_segment_model.Record.{Kept, kept_after, nothing_kept, last_told, last_heard}
+use Rattle.master_duty.specs.of_segment_model.Seats.{Side, Choice, side_begins, side_holds, next_mail, side_next, side_back, side_lost, is_write, is_over}
+use Rattle.master_duty.specs.of_segment_model.Slaves.{Datagram, Access}
 use Rattle.master_duty.specs.Reply.{Reply}
 use Rattle.master_side.specs.Carried.{Asks, Meant, one}
 use Rattle.master_side.specs.Passing.{IsKept}

@@ -3,13 +3,13 @@ use Rattle.std.proofs.lemmas.Bool.Decides.{nat_tests}
 use Rattle.std.proofs.Common.{◌≡◌, ℕ, ◌==◌, List, [], ◌∷◌, ◌++◌, Bool, true, false, Option, Some, None, refl, sym, ap, ◌∙◌, subst, eq-eqb, arith}
 use Rattle.std.specs.Prelude.{◌&&◌, not, is_some, if◌then◌else◌}
 use Rattle.frame_view.specs.of_exchange_model.Exchange.{Speech}
-use Rattle.frame_view.specs.of_link_mails.Body.{Body}
-use Rattle.frame_view.specs.of_link_model.Counters.{next_counter}
-use Rattle.frame_view.specs.of_link_model.Mails.{LinkMail, news}
-use Rattle.frame_view.specs.of_segment_model.Ends as Ends
-use Rattle.frame_view.specs.of_segment_model.Record.{News, Kept}
-use Rattle.frame_view.specs.of_segment_model.Seats.{Side}
-use Rattle.life_model.specs.Lives.{passes}
+use Rattle.mailbox_master.specs.of_link_mails.Body.{Body}
+use Rattle.mailbox_master.specs.of_link_model.Counters.{next_counter}
+use Rattle.mailbox_master.specs.of_link_model.Mails.{LinkMail, news}
+use Rattle.master_duty.specs.of_segment_model.Ends as Ends
+use Rattle.master_duty.specs.of_segment_model.Record.{News, Kept}
+use Rattle.master_duty.specs.of_segment_model.Seats.{Side}
+use Rattle.frame_view.specs.of_life_model.Lives.{passes}
 use Rattle.master_duty.specs.Reply.{Reply}
 use Rattle.master_side.specs.declared.carried.Carried.{Carried}
 use Rattle.master_side.specs.declared.hand.Heard.{Heard}

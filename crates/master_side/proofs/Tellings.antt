@@ -1,20 +1,20 @@
 -- What a slave's own datagram tells, for a mail that is passed on.
 use Rattle.std.proofs.Common.{◌≡◌, ℕ, ◌==◌, List, [], ◌∷◌, ◌++◌, Bool, true, false, Option, Some, None, refl, sym, ap, ◌∙◌, append-nil, eq-eqb, map}
 use Rattle.std.specs.Prelude.{◌&&◌, is_some, if◌then◌else◌, option_map, slice_index, nat_lt, ⊤}
-use Rattle.ec_fields.specs.Fields.{bits_of, number_at}
+use Rattle.master_duty.specs.of_ec_fields.Fields.{bits_of, number_at}
 use Rattle.frame_view.specs.of_exchange_model.Exchange.{Speech}
-use Rattle.frame_view.specs.of_link_mails.Body.{Body}
-use Rattle.frame_view.specs.of_link_model.Link.{Halves}
-use Rattle.frame_view.specs.of_link_model.Mails.{LinkMail, news}
-use Rattle.frame_view.specs.of_link_model.Master.{InHalf, InState}
-use Rattle.frame_view.specs.of_link_model.Frames.{Ask, Gram, in_ask, halves_accept, mail_back}
-use Rattle.frame_view.specs.of_link_model.Segment.{RingFate}
-use Rattle.frame_view.specs.of_segment_model.Ends as Ends
-use Rattle.frame_view.specs.of_segment_model.Record.{News, Kept, frame_news, without_empty, gram_news, found_news, is_for, mail_told}
-use Rattle.frame_view.specs.of_segment_model.Seats.{Side}
-use Rattle.frame_view.specs.of_segment_model.Slaves.{Datagram, Address, Access, Found}
+use Rattle.mailbox_master.specs.of_link_mails.Body.{Body}
+use Rattle.mailbox_master.specs.of_link_model.Link.{Halves}
+use Rattle.mailbox_master.specs.of_link_model.Mails.{LinkMail, news}
+use Rattle.mailbox_master.specs.of_link_model.Master.{InHalf, InState}
+use Rattle.mailbox_master.specs.of_link_model.Frames.{Ask, Gram, in_ask, halves_accept, mail_back}
+use Rattle.mailbox_master.specs.of_link_model.Segment.{RingFate}
+use Rattle.master_duty.specs.of_segment_model.Ends as Ends
+use Rattle.master_duty.specs.of_segment_model.Record.{News, Kept, frame_news, without_empty, gram_news, found_news, is_for, mail_told}
+use Rattle.master_duty.specs.of_segment_model.Seats.{Side}
+use Rattle.master_duty.specs.of_segment_model.Slaves.{Datagram, Address, Access, Found}
 use Rattle.frame_view.specs.View.{register_counter, found_of, state_found}
-use Rattle.life_model.specs.Lives.{passes}
+use Rattle.frame_view.specs.of_life_model.Lives.{passes}
 use Rattle.mailbox_master.specs.Any.{in_got}
 use Rattle.mailbox_master.specs.Seat.{got_seen}
 use Rattle.mailbox_master.specs.declared.seat.GotView.{GotView}

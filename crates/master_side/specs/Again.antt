@@ -1,6 +1,6 @@
 -- HOW LONG A SLAVE'S NEXT DATAGRAM IS, and that behind a lost frame it is no longer than the one that was lost.
 use Rattle.std.specs.Prelude.{◌≡◌, ◌≤◌, ◌<◌, ◌+◌, ℕ, nat_le, if◌then◌else◌, true, false, Option, is_some, List, length}
-use Rattle.mailbox_mail.specs.declared.mail.Mail.{Mail}
+use Rattle.master_duty.specs.of_mailbox_mail.declared.mail.Mail.{Mail}
 use Rattle.mailbox_master.specs.Any.{in_half_of, in_area_len}
 use Rattle.master_side.specs.Carried.{choice_of, is_read}
 use Rattle.master_side.specs.Sent.{gram_len}

@@ -1,12 +1,12 @@
 -- The datagram of one slave in a frame: what it asks, by what its side remembers, and what came back of it.
 use Rattle.std.specs.Prelude.{◌≡◌, ℕ, ◌==◌, ◌&&◌, not, is_some, Bool, true, false, if◌then◌else◌, List, [], ◌∷◌, length, Option, Some, None}
-use Rattle.mailbox_mail.specs.declared.mail.Mail.{Mail}
-use Rattle.frame_view.specs.of_link_model.Mails.{LinkMail}
-use Rattle.frame_view.specs.of_link_model.Master.{InState}
-use Rattle.frame_view.specs.of_link_model.Link.{Halves}
-use Rattle.frame_view.specs.of_link_model.Frames.{Ask, in_ask}
-use Rattle.frame_view.specs.of_link_mails.Body.{Body}
-use Rattle.frame_view.specs.of_segment_model.Slaves.{Datagram, Address, Access}
+use Rattle.master_duty.specs.of_mailbox_mail.declared.mail.Mail.{Mail}
+use Rattle.mailbox_master.specs.of_link_model.Mails.{LinkMail}
+use Rattle.mailbox_master.specs.of_link_model.Master.{InState}
+use Rattle.mailbox_master.specs.of_link_model.Link.{Halves}
+use Rattle.mailbox_master.specs.of_link_model.Frames.{Ask, in_ask}
+use Rattle.mailbox_master.specs.of_link_mails.Body.{Body}
+use Rattle.master_duty.specs.of_segment_model.Slaves.{Datagram, Address, Access}
 use Rattle.frame_view.specs.View.{link_counter, register_counter, link_mail_in, acknowledge_in, found_of}
 use Rattle.master_duty.specs.declared.duty.Duty.{Duty}
 use Rattle.master_duty.specs.declared.stage.Errand.{Errand}

@@ -1,9 +1,9 @@
 -- WHETHER AN EMPTY READ COUNTS for a mail that is passed on: as the record has it, frame by frame, and as a side knows it.
 use Rattle.std.specs.Prelude.{◌≡◌, ℕ, suc, ◌%◌, ◌==◌, ◌<◌, ◌&&◌, not, Bool, true, if◌then◌else◌, Option, IfSome, List}
-use Rattle.frame_view.specs.of_link_mails.Body.{Body}
-use Rattle.frame_view.specs.of_segment_model.Record.{Frame, Kept, did_read, kept_after, nothing_kept}
-use Rattle.frame_view.specs.of_segment_model.Slaves.{Datagram, grams}
-use Rattle.life_model.specs.Lives.{Stand}
+use Rattle.mailbox_master.specs.of_link_mails.Body.{Body}
+use Rattle.master_duty.specs.of_segment_model.Record.{Frame, Kept, did_read, kept_after, nothing_kept}
+use Rattle.master_duty.specs.of_segment_model.Slaves.{Datagram, grams}
+use Rattle.frame_view.specs.of_life_model.Lives.{Stand}
 use Rattle.master_side.specs.Passing.{counts_at}
 
 -- behind the frame of this number, of which these datagrams came back, none where it was lost

@@ -1,8 +1,8 @@
 -- HOW LONG THE DATAGRAM IS with which a service begins.
 use Rattle.std.specs.Prelude.{◌≡◌, ◌&&◌, not, ℕ, Bool, true, if◌then◌else◌, is_some, Option, Some, ⊤}
-use Rattle.mailbox_mail.specs.declared.mail.Mail.{Mail}
+use Rattle.master_duty.specs.of_mailbox_mail.declared.mail.Mail.{Mail}
 use Rattle.mailbox_master.specs.Any.{in_half_of}
-use Rattle.frame_view.specs.of_link_model.Master.{InState}
+use Rattle.mailbox_master.specs.of_link_model.Master.{InState}
 use Rattle.master_side.specs.Again.{next_with}
 use Rattle.master_side.specs.Carried.{is_clear}
 use Rattle.master_side.specs.Sent.{gram_len}

@@ -1,8 +1,8 @@
 -- The bodies accepted by what the inward half's datagram gave, and what a hand tells of them.
 use Rattle.std.specs.Prelude.{◌≡◌, List, [], ◌∷◌, Option, Some, None, Ok}
-use Rattle.mailbox_mail.specs.declared.mail.MailView.{MailView}
-use Rattle.mailbox_mail.specs.View.{mail_seen}
-use Rattle.frame_view.specs.of_link_mails.Body.{Body, uncounted}
+use Rattle.master_duty.specs.of_mailbox_mail.declared.mail.MailView.{MailView}
+use Rattle.master_duty.specs.of_mailbox_mail.View.{mail_seen}
+use Rattle.mailbox_master.specs.of_link_mails.Body.{Body, uncounted}
 use Rattle.mailbox_master.specs.declared.seat.GotView.{GotView}
 use Rattle.master_side.specs.declared.hand.Heard.{Heard}
 

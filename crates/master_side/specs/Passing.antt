@@ -1,14 +1,14 @@
 -- A MAIL THAT IS PASSED ON, as the side of its slave has it and as the life of its slave does.
 use Rattle.std.specs.Prelude.{◌≡◌, ℕ, ◌/◌, ◌==◌, ◌&&◌, not, nat_lt, is_some, Bool, true, false, if◌then◌else◌, Option, Some, None, List, []}
-use Rattle.frame_view.specs.of_link_mails.Body.{Body}
-use Rattle.frame_view.specs.of_link_model.Counters.{next_counter}
-use Rattle.frame_view.specs.of_link_model.Mails.{LinkMail}
-use Rattle.frame_view.specs.of_link_model.Master.{InState}
-use Rattle.frame_view.specs.of_link_model.Segment.{RingFate}
-use Rattle.frame_view.specs.of_segment_model.Ends as Ends
-use Rattle.frame_view.specs.of_segment_model.Record.{News, Kept, frame_news, without_empty}
-use Rattle.frame_view.specs.of_segment_model.Seats.{Side}
-use Rattle.frame_view.specs.of_segment_model.Slaves.{Datagram}
+use Rattle.mailbox_master.specs.of_link_mails.Body.{Body}
+use Rattle.mailbox_master.specs.of_link_model.Counters.{next_counter}
+use Rattle.mailbox_master.specs.of_link_model.Mails.{LinkMail}
+use Rattle.mailbox_master.specs.of_link_model.Master.{InState}
+use Rattle.mailbox_master.specs.of_link_model.Segment.{RingFate}
+use Rattle.master_duty.specs.of_segment_model.Ends as Ends
+use Rattle.master_duty.specs.of_segment_model.Record.{News, Kept, frame_news, without_empty}
+use Rattle.master_duty.specs.of_segment_model.Seats.{Side}
+use Rattle.master_duty.specs.of_segment_model.Slaves.{Datagram}
 use Rattle.master_duty.specs.Reply.{Reply}
 use Rattle.master_duty.specs.of_state_model.Stated.{Service}
 use Rattle.master_side.specs.declared.passing.Passing.{Passing}

@@ -1,14 +1,14 @@
 -- WHAT A SIDE SHOWS BEHIND A FRAME: its datagram came back, or was lost.
 use Rattle.std.specs.Prelude.{◌≡◌, ℕ, Bool, true, is_some, Option, None, List, map, option_map}
 use Rattle.frame_view.specs.of_exchange_model.Rows.{Row, row_heard}
-use Rattle.frame_view.specs.of_link_mails.Body.{Body}
-use Rattle.frame_view.specs.of_link_model.Frames.{all_accepted}
-use Rattle.frame_view.specs.of_segment_model.Ends as Ends
-use Rattle.frame_view.specs.of_segment_model.Record.{News, Kept}
-use Rattle.frame_view.specs.of_segment_model.Seats as Seats
-use Rattle.frame_view.specs.of_segment_model.Slaves.{Datagram, grams}
-use Rattle.life_model.specs.Lives.{passes}
-use Rattle.mailbox_mail.specs.declared.mail.MailView.{MailView}
+use Rattle.mailbox_master.specs.of_link_mails.Body.{Body}
+use Rattle.mailbox_master.specs.of_link_model.Frames.{all_accepted}
+use Rattle.master_duty.specs.of_segment_model.Ends as Ends
+use Rattle.master_duty.specs.of_segment_model.Record.{News, Kept}
+use Rattle.master_duty.specs.of_segment_model.Seats as Seats
+use Rattle.master_duty.specs.of_segment_model.Slaves.{Datagram, grams}
+use Rattle.frame_view.specs.of_life_model.Lives.{passes}
+use Rattle.master_duty.specs.of_mailbox_mail.declared.mail.MailView.{MailView}
 use Rattle.mailbox_master.specs.Any.{in_half_of}
 use Rattle.master_duty.specs.Reply.{Reply}
 use Rattle.master_duty.specs.of_state_model.Accounts.{duty_access, account_back}

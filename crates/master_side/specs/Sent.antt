@@ -1,14 +1,14 @@
 -- The datagrams that a side sends.
 use Rattle.std.specs.Prelude.{◌≡◌, ◌≤◌, ◌<◌, ◌^◌, ⊤, ℕ, Bool, Option, Some, None, false, List, [], ◌∷◌, length}
 use Rattle.byteorder.specs.Endian.{little_bytes}
-use Rattle.datagrams.specs.declared.command.Command.{Command}
-use Rattle.datagrams.specs.declared.command.Command.TheVariants.{Fprd, Fpwr, Nop}
-use Rattle.datagrams.specs.declared.head.Head.{Head}
-use Rattle.datagrams.specs.Command.{IsNamed}
-use Rattle.datagrams.specs.Datagram.{Datagram}
-use Rattle.datagrams.specs.Frame.{datagram_of}
-use Rattle.mailbox_mail.specs.declared.mail.Mail.{Mail}
-use Rattle.mailbox_mail.specs.Area.{mail_area}
+use Rattle.mailbox_master.specs.of_datagrams.declared.command.Command.{Command}
+use Rattle.mailbox_master.specs.of_datagrams.declared.command.Command.TheVariants.{Fprd, Fpwr, Nop}
+use Rattle.mailbox_master.specs.of_datagrams.declared.head.Head.{Head}
+use Rattle.mailbox_master.specs.of_datagrams.Command.{IsNamed}
+use Rattle.mailbox_master.specs.of_datagrams.Datagram.{Datagram}
+use Rattle.mailbox_master.specs.of_datagrams.Frame.{datagram_of}
+use Rattle.master_duty.specs.of_mailbox_mail.declared.mail.Mail.{Mail}
+use Rattle.master_duty.specs.of_mailbox_mail.Area.{mail_area}
 use Rattle.mailbox_master.specs.declared.halves.InwardHalf.{InwardHalf}
 use Rattle.mailbox_master.specs.Links.{OutLink}
 use Rattle.mailbox_master.specs.Any.{in_station, in_area_len, in_access_of}

@@ -1,13 +1,13 @@
 -- What a side shows of the model's side and account of its slave.
 use Rattle.std.specs.Prelude.{◌≡◌, ℕ, Bool, true, false, Option, Some, None, option_map, List, [], ◌∷◌, ◌++◌, ⊤}
-use Rattle.mailbox_mail.specs.declared.mail.Mail.{Mail}
-use Rattle.frame_view.specs.of_link_mails.Body.{Body}
-use Rattle.frame_view.specs.of_link_model.Link.{new_link}
+use Rattle.master_duty.specs.of_mailbox_mail.declared.mail.Mail.{Mail}
+use Rattle.mailbox_master.specs.of_link_mails.Body.{Body}
+use Rattle.mailbox_master.specs.of_link_model.Link.{new_link}
 use Rattle.frame_view.specs.of_exchange_model.Exchange.{Speech}
 use Rattle.frame_view.specs.of_exchange_model.Rows.{Row}
-use Rattle.frame_view.specs.of_segment_model.Ends.{Outcome}
-use Rattle.frame_view.specs.of_segment_model.Seats
-use Rattle.frame_view.specs.of_segment_model.Seats.{Side, next_mail, side_holds, side_next}
+use Rattle.master_duty.specs.of_segment_model.Ends.{Outcome}
+use Rattle.master_duty.specs.of_segment_model.Seats
+use Rattle.master_duty.specs.of_segment_model.Seats.{Side, next_mail, side_holds, side_next}
 use Rattle.master_duty.specs.of_state_model.Stated.{Service}
 use Rattle.master_duty.specs.of_state_model.Accounts
 use Rattle.master_duty.specs.of_state_model.Accounts.{Account, Started, mails_choice, mails_begin, account_begins, account_next}

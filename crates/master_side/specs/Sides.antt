@@ -1,10 +1,10 @@
 -- WHAT A SIDE SHOWS, by its own hand and halves, and how that goes on before a frame.
 use Rattle.std.specs.Prelude.{◌≡◌, ℕ, Bool, true, false, Option, Some, None, []}
 use Rattle.frame_view.specs.of_exchange_model.Exchange.{Speech}
-use Rattle.frame_view.specs.of_link_mails.Body.{Body}
-use Rattle.frame_view.specs.of_segment_model.Ends as Ends
-use Rattle.frame_view.specs.of_segment_model.Seats as Seats
-use Rattle.frame_view.specs.of_segment_model.Seats.{next_mail}
+use Rattle.mailbox_master.specs.of_link_mails.Body.{Body}
+use Rattle.master_duty.specs.of_segment_model.Ends as Ends
+use Rattle.master_duty.specs.of_segment_model.Seats as Seats
+use Rattle.master_duty.specs.of_segment_model.Seats.{next_mail}
 use Rattle.master_duty.specs.Reply.{Reply}
 use Rattle.master_duty.specs.of_state_model.Stated.{Service}
 use Rattle.master_duty.specs.of_state_model.Accounts.{Account, new_account, is_free, is_acknowledged}

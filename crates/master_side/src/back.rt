@@ -1,11 +1,11 @@
 //! What came back of a slave's own datagram.
 
 ghost use Rattle.std.specs.Prelude.{◌≡◌, ◌==◌, true, false, length, ℕ, Option};
-ghost use Rattle.ec_fields.specs.Fields.{number_at};
-ghost use Rattle.frame_view.specs.of_link_mails.Body.{Body};
-ghost use Rattle.frame_view.specs.of_link_model.Link.{Halves};
-ghost use Rattle.frame_view.specs.of_link_model.Frames.{Ask};
-ghost use Rattle.frame_view.specs.of_segment_model.Slaves.{Access};
+ghost use Rattle.master_duty.specs.of_ec_fields.Fields.{number_at};
+ghost use Rattle.mailbox_master.specs.of_link_mails.Body.{Body};
+ghost use Rattle.mailbox_master.specs.of_link_model.Link.{Halves};
+ghost use Rattle.mailbox_master.specs.of_link_model.Frames.{Ask};
+ghost use Rattle.master_duty.specs.of_segment_model.Slaves.{Access};
 ghost use Rattle.master_duty.specs.of_state_model.Accounts.{access_done};
 ghost use Rattle.frame_view.specs.View.{found_of, state_found};
 ghost use Rattle.master_duty.specs.Stages.{stage_of};
@@ -16,9 +16,9 @@ ghost use Rattle.master_side.specs.Heard.{view_in};
 
 use crate::carried::Carried;
 use crate::passing::is_full;
-use ec_fields::u16_at;
-use mailbox_mail::MailView;
 use mailbox_master::GotView;
+use mailbox_master::ec_fields::u16_at;
+use mailbox_master::mailbox_mail::MailView;
 use master_duty::{Duty, Met};
 
 /// The mail that was accepted.

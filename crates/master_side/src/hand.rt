@@ -2,7 +2,7 @@
 
 ghost use Rattle.std.specs.Prelude.{◌≡◌};
 
-use mailbox_mail::{Kind, MailView};
+use mailbox_master::mailbox_mail::{Kind, MailView};
 
 /// What a mail that was accepted is to the service in hand.
 #[derive(Clone, Copy)]
@@ -21,12 +21,12 @@ pub enum Heard {
 /// row has mails in it that nobody keeps, so that is a relation; the speech of the slave's client is part of it.
 pub trait Hand {
     ghost use Rattle.std.specs.Prelude.{◌≡◌, ◌≤◌, ◌+◌, ℕ, List, [], ◌∷◌, Bool, true, false, Option, Some, None, Ok, option_map, is_some, length, if◌then◌else◌};
-    ghost use Rattle.mailbox_mail.specs.declared.mail.Mail.{Mail};
-    ghost use Rattle.mailbox_mail.specs.View.{mail_seen};
+    ghost use Rattle.master_duty.specs.of_mailbox_mail.declared.mail.Mail.{Mail};
+    ghost use Rattle.master_duty.specs.of_mailbox_mail.View.{mail_seen};
     ghost use Rattle.frame_view.specs.of_exchange_model.Exchange.{Speech};
     ghost use Rattle.frame_view.specs.of_exchange_model.Rows.{Row, begun, row_heard};
-    ghost use Rattle.frame_view.specs.of_link_mails.Body.{Body, uncounted};
-    ghost use Rattle.frame_view.specs.of_segment_model.Seats.{Side, next_mail};
+    ghost use Rattle.mailbox_master.specs.of_link_mails.Body.{Body, uncounted};
+    ghost use Rattle.master_duty.specs.of_segment_model.Seats.{Side, next_mail};
     ghost use Rattle.master_duty.specs.of_state_model.Accounts.{is_free, is_acknowledged};
     ghost use Rattle.master_duty.specs.Reply.{Reply};
     ghost use Rattle.master_side.specs.Due.{IsDue};

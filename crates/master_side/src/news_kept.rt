@@ -3,12 +3,12 @@
 
 ghost use Rattle.std.specs.Prelude.{◌≡◌, ◌≤◌, ℕ, suc, Bool, true, false, Option, None, List, []};
 ghost use Rattle.frame_view.specs.of_exchange_model.Exchange.{Speech};
-ghost use Rattle.frame_view.specs.of_link_mails.Body.{Body};
-ghost use Rattle.frame_view.specs.of_link_model.Segment.{RingFate};
-ghost use Rattle.frame_view.specs.of_segment_model.Record.{Kept, did_read, kept_after, nothing_kept};
-ghost use Rattle.frame_view.specs.of_segment_model.Seats as Seats;
-ghost use Rattle.frame_view.specs.of_segment_model.Seats.{Choice, side_next, side_back, side_lost};
-ghost use Rattle.frame_view.specs.of_segment_model.Slaves.{Access, Datagram, grams};
+ghost use Rattle.mailbox_master.specs.of_link_mails.Body.{Body};
+ghost use Rattle.mailbox_master.specs.of_link_model.Segment.{RingFate};
+ghost use Rattle.master_duty.specs.of_segment_model.Record.{Kept, did_read, kept_after, nothing_kept};
+ghost use Rattle.master_duty.specs.of_segment_model.Seats as Seats;
+ghost use Rattle.master_duty.specs.of_segment_model.Seats.{Choice, side_next, side_back, side_lost};
+ghost use Rattle.master_duty.specs.of_segment_model.Slaves.{Access, Datagram, grams};
 ghost use Rattle.master_duty.specs.Reply.{Reply};
 ghost use Rattle.master_side.specs.Carried.{Meant, IsBack, one};
 ghost use Rattle.master_side.specs.Passing.{IsKept, read_behind};

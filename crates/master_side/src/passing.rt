@@ -1,12 +1,12 @@
 //! How far a mail that is passed on has come.
 
 ghost use Rattle.std.specs.Prelude.{◌≡◌, ◌==◌, slice_index};
-ghost use Rattle.ec_fields.specs.Fields.{bits_of};
+ghost use Rattle.master_duty.specs.of_ec_fields.Fields.{bits_of};
 ghost use Rattle.master_side.specs.Passes.{told_by, written_by, full_by, heard_by, empty_by, status_by};
 
 use crate::carried::Carried;
 use crate::hand::Heard;
-use ec_fields::bits;
+use mailbox_master::ec_fields::bits;
 
 /// How far a mail that is passed on has come.
 #[derive(Clone, Copy)]

@@ -1,31 +1,31 @@
 //! The datagram of a visit.
 
 ghost use Rattle.std.specs.Prelude.{◌≡◌, List, ◌++◌, ◌∷◌, [], Some, ◌-◌, ◌≤◌, ◌+◌, length};
-ghost use Rattle.datagrams.specs.Datagram as Raw;
-ghost use Rattle.datagrams.specs.Frame.{IsBegun, datagram_of};
+ghost use Rattle.mailbox_master.specs.of_datagrams.Datagram as Raw;
+ghost use Rattle.mailbox_master.specs.of_datagrams.Frame.{IsBegun, datagram_of};
 ghost use Rattle.master_side.specs.Carried.{errand_carried};
 ghost use Rattle.master_side.specs.Sent.{errand_gram, errand_octets, head_to, IsSent, IsWord};
-ghost use Rattle.datagrams.specs.declared.command.Command.TheVariants.{Fprd};
+ghost use Rattle.mailbox_master.specs.of_datagrams.declared.command.Command.TheVariants.{Fprd};
 
 use crate::carried::{Carried, Wish};
 use crate::hand::Hand;
 use crate::passing::Passing;
 use crate::side::Side;
-use datagrams::register::{AL_CONTROL, AL_STATUS, MANAGER_0, MANAGER_STATUS};
-use datagrams::{Command, FrameBuf};
-use mailbox_master::{InwardHalf, head_of};
+use mailbox_master::datagrams::register::{AL_CONTROL, AL_STATUS, MANAGER_0, MANAGER_STATUS};
+use mailbox_master::datagrams::{Command, FrameBuf};
+use mailbox_master::{InwardHalf, datagrams, head_of};
 use master_duty::Errand;
 
 impl<H: Hand> Side<H> {
     ghost use Rattle.std.specs.Prelude.{◌≡◌, ◌≤◌, ◌-◌, ℕ, List, ◌++◌, ◌∷◌, [], Option, Some, IsSome, is_some, length, true, false};
-    ghost use Rattle.datagrams.specs.Datagram as Raw;
-    ghost use Rattle.datagrams.specs.Frame.{IsBegun};
+    ghost use Rattle.mailbox_master.specs.of_datagrams.Datagram as Raw;
+    ghost use Rattle.mailbox_master.specs.of_datagrams.Frame.{IsBegun};
     ghost use Rattle.frame_view.specs.of_exchange_model.Exchange.{Speech};
-    ghost use Rattle.frame_view.specs.of_link_mails.Body.{Body};
-    ghost use Rattle.mailbox_mail.specs.declared.mail.Mail.{Mail};
-    ghost use Rattle.frame_view.specs.of_link_model.Link.{Halves};
-    ghost use Rattle.frame_view.specs.of_segment_model.Slaves.{Access};
-    ghost use Rattle.frame_view.specs.of_segment_model.Seats as Seats;
+    ghost use Rattle.mailbox_master.specs.of_link_mails.Body.{Body};
+    ghost use Rattle.master_duty.specs.of_mailbox_mail.declared.mail.Mail.{Mail};
+    ghost use Rattle.mailbox_master.specs.of_link_model.Link.{Halves};
+    ghost use Rattle.master_duty.specs.of_segment_model.Slaves.{Access};
+    ghost use Rattle.master_duty.specs.of_segment_model.Seats as Seats;
     ghost use Rattle.master_duty.specs.of_state_model.Accounts.{Account, duty_access};
     ghost use Rattle.frame_view.specs.View.{Lens, datagram_seen};
     ghost use Rattle.mailbox_master.specs.Any.{in_half_of, in_area_len, in_access_of};

@@ -6,7 +6,7 @@ use crate::back::{duty_left, duty_met, view_in};
 use crate::carried::{Carried, Target, Wish};
 use crate::hand::{Hand, Heard};
 use crate::passing::{Passing, empty, heard, status_passed, told, written};
-use mailbox_mail::MailView;
+use mailbox_master::mailbox_mail::MailView;
 use mailbox_master::{InwardHalf, OutwardSeat, new_inward};
 use master_duty::{Duty, Met};
 
@@ -62,7 +62,7 @@ pub struct Side<H: Hand> {
 impl<H: Hand> Side<H> {
     ghost use Rattle.std.specs.Prelude.{◌≡◌, ◌≤◌, ◌==◌, ◌&&◌, not, ℕ, true, false, List, Option, Some, None, IfSome, is_some, length, if◌then◌else◌};
     ghost use Rattle.frame_view.specs.of_exchange_model.Exchange.{Speech};
-    ghost use Rattle.frame_view.specs.of_link_mails.Body.{Body};
+    ghost use Rattle.mailbox_master.specs.of_link_mails.Body.{Body};
     ghost use Rattle.master_duty.specs.of_state_model.Accounts.{new_account};
     ghost use Rattle.mailbox_master.specs.Any.{in_half_of, in_area_len};
     ghost use Rattle.master_duty.specs.Reply.{Reply};

@@ -1,30 +1,30 @@
 -- What came back of a slave's datagram, for its opening and for its mailboxes.
 use Rattle.std.proofs.Common.{◌≡◌, ℕ, zero, suc, ◌+◌, ◌-◌, ◌≤◌, ◌==◌, Bool, true, false, List, [], ◌∷◌, length, get_or, take, drop, Option, Some, None, refl, sym, ap, ◌∙◌, subst, arith, ◌++◌, length-append}
 use Rattle.std.specs.Prelude.{nat_lt, nat_le, if◌then◌else◌, ◌&&◌, map, cond, Result, Ok, Err}
-use Rattle.datagrams.specs.declared.frame.Part.{Part}
-use Rattle.datagrams.specs.Frame.{datagram_of, frame_read}
-use Rattle.al_state.specs.declared.bringing.BringStep.{BringStep}
-use Rattle.al_state.specs.declared.bringing.BringStep.TheVariants.{Return, Watch, Address, OutOff, InOff, OutManager, InManager, Start, Await}
-use Rattle.al_state.specs.declared.bringing.BringUp.{BringUp}
-use Rattle.al_state.specs.BringUp.{head_of, octets_of}
-use Rattle.frame_view.specs.of_link_mails.Body.{Body}
-use Rattle.frame_view.specs.of_link_model.Frames.{all_accepted}
-use Rattle.frame_view.specs.of_link_model.Link.{Halves}
-use Rattle.frame_view.specs.of_exchange_model.Exchange.{Speech}
-use Rattle.frame_view.specs.of_segment_model.Slaves.{Datagram, Access, Found, grams}
-use Rattle.frame_view.specs.of_segment_model.Returned.{Returns}
-use Rattle.frame_view.specs.of_segment_model.Seats.{Side, side_back, side_lost}
-use Rattle.frame_view.specs.of_state_model.Accounts
-use Rattle.frame_view.specs.of_state_model.Accounts.{Account, account_back, new_account}
-use Rattle.frame_view.specs.of_segment_model.Record.{News}
-use Rattle.frame_view.specs.of_life_model.Lives
-use Rattle.frame_view.specs.of_life_model.Lives.{Life, Spot, Era, era_back, era_lost, life_back, life_lost, reopens, gives_up, returns_to_init}
-use Rattle.frame_view.specs.of_life_model.Own
-use Rattle.frame_view.specs.of_life_model.Tours.{item_at}
-use Rattle.frame_view.specs.View.{Lens, datagram_seen, station_of, found_of, register_counter}
-use Rattle.frame_view.specs.Seen.{part_seen, parts_seen, seen}
-use Rattle.datagrams.specs.declared.frame.Frame.{Frame}
-use Rattle.datagrams.specs.declared.frame.FrameFault.{FrameFault}
+use Rattle.master_side.specs.of_datagrams.declared.frame.Part.{Part}
+use Rattle.master_side.specs.of_datagrams.Frame.{datagram_of, frame_read}
+use Rattle.master_side.specs.of_al_state.declared.bringing.BringStep.{BringStep}
+use Rattle.master_side.specs.of_al_state.declared.bringing.BringStep.TheVariants.{Return, Watch, Address, OutOff, InOff, OutManager, InManager, Start, Await}
+use Rattle.master_side.specs.of_al_state.declared.bringing.BringUp.{BringUp}
+use Rattle.master_side.specs.of_al_state.BringUp.{head_of, octets_of}
+use Rattle.master_side.specs.of_link_mails.Body.{Body}
+use Rattle.master_side.specs.of_link_model.Frames.{all_accepted}
+use Rattle.master_side.specs.of_link_model.Link.{Halves}
+use Rattle.master_side.specs.of_exchange_model.Exchange.{Speech}
+use Rattle.master_side.specs.of_segment_model.Slaves.{Datagram, Access, Found, grams}
+use Rattle.master_side.specs.of_segment_model.Returned.{Returns}
+use Rattle.master_side.specs.of_segment_model.Seats.{Side, side_back, side_lost}
+use Rattle.master_side.specs.of_state_model.Accounts
+use Rattle.master_side.specs.of_state_model.Accounts.{Account, account_back, new_account}
+use Rattle.master_side.specs.of_segment_model.Record.{News}
+use Rattle.master_side.specs.of_life_model.Lives
+use Rattle.master_side.specs.of_life_model.Lives.{Life, Spot, Era, era_back, era_lost, life_back, life_lost, reopens, gives_up, returns_to_init}
+use Rattle.master_side.specs.of_life_model.Own
+use Rattle.master_side.specs.of_life_model.Tours.{item_at}
+use Rattle.master_side.specs.of_frame_view.View.{Lens, datagram_seen, station_of, found_of, register_counter}
+use Rattle.master_side.specs.of_frame_view.Seen.{part_seen, parts_seen, seen}
+use Rattle.master_side.specs.of_datagrams.declared.frame.Frame.{Frame}
+use Rattle.master_side.specs.of_datagrams.declared.frame.FrameFault.{FrameFault}
 use Rattle.master_side.specs.Shown.{new_side}
 use Rattle.std.proofs.lemmas.Bool.{lt-ltb}
 use Rattle.master_side.specs.of_master_duty.Reply.{Reply}

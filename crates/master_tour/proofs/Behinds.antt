@@ -1,12 +1,12 @@
 -- A slave's own datagram of a frame that came back: what it meant, and what came back of it.
 use Rattle.std.proofs.Common.{◌≡◌, ◌+◌, ℕ, Bool, true, List, Option, refl, sym, ap, ◌∙◌, subst, get_or}
 use Rattle.std.specs.Prelude.{map, take, drop}
-use Rattle.datagrams.specs.declared.frame.Part.{Part}
-use Rattle.frame_view.specs.Seen.{part_seen}
-use Rattle.frame_view.specs.View.{Lens, station_of}
-use Rattle.frame_view.specs.of_link_mails.Body.{Body}
-use Rattle.frame_view.specs.of_link_model.Link.{Halves}
-use Rattle.frame_view.specs.of_segment_model.Slaves.{Access, Datagram}
+use Rattle.master_side.specs.of_datagrams.declared.frame.Part.{Part}
+use Rattle.master_side.specs.of_frame_view.Seen.{part_seen}
+use Rattle.master_side.specs.of_frame_view.View.{Lens, station_of}
+use Rattle.master_side.specs.of_link_mails.Body.{Body}
+use Rattle.master_side.specs.of_link_model.Link.{Halves}
+use Rattle.master_side.specs.of_segment_model.Slaves.{Access, Datagram}
 use Rattle.master_side.specs.Carried.{IsBack, Meant, one}
 use Rattle.master_side.specs.declared.carried.Carried.{Carried}
 use Rattle.master_tour.specs.Under.{Grams, IsAt, Under, mine}

@@ -1,20 +1,20 @@
 -- Whether an empty read counts, of a slave of the tour, goes on by its own datagrams and by what a frame turns it into.
 use Rattle.std.proofs.Common.{◌≡◌, ◌≤◌, ℕ, suc, ◌%◌, ◌==◌, List, [], ◌∷◌, Bool, true, false, Option, None, refl, sym, ap, ◌∙◌, subst, get_or, take, drop, ◌+◌, map}
 use Rattle.std.specs.Prelude.{◌&&◌, not, if◌then◌else◌}
-use Rattle.al_state.specs.declared.bringing.BringUp.{BringUp}
-use Rattle.al_state.specs.BringUp.{is_behind_init, step_behind, is_up}
-use Rattle.datagrams.specs.declared.frame.Part.{Part}
-use Rattle.frame_view.specs.View.{Lens, station_of}
-use Rattle.frame_view.specs.Seen.{part_seen}
-use Rattle.frame_view.specs.of_life_model.Lives
-use Rattle.frame_view.specs.of_life_model.Lives.{Life, Spot, opening_back}
-use Rattle.frame_view.specs.of_link_mails.Body.{Body}
-use Rattle.frame_view.specs.of_link_model.Link.{Halves}
-use Rattle.frame_view.specs.of_link_model.Master.{InState}
-use Rattle.frame_view.specs.of_segment_model.Record.{did_read, is_read}
-use Rattle.frame_view.specs.of_segment_model.Slaves.{Datagram, Access, Found, grams}
-use Rattle.frame_view.specs.of_segment_model.Seats.{Side}
-use Rattle.frame_view.specs.of_state_model.Accounts.{Account}
+use Rattle.master_side.specs.of_al_state.declared.bringing.BringUp.{BringUp}
+use Rattle.master_side.specs.of_al_state.BringUp.{is_behind_init, step_behind, is_up}
+use Rattle.master_side.specs.of_datagrams.declared.frame.Part.{Part}
+use Rattle.master_side.specs.of_frame_view.View.{Lens, station_of}
+use Rattle.master_side.specs.of_frame_view.Seen.{part_seen}
+use Rattle.master_side.specs.of_life_model.Lives
+use Rattle.master_side.specs.of_life_model.Lives.{Life, Spot, opening_back}
+use Rattle.master_side.specs.of_link_mails.Body.{Body}
+use Rattle.master_side.specs.of_link_model.Link.{Halves}
+use Rattle.master_side.specs.of_link_model.Master.{InState}
+use Rattle.master_side.specs.of_segment_model.Record.{did_read, is_read}
+use Rattle.master_side.specs.of_segment_model.Slaves.{Datagram, Access, Found, grams}
+use Rattle.master_side.specs.of_segment_model.Seats.{Side}
+use Rattle.master_side.specs.of_state_model.Accounts.{Account}
 use Rattle.master_side.specs.Carried.{Meant, IsBack, one}
 use Rattle.master_side.specs.Passing.{read_behind}
 use Rattle.master_side.specs.declared.carried.Carried.{Carried}

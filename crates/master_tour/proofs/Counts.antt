@@ -2,14 +2,14 @@
 use Rattle.std.proofs.Common.{◌≡◌, inl, inr, ℕ, Bool, true, false, List, [], ◌∷◌, ◌++◌, Option, Some, None, refl, sym, ap, ◌∙◌, append-nil}
 use Rattle.std.specs.Prelude.{◌⊎◌, ◌&&◌, if◌then◌else◌}
 use Rattle.std.proofs.lemmas.List.{append_cancel_left}
-use Rattle.frame_view.specs.of_exchange_model.Exchange.{Speech}
-use Rattle.frame_view.specs.of_link_mails.Body.{Body}
-use Rattle.frame_view.specs.of_segment_model.Ends.{Passing}
-use Rattle.frame_view.specs.of_segment_model.Seats.{Side}
-use Rattle.frame_view.specs.of_state_model.Stated.{Service}
-use Rattle.frame_view.specs.of_state_model.Accounts.{Account, Duty, Started, Pick, is_free, is_acknowledged, account_begins, account_next, starts, state_begins}
-use Rattle.frame_view.specs.of_life_model.Lives
-use Rattle.frame_view.specs.of_life_model.Lives.{Life, granted, life_next}
+use Rattle.master_side.specs.of_exchange_model.Exchange.{Speech}
+use Rattle.master_side.specs.of_link_mails.Body.{Body}
+use Rattle.master_side.specs.of_segment_model.Ends.{Passing}
+use Rattle.master_side.specs.of_segment_model.Seats.{Side}
+use Rattle.master_side.specs.of_state_model.Stated.{Service}
+use Rattle.master_side.specs.of_state_model.Accounts.{Account, Duty, Started, Pick, is_free, is_acknowledged, account_begins, account_next, starts, state_begins}
+use Rattle.master_side.specs.of_life_model.Lives
+use Rattle.master_side.specs.of_life_model.Lives.{Life, granted, life_next}
 use Rattle.master_side.specs.of_master_duty.Reply.{Reply}
 use Rattle.master_side.specs.Shown.{started_by}
 use Rattle.master_tour.specs.Stands.{Counts}

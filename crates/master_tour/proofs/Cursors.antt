@@ -2,15 +2,15 @@
 use Rattle.std.proofs.Common.{◌≡◌, ℕ, suc, ◌+◌, List, [], ◌∷◌, ◌++◌, length, take, Option, Some, None, refl, sym, ap, ◌∙◌, subst, arith, append_assoc, length-append, get_or}
 use Rattle.std.specs.Prelude.{slice_get, map, true, is_some, IfSome, Err}
 use Rattle.std.specs.Option.{option_to_list}
-use Rattle.datagrams.specs.declared.frame.Part.{Part}
-use Rattle.datagrams.specs.declared.frame.FrameFault.{FrameFault}
-use Rattle.datagrams.specs.Datagram.{Datagram, size_of, datagram_text}
-use Rattle.datagrams.specs.Frame.{IsFrame, IsPart, text_of, parts_of, frame_read}
-use Rattle.datagrams.proofs.Building.{text_of-append}
-use Rattle.datagrams.proofs.Header.{frame_read-only}
-use Rattle.datagrams.proofs.Spelled.{length-datagram_text}
-use Rattle.frame_view.specs.View.{Lens}
-use Rattle.frame_view.specs.Seen.{part_seen, parts_seen, seen}
+use Rattle.master_side.specs.of_datagrams.declared.frame.Part.{Part}
+use Rattle.master_side.specs.of_datagrams.declared.frame.FrameFault.{FrameFault}
+use Rattle.master_side.specs.of_datagrams.Datagram.{Datagram, size_of, datagram_text}
+use Rattle.master_side.specs.of_datagrams.Frame.{IsFrame, IsPart, text_of, parts_of, frame_read}
+use Rattle.master_side.proofs.of_datagrams.Building.{text_of-append}
+use Rattle.master_side.proofs.of_datagrams.Header.{frame_read-only}
+use Rattle.master_side.proofs.of_datagrams.Spelled.{length-datagram_text}
+use Rattle.master_side.specs.of_frame_view.View.{Lens}
+use Rattle.master_side.specs.of_frame_view.Seen.{part_seen, parts_seen, seen}
 use Rattle.master_tour.specs.Cursor.{Stands, IsAtOne}
 
 pub stands_first : (octets : List ℕ) (part : Part) → ((ds : List Datagram) → IsFrame octets ds → Some part ≡ slice_get (parts_of 16 ds) 0) → IsAtOne octets 0 part

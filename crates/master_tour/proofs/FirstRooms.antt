@@ -2,7 +2,7 @@
 use Rattle.std.proofs.Common.{◌≡◌, ◌≤◌, ◌-◌, ℕ, Bool, true, false, Option, Some, length, refl, ap, ◌∙◌, subst, arith, leb-true, nat_le, List}
 use Rattle.std.specs.Prelude.{◌&&◌, not, if◌then◌else◌}
 use Rattle.std.proofs.lemmas.List.{length-replicate}
-use Rattle.frame_view.specs.of_link_model.Master.{InState}
+use Rattle.master_side.specs.of_link_model.Master.{InState}
 use Rattle.master_side.specs.of_mailbox_mail.declared.mail.Mail.{Mail}
 use Rattle.master_side.specs.of_mailbox_master.declared.halves.InwardHalf.{InwardHalf}
 use Rattle.master_side.specs.of_mailbox_master.Links.{OutLink}

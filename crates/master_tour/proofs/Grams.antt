@@ -1,19 +1,19 @@
 -- The datagram of a visit is one of its slave, of which a session speaks.
 use Rattle.std.proofs.Common.{◌≡◌, inl, inr, ℕ, ◌+◌, ◌*◌, Bool, true, false, [], ◌∷◌, Option, Some, None, refl, sym, ap, ◌∙◌, subst}
 use Rattle.std.specs.Prelude.{◌&&◌, not, is_some, if◌then◌else◌}
-use Rattle.frame_view.specs.View.{Lens, datagram_seen}
-use Rattle.frame_view.specs.of_link_mails.Body.{Body}
-use Rattle.frame_view.specs.of_link_model.Link.{Halves}
-use Rattle.frame_view.specs.of_link_model.Master.{InState}
+use Rattle.master_side.specs.of_frame_view.View.{Lens, datagram_seen}
+use Rattle.master_side.specs.of_link_mails.Body.{Body}
+use Rattle.master_side.specs.of_link_model.Link.{Halves}
+use Rattle.master_side.specs.of_link_model.Master.{InState}
 use Rattle.master_side.specs.of_mailbox_mail.declared.mail.Mail.{Mail}
 use Rattle.master_side.specs.of_mailbox_master.declared.halves.InwardHalf.{InwardHalf}
 use Rattle.master_side.specs.of_mailbox_master.declared.halves.InwardHalf.TheVariants.{Clear, Doubt, Asked, Refetch}
 use Rattle.master_side.specs.of_mailbox_master.Halves.{bit_number}
 use Rattle.master_side.specs.of_mailbox_master.Links.{OutLink}
 use Rattle.master_side.specs.of_mailbox_master.Any.{in_half_of, in_station, in_area_len}
-use Rattle.frame_view.specs.of_segment_model.Slaves.{Access}
-use Rattle.frame_view.specs.of_segment_model.Seats.{Side}
-use Rattle.frame_view.specs.of_state_model.Accounts.{Account, duty_access}
+use Rattle.master_side.specs.of_segment_model.Slaves.{Access}
+use Rattle.master_side.specs.of_segment_model.Seats.{Side}
+use Rattle.master_side.specs.of_state_model.Accounts.{Account, duty_access}
 use Rattle.master_side.specs.of_master_duty.declared.duty.Duty.{Duty}
 use Rattle.master_side.specs.of_master_duty.declared.stage.Met.{Met}
 use Rattle.master_side.specs.of_master_duty.declared.stage.Errand.{Errand}
@@ -23,8 +23,8 @@ use Rattle.master_side.specs.declared.carried.Carried.{Carried}
 use Rattle.master_side.specs.declared.passing.Passing.{Passing}
 use Rattle.master_side.specs.Carried.{Meant, is_clear, link_choice, drain_choice, errand_choice, mails_choice, choice_of, duty_choice, in_hand}
 use Rattle.master_side.specs.Sent.{write_gram, inward_gram, errand_gram, duty_gram, visit_gram}
-use Rattle.frame_view.specs.of_life_model.Lives.{Life, Spot}
-use Rattle.frame_view.specs.Frames.{IsOpenGram, IsRequest, GramFor}
+use Rattle.master_side.specs.of_life_model.Lives.{Life, Spot}
+use Rattle.master_side.specs.of_frame_view.Frames.{IsOpenGram, IsRequest, GramFor}
 use Rattle.master_tour.specs.declared.stop.Stand.{Stand}
 use Rattle.master_tour.specs.Stands.{StandMeant, stand_gram}
 use Rattle.master_tour.specs.Made.{StopLives}

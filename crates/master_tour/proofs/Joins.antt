@@ -1,7 +1,7 @@
 -- What is joined of the mails accepted, where none was.
 use Rattle.std.proofs.Common.{◌≡◌, [], List, Option, None, refl, sym, ap, ◌∙◌, subst, true, false}
 use Rattle.std.specs.Prelude.{Bool, if◌then◌else◌}
-use Rattle.frame_view.specs.of_link_mails.Body.{Body}
+use Rattle.master_side.specs.of_link_mails.Body.{Body}
 use Rattle.master_side.specs.Heard.{Brought, HasJoined, joined_by}
 use Rattle.master_side.specs.declared.hand.Heard.{Heard}
 use Rattle.master_tour.specs.Joins.{Joins, join_behind}

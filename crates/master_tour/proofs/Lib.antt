@@ -1,3 +1,5 @@
+pub use Rattle.master_side.proofs.of_frame_view as of_frame_view
+pub use Rattle.master_side.proofs.of_life_model as of_life_model
 pub use Rattle.master_side.proofs as of_master_side
 pub mod Unders
 pub mod Visits

@@ -2,33 +2,33 @@
 use Rattle.std.proofs.Common.{◌≡◌, ℕ, suc, ◌+◌, Bool, true, false, List, [], ◌∷◌, ◌++◌, length, Option, Some, None, refl, sym, ap, ◌∙◌, subst, arith, length-append, append-nil}
 use Rattle.std.specs.Prelude.{is_some, if◌then◌else◌, nat_le, nat_lt}
 use Rattle.std.proofs.lemmas.Bool.{ltb-true, leb-true}
-use Rattle.datagrams.specs.Datagram as Raw
-use Rattle.datagrams.specs.Frame.{IsBegun}
-use Rattle.frame_view.specs.of_exchange_model.Exchange.{Speech}
-use Rattle.frame_view.specs.View.{Lens, datagram_seen}
-use Rattle.frame_view.specs.of_link_mails.Body.{Body}
+use Rattle.master_side.specs.of_datagrams.Datagram as Raw
+use Rattle.master_side.specs.of_datagrams.Frame.{IsBegun}
+use Rattle.master_side.specs.of_exchange_model.Exchange.{Speech}
+use Rattle.master_side.specs.of_frame_view.View.{Lens, datagram_seen}
+use Rattle.master_side.specs.of_link_mails.Body.{Body}
 use Rattle.master_side.specs.of_mailbox_mail.declared.mail.Mail.{Mail}
 use Rattle.master_side.specs.of_mailbox_master.declared.halves.InwardHalf.{InwardHalf}
 use Rattle.master_side.specs.of_mailbox_master.Links.{OutLink}
 use Rattle.master_side.specs.of_mailbox_master.Any.{in_station, in_area_len}
-use Rattle.frame_view.specs.of_segment_model.Ends.{Passing}
-use Rattle.frame_view.specs.of_segment_model.Seats.{Side}
-use Rattle.frame_view.specs.of_state_model.Accounts.{Account, Pick}
+use Rattle.master_side.specs.of_segment_model.Ends.{Passing}
+use Rattle.master_side.specs.of_segment_model.Seats.{Side}
+use Rattle.master_side.specs.of_state_model.Accounts.{Account, Pick}
 use Rattle.master_side.specs.of_master_duty.declared.stage.Met.{Met}
 use Rattle.master_side.specs.of_master_duty.Reply.{Reply}
 use Rattle.master_side.specs.declared.carried.Carried.{Carried}
 use Rattle.master_side.specs.declared.passing.Passing as Side
-use Rattle.frame_view.specs.of_life_model.Lives
-use Rattle.frame_view.specs.of_life_model.Lives.{Life, Spot, life_next, era_next}
-use Rattle.frame_view.specs.Frames.{AllNotFor, IsNotFor, HasOne, AreApart}
-use Rattle.frame_view.specs.Shares.{Lived, AllBoth, AllFrom, AllThree}
+use Rattle.master_side.specs.of_life_model.Lives
+use Rattle.master_side.specs.of_life_model.Lives.{Life, Spot, life_next, era_next}
+use Rattle.master_side.specs.of_frame_view.Frames.{AllNotFor, IsNotFor, HasOne, AreApart}
+use Rattle.master_side.specs.of_frame_view.Shares.{Lived, AllBoth, AllFrom, AllThree}
 use Rattle.master_tour.specs.Walks.{EachPair}
-use Rattle.frame_view.proofs.Frames.{none_more, one_more, one_new}
-use Rattle.frame_view.proofs.Twice.{twice, stays, still_stands}
-use Rattle.al_state.specs.declared.bringing.BringUp.{BringUp}
+use Rattle.master_side.proofs.of_frame_view.Frames.{none_more, one_more, one_new}
+use Rattle.master_side.proofs.of_frame_view.Twice.{twice, stays, still_stands}
+use Rattle.master_side.specs.of_al_state.declared.bringing.BringUp.{BringUp}
 use Rattle.master_tour.specs.declared.stop.Stand.{Stand}
 use Rattle.master_tour.specs.Stands.{StopShows, StandMeant, NextShows, HoldShows, Counts, stand_gram}
-use Rattle.frame_view.specs.of_state_model.Stated.{Service}
+use Rattle.master_side.specs.of_state_model.Stated.{Service}
 use Rattle.master_side.specs.Shown.{started_by}
 use Rattle.master_tour.specs.Made.{IsPlanned, IsSized, StopLives, StopHas, IsClearFor, ComesAt, StopMade, is_in}
 use Rattle.master_tour.proofs.Counts.{counted_begin, counts_none}

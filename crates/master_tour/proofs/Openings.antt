@@ -2,20 +2,20 @@
 use Rattle.std.proofs.Common.{◌≡◌, ℕ, ◌-◌, ◌<◌, ◌==◌, Bool, true, false, List, [], ◌∷◌, ◌++◌, length, Option, Some, None, refl, sym, ap, ◌∙◌, subst, arith, length-append, eq-eqb}
 use Rattle.std.specs.Prelude.{nat_lt, nat_le, if◌then◌else◌, ◌&&◌, not}
 use Rattle.std.proofs.lemmas.Bool.{eqb-true, le-ltb, lt-ltb, ltb-true, ltb-false}
-use Rattle.datagrams.specs.of_ec_fields.Fields.{bits_of, number_at}
-use Rattle.al_state.specs.declared.bringing.BringStep.{BringStep}
-use Rattle.al_state.specs.declared.bringing.BringStep.TheVariants.{Return, Watch, Address, OutOff, InOff, OutManager, InManager, Start, Await}
-use Rattle.al_state.specs.declared.bringing.BringUp.{BringUp}
-use Rattle.al_state.specs.BringUp.{is_behind_init, step_behind, is_up, shows}
-use Rattle.frame_view.specs.of_link_mails.Body.{Body}
-use Rattle.frame_view.specs.of_exchange_model.Exchange.{Speech}
-use Rattle.frame_view.specs.of_segment_model.Slaves.{Datagram, Access, Found}
-use Rattle.frame_view.specs.of_segment_model.Record.{News}
-use Rattle.frame_view.specs.of_segment_model.Seats.{Side}
-use Rattle.frame_view.specs.of_state_model.Accounts.{Account, new_account}
-use Rattle.frame_view.specs.of_life_model.Lives
-use Rattle.frame_view.specs.of_life_model.Lives.{Opening, Life, Spot, is_shown, opening_back, opens, new_era, life_back}
-use Rattle.frame_view.specs.View.{found_of, state_found}
+use Rattle.master_side.specs.of_ec_fields.Fields.{bits_of, number_at}
+use Rattle.master_side.specs.of_al_state.declared.bringing.BringStep.{BringStep}
+use Rattle.master_side.specs.of_al_state.declared.bringing.BringStep.TheVariants.{Return, Watch, Address, OutOff, InOff, OutManager, InManager, Start, Await}
+use Rattle.master_side.specs.of_al_state.declared.bringing.BringUp.{BringUp}
+use Rattle.master_side.specs.of_al_state.BringUp.{is_behind_init, step_behind, is_up, shows}
+use Rattle.master_side.specs.of_link_mails.Body.{Body}
+use Rattle.master_side.specs.of_exchange_model.Exchange.{Speech}
+use Rattle.master_side.specs.of_segment_model.Slaves.{Datagram, Access, Found}
+use Rattle.master_side.specs.of_segment_model.Record.{News}
+use Rattle.master_side.specs.of_segment_model.Seats.{Side}
+use Rattle.master_side.specs.of_state_model.Accounts.{Account, new_account}
+use Rattle.master_side.specs.of_life_model.Lives
+use Rattle.master_side.specs.of_life_model.Lives.{Opening, Life, Spot, is_shown, opening_back, opens, new_era, life_back}
+use Rattle.master_side.specs.of_frame_view.View.{found_of, state_found}
 use Rattle.master_side.specs.of_master_duty.Reply.{Reply}
 use Rattle.master_side.specs.Shown.{new_side}
 use Rattle.master_tour.specs.declared.stop.Stand.{Stand}

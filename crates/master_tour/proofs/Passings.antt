@@ -1,23 +1,23 @@
 -- A mail that is passed on: what a frame tells a slave is what its own datagram tells, and the life goes on by it as the stop does.
 use Rattle.std.proofs.Common.{◌≡◌, ℕ, ◌==◌, List, [], ◌∷◌, ◌++◌, Bool, true, false, Option, Some, None, refl, sym, ap, ◌∙◌, subst, get_or, take, drop, ◌+◌, map, length}
 use Rattle.std.specs.Prelude.{◌&&◌, not, nat_lt, is_some, if◌then◌else◌}
-use Rattle.al_state.specs.declared.bringing.BringUp.{BringUp}
-use Rattle.al_state.specs.BringUp.{is_behind_init, step_behind, is_up}
-use Rattle.datagrams.specs.declared.frame.Part.{Part}
-use Rattle.frame_view.specs.of_exchange_model.Exchange.{Speech}
-use Rattle.frame_view.specs.View.{Lens, station_of}
-use Rattle.frame_view.specs.Seen.{part_seen}
-use Rattle.frame_view.specs.of_life_model.Lives
-use Rattle.frame_view.specs.of_life_model.Lives.{Life, Spot, granted, passing_begins, passes, opening_back, opens, new_era, reopens, reopens_at, returns_to_init, reopening, opens_state, era_back, life_next, life_back, life_lost}
-use Rattle.frame_view.specs.of_link_mails.Body.{Body}
-use Rattle.frame_view.specs.of_link_model.Link.{Halves}
-use Rattle.frame_view.specs.of_segment_model.Ends as Ends
-use Rattle.frame_view.specs.of_segment_model.Record.{News, Kept, without_empty, all_told, back_news, datagram_news, mail_told, last_told, gram_news, last_heard, found_news}
-use Rattle.frame_view.specs.of_segment_model.Slaves.{Datagram, Access, Found, grams}
-use Rattle.frame_view.specs.of_segment_model.Seats.{Side}
-use Rattle.frame_view.specs.of_state_model.Stated.{Service}
-use Rattle.frame_view.specs.of_state_model.Accounts
-use Rattle.frame_view.specs.of_state_model.Accounts.{Account, Pick, account_next}
+use Rattle.master_side.specs.of_al_state.declared.bringing.BringUp.{BringUp}
+use Rattle.master_side.specs.of_al_state.BringUp.{is_behind_init, step_behind, is_up}
+use Rattle.master_side.specs.of_datagrams.declared.frame.Part.{Part}
+use Rattle.master_side.specs.of_exchange_model.Exchange.{Speech}
+use Rattle.master_side.specs.of_frame_view.View.{Lens, station_of}
+use Rattle.master_side.specs.of_frame_view.Seen.{part_seen}
+use Rattle.master_side.specs.of_life_model.Lives
+use Rattle.master_side.specs.of_life_model.Lives.{Life, Spot, granted, passing_begins, passes, opening_back, opens, new_era, reopens, reopens_at, returns_to_init, reopening, opens_state, era_back, life_next, life_back, life_lost}
+use Rattle.master_side.specs.of_link_mails.Body.{Body}
+use Rattle.master_side.specs.of_link_model.Link.{Halves}
+use Rattle.master_side.specs.of_segment_model.Ends as Ends
+use Rattle.master_side.specs.of_segment_model.Record.{News, Kept, without_empty, all_told, back_news, datagram_news, mail_told, last_told, gram_news, last_heard, found_news}
+use Rattle.master_side.specs.of_segment_model.Slaves.{Datagram, Access, Found, grams}
+use Rattle.master_side.specs.of_segment_model.Seats.{Side}
+use Rattle.master_side.specs.of_state_model.Stated.{Service}
+use Rattle.master_side.specs.of_state_model.Accounts
+use Rattle.master_side.specs.of_state_model.Accounts.{Account, Pick, account_next}
 use Rattle.master_side.specs.Carried.{Meant, IsBack, one}
 use Rattle.master_side.specs.Passing.{PassingShows, passing_seen, passing_behind, news_back, news_lost}
 use Rattle.master_side.specs.Shown.{started_by}

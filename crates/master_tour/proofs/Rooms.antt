@@ -1,7 +1,7 @@
 -- Whether a frame has room for a slave's datagram.
 use Rattle.std.proofs.Common.{◌≡◌, ◌≤◌, ◌+◌, ◌-◌, ◌<◌, ℕ, Bool, true, false, List, length, refl, sym, ap, ◌∙◌, subst, nat_le, leb-true, leb-false, arith}
-use Rattle.al_state.specs.declared.bringing.BringUp.{BringUp}
-use Rattle.al_state.specs.BringUp.{octets_of}
+use Rattle.master_side.specs.of_al_state.declared.bringing.BringUp.{BringUp}
+use Rattle.master_side.specs.of_al_state.BringUp.{octets_of}
 use Rattle.master_side.specs.Again.{HasNoRoom, IsOnWay, Repeats, area_of, sent_len}
 use Rattle.master_side.specs.declared.hand.Hand.{Ghosts}
 use Rattle.master_side.specs.declared.side.Side.{Side}

@@ -2,37 +2,37 @@
 use Rattle.std.proofs.Common.{◌≡◌, inl, inr, ℕ, zero, suc, ◌==◌, Bool, true, false, List, [], ◌∷◌, ◌++◌, length, Option, Some, None, refl, sym, ap, ◌∙◌, subst, eq-eqb, arith}
 use Rattle.std.specs.Prelude.{◌≤◌, if◌then◌else◌, cond, nat_le}
 use Rattle.std.proofs.lemmas.Bool.{leb-true}
-use Rattle.datagrams.specs.Datagram as Raw
-use Rattle.frame_view.specs.of_exchange_model.Exchange.{Speech}
-use Rattle.frame_view.specs.View.{Lens, datagram_seen, link_counter, found_of}
-use Rattle.frame_view.specs.Seen.{datagrams_seen}
-use Rattle.frame_view.specs.of_link_mails.Body.{Body}
-use Rattle.frame_view.specs.of_link_model.Mails.{LinkMail}
-use Rattle.frame_view.specs.of_link_model.Master.{InState, InHalf}
-use Rattle.frame_view.specs.of_link_model.Link.{Halves}
-use Rattle.frame_view.specs.of_link_model.Frames.{Gram, IsSent, IsFrameFor}
-use Rattle.frame_view.specs.of_link_model.Frames as Frames
+use Rattle.master_side.specs.of_datagrams.Datagram as Raw
+use Rattle.master_side.specs.of_exchange_model.Exchange.{Speech}
+use Rattle.master_side.specs.of_frame_view.View.{Lens, datagram_seen, link_counter, found_of}
+use Rattle.master_side.specs.of_frame_view.Seen.{datagrams_seen}
+use Rattle.master_side.specs.of_link_mails.Body.{Body}
+use Rattle.master_side.specs.of_link_model.Mails.{LinkMail}
+use Rattle.master_side.specs.of_link_model.Master.{InState, InHalf}
+use Rattle.master_side.specs.of_link_model.Link.{Halves}
+use Rattle.master_side.specs.of_link_model.Frames.{Gram, IsSent, IsFrameFor}
+use Rattle.master_side.specs.of_link_model.Frames as Frames
 use Rattle.master_side.specs.of_mailbox_mail.declared.mail.Mail.{Mail}
 use Rattle.master_side.specs.of_mailbox_master.declared.halves.InwardHalf.{InwardHalf}
 use Rattle.master_side.specs.of_mailbox_master.Links.{OutLink}
 use Rattle.master_side.specs.of_mailbox_master.Any.{in_half_of, in_station, in_area_len}
-use Rattle.frame_view.specs.of_segment_model.Slaves.{Datagram, Access, grams}
-use Rattle.frame_view.specs.of_segment_model.Record.{is_for}
-use Rattle.frame_view.specs.of_segment_model.Seats.{Side}
-use Rattle.frame_view.specs.of_state_model.Stated.{Service}
-use Rattle.frame_view.specs.of_state_model.Accounts.{Account, IsServed, is_quiet, duty_access}
+use Rattle.master_side.specs.of_segment_model.Slaves.{Datagram, Access, grams}
+use Rattle.master_side.specs.of_segment_model.Record.{is_for}
+use Rattle.master_side.specs.of_segment_model.Seats.{Side}
+use Rattle.master_side.specs.of_state_model.Stated.{Service}
+use Rattle.master_side.specs.of_state_model.Accounts.{Account, IsServed, is_quiet, duty_access}
 use Rattle.master_side.specs.of_master_duty.declared.stage.Met.{Met}
 use Rattle.master_side.specs.of_master_duty.Reply.{Reply}
 use Rattle.master_side.specs.declared.carried.Carried.{Carried}
 use Rattle.master_side.specs.declared.passing.Passing.{Passing}
 use Rattle.master_side.specs.Carried.{Meant, one}
 use Rattle.master_side.specs.Sent.{visit_gram}
-use Rattle.frame_view.specs.of_life_model.Lives
-use Rattle.frame_view.specs.of_life_model.Lives.{Life, Era, Spot, AsksOpen, ReadsFull}
-use Rattle.frame_view.specs.of_life_model.Own.{own}
-use Rattle.frame_view.specs.Frames.{AllNotFor, HasOne, FrameFor}
-use Rattle.frame_view.specs.Shares.{Lived, AllFrom, AllThree}
-use Rattle.frame_view.proofs.Frames.{own_none, own_one, not_gram}
+use Rattle.master_side.specs.of_life_model.Lives
+use Rattle.master_side.specs.of_life_model.Lives.{Life, Era, Spot, AsksOpen, ReadsFull}
+use Rattle.master_side.specs.of_life_model.Own.{own}
+use Rattle.master_side.specs.of_frame_view.Frames.{AllNotFor, HasOne, FrameFor}
+use Rattle.master_side.specs.of_frame_view.Shares.{Lived, AllFrom, AllThree}
+use Rattle.master_side.proofs.of_frame_view.Frames.{own_none, own_one, not_gram}
 use Rattle.master_tour.specs.declared.stop.Stand.{Stand}
 use Rattle.master_tour.specs.Under.{Grams, mine, IsAt, Under}
 use Rattle.master_tour.specs.Stands.{StandUnder, OpensUnder, stand_gram}

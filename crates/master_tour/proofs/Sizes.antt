@@ -1,7 +1,7 @@
 -- The length in the header of a frame that is sent is that of its datagrams.
 use Rattle.std.proofs.Common.{◌≡◌, ◌≤◌, ◌+◌, ◌-◌, ◌*◌, ◌%◌, ◌/◌, ◌^◌, ℕ, List, length, ap, ◌∙◌, arith}
-use Rattle.datagrams.specs.Datagram.{Datagram}
-use Rattle.datagrams.specs.Frame.{IsBegun, chained, frame_text, text_of}
+use Rattle.master_side.specs.of_datagrams.Datagram.{Datagram}
+use Rattle.master_side.specs.of_datagrams.Frame.{IsBegun, chained, frame_text, text_of}
 use Rattle.master_tour.specs.Sizes.{frame_size}
 
 size_number : (n : ℕ) → n ≤ 1498 → ((n + 4096) % 256 + 256 * ((n + 4096) / 256 % 256 + 256 * 0)) / 2 ^ 0 % 2 ^ 11 ≡ n

@@ -2,16 +2,16 @@
 use Rattle.std.proofs.Common.{◌≡◌, ℕ, zero, suc, ◌+◌, ◌<◌, ◌==◌, Bool, true, false, List, [], ◌∷◌, ◌++◌, length, get_or, set, refl, sym, subst, arith}
 use Rattle.std.specs.Prelude.{⊤}
 use Rattle.std.proofs.lemmas.Bool.{eqb-true}
-use Rattle.datagrams.specs.Datagram as Raw
-use Rattle.frame_view.specs.View.{Lens}
-use Rattle.datagrams.specs.Command.{IsNamed}
-use Rattle.datagrams.specs.Frame.{IsBegun, Each}
-use Rattle.frame_view.specs.of_life_model.Lives
-use Rattle.frame_view.specs.of_life_model.Lives.{Spot}
+use Rattle.master_side.specs.of_datagrams.Datagram as Raw
+use Rattle.master_side.specs.of_frame_view.View.{Lens}
+use Rattle.master_side.specs.of_datagrams.Command.{IsNamed}
+use Rattle.master_side.specs.of_datagrams.Frame.{IsBegun, Each}
+use Rattle.master_side.specs.of_life_model.Lives
+use Rattle.master_side.specs.of_life_model.Lives.{Spot}
 use Rattle.master_side.specs.of_master_duty.Reply.{Reply}
-use Rattle.frame_view.specs.Frames.{IsNotFor, GramFor, AreApart}
-use Rattle.frame_view.specs.Shares.{Lived, AllFrom, IsElsewhere, AreDistinct}
-use Rattle.frame_view.proofs.Frames.{apart_back, not_for, gram_named}
+use Rattle.master_side.specs.of_frame_view.Frames.{IsNotFor, GramFor, AreApart}
+use Rattle.master_side.specs.of_frame_view.Shares.{Lived, AllFrom, IsElsewhere, AreDistinct}
+use Rattle.master_side.proofs.of_frame_view.Frames.{apart_back, not_for, gram_named}
 use Rattle.master_tour.specs.Walks.{StepsAt}
 use Rattle.master_tour.specs.Made.{FrameMade}
 use Rattle.master_tour.proofs.Walks.{steps_set}

@@ -2,25 +2,25 @@
 use Rattle.std.proofs.Common.{◌≡◌, ◌+◌, ℕ, zero, suc, ◌==◌, List, [], ◌∷◌, ◌++◌, Bool, true, false, Option, Some, None, refl, sym, ap, ◌∙◌, subst, eq-eqb, length, get_or, ◌<◌, ◌≤◌, arith, length-append, ◌-◌}
 use Rattle.std.proofs.lemmas.Bool.{eqb-true}
 use Rattle.std.specs.Prelude.{◌&&◌, ◌||◌, not, nat_le, ⊤, if◌then◌else◌, option_map, map, take, drop}
-use Rattle.frame_view.specs.of_exchange_model.Rows.{Row, row_heard}
-use Rattle.datagrams.specs.declared.frame.Part.{Part}
-use Rattle.frame_view.specs.of_link_model.Link.{Halves}
-use Rattle.frame_view.specs.of_link_model.Frames.{Ask, Gram, halves_answered, halves_accept, halves_lost, halves_after, halves_without, all_accepted, own}
-use Rattle.frame_view.specs.of_link_mails.Body.{Body}
-use Rattle.frame_view.specs.of_segment_model.Slaves.{Datagram, Address, Access, grams}
-use Rattle.frame_view.specs.of_segment_model.Record.{is_for}
-use Rattle.frame_view.specs.of_segment_model.Seats.{Side, writes, is_write, side_lost, side_back}
-use Rattle.frame_view.specs.of_state_model.Accounts
-use Rattle.frame_view.specs.of_state_model.Accounts.{Account, account_back, account_met, account_by, access_done}
-use Rattle.datagrams.specs.Frame.{IsPart, text_of}
-use Rattle.datagrams.proofs.Building.{text_of-append}
-use Rattle.frame_view.specs.of_exchange_model.Exchange.{Speech}
+use Rattle.master_side.specs.of_exchange_model.Rows.{Row, row_heard}
+use Rattle.master_side.specs.of_datagrams.declared.frame.Part.{Part}
+use Rattle.master_side.specs.of_link_model.Link.{Halves}
+use Rattle.master_side.specs.of_link_model.Frames.{Ask, Gram, halves_answered, halves_accept, halves_lost, halves_after, halves_without, all_accepted, own}
+use Rattle.master_side.specs.of_link_mails.Body.{Body}
+use Rattle.master_side.specs.of_segment_model.Slaves.{Datagram, Address, Access, grams}
+use Rattle.master_side.specs.of_segment_model.Record.{is_for}
+use Rattle.master_side.specs.of_segment_model.Seats.{Side, writes, is_write, side_lost, side_back}
+use Rattle.master_side.specs.of_state_model.Accounts
+use Rattle.master_side.specs.of_state_model.Accounts.{Account, account_back, account_met, account_by, access_done}
+use Rattle.master_side.specs.of_datagrams.Frame.{IsPart, text_of}
+use Rattle.master_side.proofs.of_datagrams.Building.{text_of-append}
+use Rattle.master_side.specs.of_exchange_model.Exchange.{Speech}
 use Rattle.master_side.specs.of_master_duty.Reply.{Reply}
-use Rattle.frame_view.specs.View.{Lens, station_of, address_of, place_of, is_own, read_access, write_access, access_of}
-use Rattle.datagrams.specs.of_ec_fields.Fields.{number_at, bits_of}
-use Rattle.datagrams.specs.declared.command.Command.TheVariants.{Nop, Aprd, Apwr, Aprw, Fprd, Fpwr, Fprw, Brd, Bwr, Brw, Lrd, Lwr, Lrw, Armw, Frmw, Other}
-use Rattle.datagrams.specs.declared.command.Command.{Command}
-use Rattle.frame_view.specs.Seen.{part_seen}
+use Rattle.master_side.specs.of_frame_view.View.{Lens, station_of, address_of, place_of, is_own, read_access, write_access, access_of}
+use Rattle.master_side.specs.of_ec_fields.Fields.{number_at, bits_of}
+use Rattle.master_side.specs.of_datagrams.declared.command.Command.TheVariants.{Nop, Aprd, Apwr, Aprw, Fprd, Fpwr, Fprw, Brd, Bwr, Brw, Lrd, Lwr, Lrw, Armw, Frmw, Other}
+use Rattle.master_side.specs.of_datagrams.declared.command.Command.{Command}
+use Rattle.master_side.specs.of_frame_view.Seen.{part_seen}
 use Rattle.master_side.specs.Carried.{Asks, Meant, IsBack, one}
 use Rattle.master_side.specs.declared.carried.Carried.{Carried}
 use Rattle.master_side.specs.Shown.{SideShows}
@@ -28,7 +28,7 @@ use Rattle.master_side.specs.of_mailbox_mail.declared.mail.Mail.{Mail}
 use Rattle.master_side.specs.of_mailbox_master.Links.{OutLink}
 use Rattle.master_side.specs.of_mailbox_master.declared.halves.InwardHalf.{InwardHalf}
 use Rattle.master_side.specs.of_master_duty.declared.stage.Met.{Met}
-use Rattle.frame_view.specs.of_segment_model.Returned.{Returns, IsReturn}
+use Rattle.master_side.specs.of_segment_model.Returned.{Returns, IsReturn}
 use Rattle.master_tour.specs.Under.{Grams, mine, IsAt, Under}
 
 -- the folds over a slave's own datagrams

@@ -1,17 +1,17 @@
 -- A life in which no mail that is passed on came into hand has none in hand.
 use Rattle.std.proofs.Common.{◌≡◌, ℕ, Bool, true, false, List, Option, Some, None, refl, ap, ◌∙◌}
 use Rattle.std.specs.Prelude.{◌&&◌, ◌==◌, nat_lt, length, if◌then◌else◌}
-use Rattle.frame_view.specs.of_exchange_model.Exchange.{Speech}
-use Rattle.frame_view.specs.of_link_mails.Body.{Body}
-use Rattle.frame_view.specs.of_segment_model.Ends.{Passing}
-use Rattle.frame_view.specs.of_segment_model.Record.{News}
-use Rattle.frame_view.specs.of_segment_model.Slaves.{Datagram, Found}
-use Rattle.frame_view.specs.of_state_model.Stated.{Service}
-use Rattle.frame_view.specs.of_state_model.Accounts.{Account, Duty, Stage, Pick, account_next}
-use Rattle.frame_view.specs.of_life_model.Lives
-use Rattle.frame_view.specs.of_life_model.Lives.{Life, Opening, Spot, granted, passing_begins, passes, opening_back, clears, opens, steps_on, shows_clear, last_step, is_shown, reopens, reopens_at, returns_to_init, reopening, opens_state, life_next, era_back, life_back, life_lost}
-use Rattle.frame_view.specs.Frames.{Share}
-use Rattle.frame_view.specs.Shares.{Lived, given_where, came_at, lived_back, lived_lost}
+use Rattle.master_side.specs.of_exchange_model.Exchange.{Speech}
+use Rattle.master_side.specs.of_link_mails.Body.{Body}
+use Rattle.master_side.specs.of_segment_model.Ends.{Passing}
+use Rattle.master_side.specs.of_segment_model.Record.{News}
+use Rattle.master_side.specs.of_segment_model.Slaves.{Datagram, Found}
+use Rattle.master_side.specs.of_state_model.Stated.{Service}
+use Rattle.master_side.specs.of_state_model.Accounts.{Account, Duty, Stage, Pick, account_next}
+use Rattle.master_side.specs.of_life_model.Lives
+use Rattle.master_side.specs.of_life_model.Lives.{Life, Opening, Spot, granted, passing_begins, passes, opening_back, clears, opens, steps_on, shows_clear, last_step, is_shown, reopens, reopens_at, returns_to_init, reopening, opens_state, life_next, era_back, life_back, life_lost}
+use Rattle.master_side.specs.of_frame_view.Frames.{Share}
+use Rattle.master_side.specs.of_frame_view.Shares.{Lived, given_where, came_at, lived_back, lived_lost}
 use Rattle.master_side.specs.of_master_duty.Reply.{Reply}
 
 module _ {Q : Type 0} (x : Speech Body Q Reply) (acknowledged : Q → Bool) (more : Body → Bool) (passed : Q → Bool) where

@@ -1,14 +1,14 @@
 -- A slave's visit: a choice, and its datagram.
 use Rattle.std.proofs.Common.{◌≡◌, ℕ, Bool, Option, ◌++◌, sym, subst, ◌∙◌, append-nil, ap, refl}
-use Rattle.frame_view.specs.of_link_mails.Body.{Body}
-use Rattle.frame_view.specs.of_link_model.Link.{Halves}
+use Rattle.master_side.specs.of_link_mails.Body.{Body}
+use Rattle.master_side.specs.of_link_model.Link.{Halves}
 use Rattle.master_side.specs.of_mailbox_mail.declared.mail.Mail.{Mail}
-use Rattle.frame_view.specs.of_exchange_model.Exchange.{Speech}
-use Rattle.frame_view.specs.of_exchange_model.Rows.{Row}
-use Rattle.frame_view.specs.of_segment_model.Slaves.{Access}
-use Rattle.frame_view.specs.of_segment_model.Seats.{Side, side_next}
-use Rattle.frame_view.specs.of_state_model.Accounts.{Account, Pick, mails_choice, account_next}
-use Rattle.frame_view.specs.View.{Lens, datagram_seen}
+use Rattle.master_side.specs.of_exchange_model.Exchange.{Speech}
+use Rattle.master_side.specs.of_exchange_model.Rows.{Row}
+use Rattle.master_side.specs.of_segment_model.Slaves.{Access}
+use Rattle.master_side.specs.of_segment_model.Seats.{Side, side_next}
+use Rattle.master_side.specs.of_state_model.Accounts.{Account, Pick, mails_choice, account_next}
+use Rattle.master_side.specs.of_frame_view.View.{Lens, datagram_seen}
 use Rattle.master_side.specs.of_mailbox_master.declared.halves.InwardHalf.{InwardHalf}
 use Rattle.master_side.specs.of_mailbox_master.Links.{OutLink}
 use Rattle.master_side.specs.of_mailbox_master.Any.{in_half_of}
@@ -20,10 +20,10 @@ use Rattle.master_side.specs.Carried.{Meant, in_hand}
 use Rattle.master_side.specs.Sent.{SameSide, visit_gram}
 use Rattle.master_side.specs.Shown.{SideShows, DutyShows, OverShows, Picked, Holds, started_by}
 use Rattle.std.specs.Prelude.{Some, None, true, false, is_some}
-use Rattle.frame_view.specs.of_segment_model.Ends.{Passing}
-use Rattle.frame_view.specs.of_life_model.Lives
-use Rattle.frame_view.specs.of_life_model.Lives.{Life, Era, era_next, granted, life_next}
-use Rattle.frame_view.specs.of_state_model.Stated.{Service}
+use Rattle.master_side.specs.of_segment_model.Ends.{Passing}
+use Rattle.master_side.specs.of_life_model.Lives
+use Rattle.master_side.specs.of_life_model.Lives.{Life, Era, era_next, granted, life_next}
+use Rattle.master_side.specs.of_state_model.Stated.{Service}
 use Rattle.master_tour.specs.Stands.{NextShows, HoldShows, Counts, is_open}
 
 pub picked_map : {Q : Type 0} (x : Speech Body Q Reply) (acknowledged : Q → Bool) (made : ℕ) (d : Side Body Q Reply) (a : Account Q Reply) (begin : Option (Service Q)) (X Y : Side Body Q Reply → Account Q Reply → Type 0) →

@@ -1,11 +1,11 @@
 -- WHAT IS REMEMBERED of a slave's visits behind a frame that came back, and behind one that was lost.
 use Rattle.std.specs.Prelude.{◌≡◌, ◌&&◌, ℕ, Bool, true, false, is_some, None, List}
-use Rattle.frame_view.specs.of_exchange_model.Exchange.{Speech}
-use Rattle.frame_view.specs.of_life_model.Lives
-use Rattle.frame_view.specs.of_life_model.Lives.{Life, Spot}
-use Rattle.frame_view.specs.of_link_mails.Body.{Body}
-use Rattle.frame_view.specs.of_segment_model.Slaves.{Datagram}
-use Rattle.frame_view.specs.of_state_model.Accounts.{Account, account_back}
+use Rattle.master_side.specs.of_exchange_model.Exchange.{Speech}
+use Rattle.master_side.specs.of_life_model.Lives
+use Rattle.master_side.specs.of_life_model.Lives.{Life, Spot}
+use Rattle.master_side.specs.of_link_mails.Body.{Body}
+use Rattle.master_side.specs.of_segment_model.Slaves.{Datagram}
+use Rattle.master_side.specs.of_state_model.Accounts.{Account, account_back}
 use Rattle.master_side.specs.Carried.{IsBack, in_hand, one, paused_after, turn_after}
 use Rattle.master_side.specs.Due.{EachDue}
 use Rattle.master_side.specs.Shown.{DutyShows}

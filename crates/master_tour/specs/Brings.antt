@@ -1,13 +1,13 @@
 -- THE MAILS THAT A SLAVE'S MASTER ACCEPTED of a frame that came back, by its life.
 use Rattle.std.specs.Prelude.{ℕ, List, []}
-use Rattle.frame_view.specs.of_life_model.Lives
-use Rattle.frame_view.specs.of_life_model.Lives.{Life, Spot}
-use Rattle.frame_view.specs.of_life_model.Own
-use Rattle.frame_view.specs.of_link_mails.Body.{Body}
-use Rattle.frame_view.specs.of_link_model.Frames.{all_accepted}
-use Rattle.frame_view.specs.of_link_model.Link.{Halves}
+use Rattle.master_side.specs.of_life_model.Lives
+use Rattle.master_side.specs.of_life_model.Lives.{Life, Spot}
+use Rattle.master_side.specs.of_life_model.Own
+use Rattle.master_side.specs.of_link_mails.Body.{Body}
+use Rattle.master_side.specs.of_link_model.Frames.{all_accepted}
+use Rattle.master_side.specs.of_link_model.Link.{Halves}
 use Rattle.master_side.specs.of_master_duty.Reply.{Reply}
-use Rattle.frame_view.specs.of_segment_model.Slaves.{Datagram, grams}
+use Rattle.master_side.specs.of_segment_model.Slaves.{Datagram, grams}
 
 -- by its stand: while it is open those that its halves accept, of its own datagrams
 abbrev pub accepted_at : ℕ → Halves Body → List (Datagram Body) → Lives.Stand → List Body

@@ -1,9 +1,9 @@
 -- WHETHER AN EMPTY READ COUNTS for a mail that is passed on, by how the master stands to its slave, frame by frame.
 use Rattle.std.specs.Prelude.{◌≡◌, ℕ, suc, Bool, false, Option, None, [], ⊤}
-use Rattle.frame_view.specs.of_exchange_model.Exchange.{Speech}
-use Rattle.frame_view.specs.View.{Lens}
-use Rattle.frame_view.specs.of_life_model.Lives.{Life, Spot}
-use Rattle.frame_view.specs.of_link_mails.Body.{Body}
+use Rattle.master_side.specs.of_exchange_model.Exchange.{Speech}
+use Rattle.master_side.specs.of_frame_view.View.{Lens}
+use Rattle.master_side.specs.of_life_model.Lives.{Life, Spot}
+use Rattle.master_side.specs.of_link_mails.Body.{Body}
 use Rattle.master_side.specs.declared.hand.Hand.{Ghosts}
 use Rattle.master_side.specs.of_master_duty.Reply.{Reply}
 use Rattle.master_tour.specs.Stands.{is_still}

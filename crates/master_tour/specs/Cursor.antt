@@ -1,8 +1,8 @@
 -- A datagram of a frame of octets, by its number.
 use Rattle.std.specs.Prelude.{◌≡◌, ℕ, ◌+◌, List, ◌∷◌, ◌++◌, length}
-use Rattle.datagrams.specs.declared.frame.Part.{Part}
-use Rattle.datagrams.specs.Datagram.{Datagram}
-use Rattle.datagrams.specs.Frame.{IsFrame, text_of}
+use Rattle.master_side.specs.of_datagrams.declared.frame.Part.{Part}
+use Rattle.master_side.specs.of_datagrams.Datagram.{Datagram}
+use Rattle.master_side.specs.of_datagrams.Frame.{IsFrame, text_of}
 
 -- the part is that of the datagram with this number, from 0 on
 pub record Stands (ds : List Datagram) (number : ℕ) (part : Part) : Type 0 where

@@ -1,7 +1,7 @@
 -- WHAT A FRAME THAT CAME BACK MAKES OF A PACKET UNDER WAY, by the mails accepted of its slave.
 use Rattle.std.specs.Prelude.{◌≡◌, Option, Some, List}
-use Rattle.frame_view.specs.of_life_model.Lives as Lives
-use Rattle.frame_view.specs.of_link_mails.Body.{Body}
+use Rattle.master_side.specs.of_life_model.Lives as Lives
+use Rattle.master_side.specs.of_link_mails.Body.{Body}
 use Rattle.master_side.specs.Heard.{Brought, joined_by}
 use Rattle.master_side.specs.declared.hand.Heard.{Heard}
 use Rattle.master_tour.specs.declared.stop.Turned.{Turned}

@@ -1,16 +1,16 @@
 -- A SLAVE OF A TOUR AND ITS LIFE, before and behind a frame and while one is made.
 use Rattle.std.specs.Prelude.{◌≡◌, ℕ, ◌==◌, if◌then◌else◌, Bool, true, false, is_some, Option, None, List, [], ◌∷◌, length, ⊤}
-use Rattle.datagrams.specs.Datagram as Raw
-use Rattle.datagrams.specs.Command.{IsNamed}
-use Rattle.datagrams.specs.Frame.{IsBegun, IsFrame, Each, chained}
-use Rattle.frame_view.specs.of_exchange_model.Exchange.{Speech}
-use Rattle.frame_view.specs.View.{Lens, datagram_seen}
-use Rattle.frame_view.specs.Seen.{datagrams_seen}
-use Rattle.frame_view.specs.Frames.{AllNotFor, HasOne}
-use Rattle.frame_view.specs.Shares.{Lived, AllFrom, AllThree, IsNext, Asked}
-use Rattle.frame_view.specs.of_life_model.Lives.{Life, Spot, life_next}
-use Rattle.frame_view.specs.of_link_mails.Body.{Body}
-use Rattle.frame_view.specs.of_link_model.Master.{InState}
+use Rattle.master_side.specs.of_datagrams.Datagram as Raw
+use Rattle.master_side.specs.of_datagrams.Command.{IsNamed}
+use Rattle.master_side.specs.of_datagrams.Frame.{IsBegun, IsFrame, Each, chained}
+use Rattle.master_side.specs.of_exchange_model.Exchange.{Speech}
+use Rattle.master_side.specs.of_frame_view.View.{Lens, datagram_seen}
+use Rattle.master_side.specs.of_frame_view.Seen.{datagrams_seen}
+use Rattle.master_side.specs.of_frame_view.Frames.{AllNotFor, HasOne}
+use Rattle.master_side.specs.of_frame_view.Shares.{Lived, AllFrom, AllThree, IsNext, Asked}
+use Rattle.master_side.specs.of_life_model.Lives.{Life, Spot, life_next}
+use Rattle.master_side.specs.of_link_mails.Body.{Body}
+use Rattle.master_side.specs.of_link_model.Master.{InState}
 use Rattle.master_side.specs.of_mailbox_mail.declared.mail.Mail.{Mail}
 use Rattle.master_side.specs.of_mailbox_master.declared.halves.InwardHalf.{InwardHalf}
 use Rattle.master_side.specs.of_mailbox_master.Links.{OutLink}
@@ -19,9 +19,9 @@ use Rattle.master_side.specs.of_master_duty.declared.stage.Met.{Met}
 use Rattle.master_side.specs.of_master_duty.Reply.{Reply}
 use Rattle.master_side.specs.declared.carried.Carried.{Carried}
 use Rattle.master_side.specs.declared.passing.Passing.{Passing}
-use Rattle.frame_view.specs.of_segment_model.Seats.{Side}
-use Rattle.frame_view.specs.of_state_model.Stated.{Service}
-use Rattle.frame_view.specs.of_state_model.Accounts.{Account, Pick}
+use Rattle.master_side.specs.of_segment_model.Seats.{Side}
+use Rattle.master_side.specs.of_state_model.Stated.{Service}
+use Rattle.master_side.specs.of_state_model.Accounts.{Account, Pick}
 use Rattle.master_tour.specs.declared.stop.Stand.{Stand}
 use Rattle.master_tour.specs.Stands.{StopShows, StandMeant, StandUnder, IsSpot, Counts, stand_gram}
 

@@ -1,8 +1,8 @@
 -- A MAIL THAT IS PASSED ON, by how the master stands to its slave.
 use Rattle.std.specs.Prelude.{◌≡◌, Bool, false, Option, ⊤}
-use Rattle.frame_view.specs.of_life_model.Lives.{Life}
-use Rattle.frame_view.specs.of_link_mails.Body.{Body}
-use Rattle.frame_view.specs.of_segment_model.Record.{Kept}
+use Rattle.master_side.specs.of_life_model.Lives.{Life}
+use Rattle.master_side.specs.of_link_mails.Body.{Body}
+use Rattle.master_side.specs.of_segment_model.Record.{Kept}
 use Rattle.master_side.specs.Passing.{PassingShows, IsKept}
 use Rattle.master_side.specs.declared.passing.Passing.{Passing}
 use Rattle.master_side.specs.of_master_duty.Reply.{Reply}

@@ -1,9 +1,9 @@
 -- WHAT A VISIT OF AN OPEN SLAVE LEAVES TO DO, where its hand knows the mails of its service.
 use Rattle.std.specs.Prelude.{◌≡◌, Bool, true, false, Option, None, []}
-use Rattle.frame_view.specs.of_exchange_model.Exchange.{Speech}
-use Rattle.frame_view.specs.of_link_mails.Body.{Body}
-use Rattle.frame_view.specs.of_segment_model.Seats.{Side, next_mail}
-use Rattle.frame_view.specs.of_state_model.Accounts.{Account, is_free, is_acknowledged}
+use Rattle.master_side.specs.of_exchange_model.Exchange.{Speech}
+use Rattle.master_side.specs.of_link_mails.Body.{Body}
+use Rattle.master_side.specs.of_segment_model.Seats.{Side, next_mail}
+use Rattle.master_side.specs.of_state_model.Accounts.{Account, is_free, is_acknowledged}
 use Rattle.master_side.specs.Carried.{in_hand}
 use Rattle.master_side.specs.Recall.{BeginsNone}
 use Rattle.master_side.specs.declared.carried.Wish.{Wish}

@@ -1,15 +1,15 @@
 -- WHAT IS KEPT OF A REPLY to a mail that is passed on, of the mails that a frame brought back.
 use Rattle.std.specs.Prelude.{◌≡◌, ◌≤◌, ℕ, None, List, length}
-use Rattle.frame_view.specs.of_exchange_model.Exchange.{Speech}
-use Rattle.frame_view.specs.Seen.{seen}
-use Rattle.frame_view.specs.View.{Lens}
-use Rattle.frame_view.specs.of_life_model.Lives.{Life, Spot}
-use Rattle.frame_view.specs.of_link_mails.Body.{Body}
-use Rattle.frame_view.specs.of_link_model.Frames.{all_accepted}
-use Rattle.frame_view.specs.of_segment_model.Returned.{Returns}
-use Rattle.frame_view.specs.of_segment_model.Seats
-use Rattle.frame_view.specs.of_segment_model.Slaves.{grams}
-use Rattle.frame_view.specs.of_state_model.Accounts.{Account, duty_access}
+use Rattle.master_side.specs.of_exchange_model.Exchange.{Speech}
+use Rattle.master_side.specs.of_frame_view.Seen.{seen}
+use Rattle.master_side.specs.of_frame_view.View.{Lens}
+use Rattle.master_side.specs.of_life_model.Lives.{Life, Spot}
+use Rattle.master_side.specs.of_link_mails.Body.{Body}
+use Rattle.master_side.specs.of_link_model.Frames.{all_accepted}
+use Rattle.master_side.specs.of_segment_model.Returned.{Returns}
+use Rattle.master_side.specs.of_segment_model.Seats
+use Rattle.master_side.specs.of_segment_model.Slaves.{grams}
+use Rattle.master_side.specs.of_state_model.Accounts.{Account, duty_access}
 use Rattle.master_side.specs.Heard.{Brought}
 use Rattle.master_side.specs.Sides.{ShowsOf}
 use Rattle.master_side.specs.declared.hand.Hand.{Ghosts}

@@ -1,6 +1,6 @@
 -- WHETHER A FRAME HAS ROOM for a slave's datagram; and behind a lost frame that of each slave is no longer than before.
 use Rattle.std.specs.Prelude.{◌≡◌, ◌≤◌, ◌+◌, ℕ, Bool, true, false, List, length, ⊤}
-use Rattle.al_state.specs.BringUp.{octets_of}
+use Rattle.master_side.specs.of_al_state.BringUp.{octets_of}
 use Rattle.master_side.specs.Again.{HasNoRoom, IsOnWay, Repeats, area_of, sent_len}
 use Rattle.master_side.specs.declared.hand.Hand.{Ghosts}
 use Rattle.master_side.specs.declared.side.Side.{Side}

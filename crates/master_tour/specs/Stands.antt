@@ -1,17 +1,17 @@
 -- What a slave of the tour shows of its life.
 use Rattle.std.specs.Prelude.{◌≡◌, ℕ, ◌-◌, ◌%◌, ◌==◌, ◌&&◌, not, nat_lt, Bool, true, false, Option, Some, None, List, ◌++◌, length}
-use Rattle.al_state.specs.declared.bringing.BringStep.{BringStep}
-use Rattle.al_state.specs.declared.bringing.BringStep.TheVariants.{Watch, Await}
-use Rattle.al_state.specs.declared.bringing.BringUp.{BringUp}
-use Rattle.al_state.specs.BringUp.{is_behind_init, head_of, octets_of}
-use Rattle.datagrams.specs.Frame.{datagram_of}
-use Rattle.frame_view.specs.of_link_mails.Body.{Body}
-use Rattle.frame_view.specs.of_segment_model.Slaves.{Datagram, Access, Found}
-use Rattle.frame_view.specs.of_segment_model.Seats.{Side}
-use Rattle.frame_view.specs.of_state_model.Accounts.{Account, duty_access}
-use Rattle.frame_view.specs.of_state_model.Stated.{Service}
-use Rattle.frame_view.specs.of_exchange_model.Exchange.{Speech}
-use Rattle.datagrams.specs.Datagram as Raw
+use Rattle.master_side.specs.of_al_state.declared.bringing.BringStep.{BringStep}
+use Rattle.master_side.specs.of_al_state.declared.bringing.BringStep.TheVariants.{Watch, Await}
+use Rattle.master_side.specs.of_al_state.declared.bringing.BringUp.{BringUp}
+use Rattle.master_side.specs.of_al_state.BringUp.{is_behind_init, head_of, octets_of}
+use Rattle.master_side.specs.of_datagrams.Frame.{datagram_of}
+use Rattle.master_side.specs.of_link_mails.Body.{Body}
+use Rattle.master_side.specs.of_segment_model.Slaves.{Datagram, Access, Found}
+use Rattle.master_side.specs.of_segment_model.Seats.{Side}
+use Rattle.master_side.specs.of_state_model.Accounts.{Account, duty_access}
+use Rattle.master_side.specs.of_state_model.Stated.{Service}
+use Rattle.master_side.specs.of_exchange_model.Exchange.{Speech}
+use Rattle.master_side.specs.of_datagrams.Datagram as Raw
 use Rattle.master_side.specs.of_mailbox_mail.declared.mail.Mail.{Mail}
 use Rattle.master_side.specs.of_mailbox_master.declared.halves.InwardHalf.{InwardHalf}
 use Rattle.master_side.specs.of_mailbox_master.Links.{OutLink}
@@ -19,11 +19,11 @@ use Rattle.master_side.specs.of_master_duty.declared.stage.Met.{Met}
 use Rattle.master_side.specs.Carried.{Meant}
 use Rattle.master_side.specs.Sent.{visit_gram, no_gram}
 use Rattle.master_side.specs.Shown.{started_by}
-use Rattle.frame_view.specs.of_life_model.Lives
-use Rattle.frame_view.specs.of_life_model.Lives.{Opening, Era, Life, Spot, life_next}
-pub use Rattle.frame_view.specs.Openings.{step_number, has_step, opening_of}
-pub use Rattle.frame_view.specs.Shares.{came_of, came_at, given_where}
-use Rattle.frame_view.specs.View.{Lens, datagram_seen, found_of}
+use Rattle.master_side.specs.of_life_model.Lives
+use Rattle.master_side.specs.of_life_model.Lives.{Opening, Era, Life, Spot, life_next}
+pub use Rattle.master_side.specs.of_frame_view.Openings.{step_number, has_step, opening_of}
+pub use Rattle.master_side.specs.of_frame_view.Shares.{came_of, came_at, given_where}
+use Rattle.master_side.specs.of_frame_view.View.{Lens, datagram_seen, found_of}
 use Rattle.master_side.specs.of_master_duty.Reply.{Reply}
 use Rattle.master_side.specs.declared.carried.Carried.{Carried}
 use Rattle.master_tour.specs.declared.stop.Stand.{Stand}

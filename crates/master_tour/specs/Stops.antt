@@ -1,12 +1,12 @@
 -- A SLAVE OF THE TOUR as its stop has it: what it shows of its life, and what a frame has of it.
 use Rattle.std.specs.Prelude.{ℕ, Bool, Option, List}
-use Rattle.datagrams.specs.Datagram as Raw
-use Rattle.frame_view.specs.Shares.{Lived}
-use Rattle.frame_view.specs.of_exchange_model.Exchange.{Speech}
-use Rattle.frame_view.specs.View.{Lens}
-use Rattle.frame_view.specs.of_life_model.Lives.{Life, Spot}
-use Rattle.frame_view.specs.of_link_mails.Body.{Body}
-use Rattle.frame_view.specs.of_state_model.Stated.{Service}
+use Rattle.master_side.specs.of_datagrams.Datagram as Raw
+use Rattle.master_side.specs.of_frame_view.Shares.{Lived}
+use Rattle.master_side.specs.of_exchange_model.Exchange.{Speech}
+use Rattle.master_side.specs.of_frame_view.View.{Lens}
+use Rattle.master_side.specs.of_life_model.Lives.{Life, Spot}
+use Rattle.master_side.specs.of_link_mails.Body.{Body}
+use Rattle.master_side.specs.of_state_model.Stated.{Service}
 use Rattle.master_side.specs.Sides.{ShowsOf}
 use Rattle.master_side.specs.declared.hand.Hand.{Ghosts}
 use Rattle.master_side.specs.of_mailbox_master.Any.{in_area_len}

@@ -1,6 +1,6 @@
 -- A TOUR, by places in the ring: which slaves a frame carries, and where the tour stands behind it.
 use Rattle.std.specs.Prelude.{◌≡◌, ◌≤◌, ◌<◌, ℕ, suc, ◌+◌, ◌&&◌, ◌==◌, nat_lt, if◌then◌else◌, Bool, true, false, Option, Some, None, List, [], ◌∷◌, ◌++◌, length, ⊤}
-use Rattle.frame_view.specs.Frames.{Share}
+use Rattle.master_side.specs.of_frame_view.Frames.{Share}
 use Rattle.master_tour.specs.Goes.{holds_at, opened_behind}
 use Rattle.master_tour.specs.Made.{is_in}
 use Rattle.master_tour.specs.Orders.{visits_left, visited_of, last_behind}

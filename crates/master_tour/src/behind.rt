@@ -3,28 +3,28 @@
 ghost use Rattle.std.specs.Prelude.{◌≡◌};
 
 use crate::tour::Tour;
-use datagrams::FrameBuf;
-use master_side::Hand;
+use master_side::datagrams::FrameBuf;
+use master_side::{Hand, datagrams};
 
 impl<H: Hand> Tour<H> {
     ghost use Rattle.std.specs.Prelude.{◌≡◌, ◌≤◌, ◌<◌, ◌-◌, ℕ, List, length, true, ◌+◌, Option, Some, Bool, false, not, nat_lt, ◌&&◌, if◌then◌else◌, None};
-    ghost use Rattle.frame_view.specs.of_exchange_model.Exchange.{Speech};
-    ghost use Rattle.frame_view.specs.of_link_mails.Body.{Body};
-    ghost use Rattle.frame_view.specs.of_segment_model.Slaves.{Datagram};
-    ghost use Rattle.frame_view.specs.of_segment_model.Returned.{Returns};
-    ghost use Rattle.frame_view.specs.View.{Lens};
-    ghost use Rattle.frame_view.specs.Seen.{seen};
+    ghost use Rattle.master_side.specs.of_exchange_model.Exchange.{Speech};
+    ghost use Rattle.master_side.specs.of_link_mails.Body.{Body};
+    ghost use Rattle.master_side.specs.of_segment_model.Slaves.{Datagram};
+    ghost use Rattle.master_side.specs.of_segment_model.Returned.{Returns};
+    ghost use Rattle.master_side.specs.of_frame_view.View.{Lens};
+    ghost use Rattle.master_side.specs.of_frame_view.Seen.{seen};
     ghost use Rattle.master_side.specs.of_master_duty.Reply.{Reply};
     ghost use Rattle.master_tour.specs.Walks.{EachPair};
     ghost use Rattle.master_tour.specs.Stands.{came_at, given_where};
     ghost use Rattle.master_tour.specs.Orders.{last_behind};
-    ghost use Rattle.frame_view.specs.Shares.{Lived, AllBoth, AllThree, lived_back, lived_lost};
+    ghost use Rattle.master_side.specs.of_frame_view.Shares.{Lived, AllBoth, AllThree, lived_back, lived_lost};
     ghost use Rattle.master_side.specs.Heard.{Brought};
     ghost use Rattle.master_tour.specs.Brings.{accepted_in};
     ghost use Rattle.master_tour.specs.Joins.{Joins};
     ghost use Rattle.master_tour.specs.Replied.{StopReplies};
-    ghost use Rattle.frame_view.specs.of_life_model.Lives.{Life, Spot, life_back, life_lost};
-    ghost use Rattle.frame_view.specs.of_segment_model.Record.{News, Kept};
+    ghost use Rattle.master_side.specs.of_life_model.Lives.{Life, Spot, life_back, life_lost};
+    ghost use Rattle.master_side.specs.of_segment_model.Record.{News, Kept};
     ghost use Rattle.master_side.specs.Passing.{counts_at, news_back, news_lost};
     ghost use Rattle.master_tour.specs.Passing.{StandKept};
     ghost use Rattle.master_side.specs.Sides.{LinkStays};

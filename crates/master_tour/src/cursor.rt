@@ -1,8 +1,9 @@
 ghost use Rattle.std.specs.Prelude.{List};
-ghost use Rattle.datagrams.specs.Datagram as Raw;
-ghost use Rattle.datagrams.specs.Frame.{IsFrame, IsPart};
+ghost use Rattle.master_side.specs.of_datagrams.Datagram as Raw;
+ghost use Rattle.master_side.specs.of_datagrams.Frame.{IsFrame, IsPart};
 
-use datagrams::Part;
+use master_side::datagrams;
+use master_side::datagrams::Part;
 
 /// A place in a frame that reads: one of its datagrams, with its number, from 0 on.
 #[derive(Clone, Copy)]
@@ -13,8 +14,8 @@ pub struct Cursor {
 
 impl Cursor {
     ghost use Rattle.std.specs.Prelude.{◌≡◌, ◌≤◌, List, length, true, false};
-    ghost use Rattle.datagrams.specs.Datagram as Raw;
-    ghost use Rattle.datagrams.specs.Frame.{IsFrame, IsPart};
+    ghost use Rattle.master_side.specs.of_datagrams.Datagram as Raw;
+    ghost use Rattle.master_side.specs.of_datagrams.Frame.{IsFrame, IsPart};
     ghost use Rattle.master_tour.specs.Cursor.{IsAtOne};
 
     /// At the first datagram.

@@ -1,13 +1,13 @@
 //! The return of an access of an opening: the slave is seen in Init, or is open, or the next access is in hand.
 
 ghost use Rattle.std.specs.Prelude.{◌≡◌, false, if◌then◌else◌, not, ◌&&◌};
-ghost use Rattle.al_state.specs.BringUp.{is_behind_init};
+ghost use Rattle.master_side.specs.of_al_state.BringUp.{is_behind_init};
 ghost use Rattle.master_tour.specs.Stands.{turned_by};
 
 use crate::cursor::Cursor;
 use crate::stop::{Stand, Stop, Turned, body_of};
-use al_state::{BringUp, came_back, cleared};
 use master_side::Hand;
+use master_side::al_state::{BringUp, came_back, cleared};
 
 // How the master stands to a slave behind an access of its opening.
 fn stand_behind(is_up: bool, up: BringUp) -> Stand
@@ -42,24 +42,24 @@ fn news_of(is_up: bool, is_cleared: bool) -> Option<Turned>
 
 impl<H: Hand> Stop<H> {
     ghost use Rattle.std.specs.Prelude.{◌≡◌, ℕ, List, true, false, if◌then◌else◌, None, Bool, Option, Some};
-    ghost use Rattle.datagrams.specs.Datagram as Raw;
-    ghost use Rattle.datagrams.specs.Frame.{IsFrame};
-    ghost use Rattle.frame_view.specs.of_exchange_model.Exchange.{Speech};
-    ghost use Rattle.frame_view.specs.of_link_mails.Body.{Body};
-    ghost use Rattle.frame_view.specs.of_segment_model.Slaves.{Datagram, Found};
+    ghost use Rattle.master_side.specs.of_datagrams.Datagram as Raw;
+    ghost use Rattle.master_side.specs.of_datagrams.Frame.{IsFrame};
+    ghost use Rattle.master_side.specs.of_exchange_model.Exchange.{Speech};
+    ghost use Rattle.master_side.specs.of_link_mails.Body.{Body};
+    ghost use Rattle.master_side.specs.of_segment_model.Slaves.{Datagram, Found};
     ghost use Rattle.master_tour.specs.Joins.{join_behind};
-    ghost use Rattle.frame_view.specs.of_segment_model.Seats as Seats;
-    ghost use Rattle.frame_view.specs.of_state_model.Accounts.{Account, new_account};
-    ghost use Rattle.frame_view.specs.View.{Lens};
-    ghost use Rattle.frame_view.specs.Seen.{seen};
+    ghost use Rattle.master_side.specs.of_segment_model.Seats as Seats;
+    ghost use Rattle.master_side.specs.of_state_model.Accounts.{Account, new_account};
+    ghost use Rattle.master_side.specs.of_frame_view.View.{Lens};
+    ghost use Rattle.master_side.specs.of_frame_view.Seen.{seen};
     ghost use Rattle.master_side.specs.of_mailbox_master.Any.{in_area_len};
     ghost use Rattle.master_side.specs.of_master_duty.Reply.{Reply};
     ghost use Rattle.master_tour.specs.Made.{IsSized};
     ghost use Rattle.master_tour.specs.Cursor.{IsAtOne};
     ghost use Rattle.master_tour.specs.Stands.{IsMet, came_at};
-    ghost use Rattle.frame_view.specs.of_segment_model.Returned.{Returns};
-    ghost use Rattle.frame_view.specs.of_life_model.Lives.{Life, Spot, life_back};
-    ghost use Rattle.frame_view.specs.of_segment_model.Record.{News};
+    ghost use Rattle.master_side.specs.of_segment_model.Returned.{Returns};
+    ghost use Rattle.master_side.specs.of_life_model.Lives.{Life, Spot, life_back};
+    ghost use Rattle.master_side.specs.of_segment_model.Record.{News};
     ghost use Rattle.master_side.specs.Shown.{new_side};
     ghost use Rattle.master_tour.specs.declared.stop.Stand.{Stand};
     ghost use Rattle.master_side.specs.Sides.{ShowsOf, LinkStays};

@@ -1,9 +1,9 @@
 ghost use Rattle.std.specs.Prelude.{◌≡◌, ◌+◌, take, drop, true, nat_lt, nat_le};
-ghost use Rattle.datagrams.specs.Frame.{IsPart};
+ghost use Rattle.master_side.specs.of_datagrams.Frame.{IsPart};
 
 use crate::cursor::Cursor;
-use al_state::{BringUp, reopen_new};
-use datagrams::Part;
+use master_side::al_state::{BringUp, reopen_new};
+use master_side::datagrams::Part;
 use master_side::{Hand, Side};
 
 /// How the master stands to a slave.
@@ -62,20 +62,20 @@ pub(crate) fn body_of(octets: &[u8], part: Part) -> &[u8]
 
 impl<H: Hand> Stop<H> {
     ghost use Rattle.std.specs.Prelude.{◌≡◌, ◌≤◌, ◌<◌, ◌-◌, ℕ, List, true, false, ◌&&◌, None, ◌%◌, Bool, Option, Some, suc};
-    ghost use Rattle.datagrams.specs.Datagram as Raw;
-    ghost use Rattle.datagrams.specs.Frame.{IsFrame};
-    ghost use Rattle.frame_view.specs.of_exchange_model.Exchange.{Speech};
-    ghost use Rattle.frame_view.specs.of_link_mails.Body.{Body};
-    ghost use Rattle.frame_view.specs.of_segment_model.Slaves.{Datagram, grams};
-    ghost use Rattle.frame_view.specs.of_link_model.Frames.{all_accepted};
+    ghost use Rattle.master_side.specs.of_datagrams.Datagram as Raw;
+    ghost use Rattle.master_side.specs.of_datagrams.Frame.{IsFrame};
+    ghost use Rattle.master_side.specs.of_exchange_model.Exchange.{Speech};
+    ghost use Rattle.master_side.specs.of_link_mails.Body.{Body};
+    ghost use Rattle.master_side.specs.of_segment_model.Slaves.{Datagram, grams};
+    ghost use Rattle.master_side.specs.of_link_model.Frames.{all_accepted};
     ghost use Rattle.master_side.specs.Heard.{Brought, HasJoined};
     ghost use Rattle.master_tour.specs.Brings.{accepted_in};
     ghost use Rattle.master_tour.specs.Joins.{Joins};
     ghost use Rattle.master_tour.specs.Replied.{OpenReplies, StopReplies};
-    ghost use Rattle.frame_view.specs.of_segment_model.Seats as Seats;
-    ghost use Rattle.frame_view.specs.of_state_model.Accounts.{Account, duty_access, account_back};
-    ghost use Rattle.frame_view.specs.View.{Lens};
-    ghost use Rattle.frame_view.specs.Seen.{seen};
+    ghost use Rattle.master_side.specs.of_segment_model.Seats as Seats;
+    ghost use Rattle.master_side.specs.of_state_model.Accounts.{Account, duty_access, account_back};
+    ghost use Rattle.master_side.specs.of_frame_view.View.{Lens};
+    ghost use Rattle.master_side.specs.of_frame_view.Seen.{seen};
     ghost use Rattle.master_side.specs.of_master_duty.Reply.{Reply};
     ghost use Rattle.master_tour.specs.Under.{Under, mine};
     ghost use Rattle.master_tour.specs.Cursor.{IsAtOne};
@@ -83,12 +83,12 @@ impl<H: Hand> Stop<H> {
     ghost use Rattle.master_tour.specs.Stands.{came_at, given_where};
     ghost use Rattle.master_side.specs.Again.{IsOnWay, Repeats, sent_len};
     ghost use Rattle.master_tour.specs.Rooms.{LosesAgain};
-    ghost use Rattle.frame_view.specs.of_segment_model.Returned.{Returns};
-    ghost use Rattle.al_state.specs.declared.bringing.BringStep.{BringStep};
-    ghost use Rattle.frame_view.specs.of_life_model.Lives.{Life, Spot, passes, life_back, life_lost, reopens, gives_up};
-    ghost use Rattle.frame_view.specs.of_segment_model.Record.{News, Kept};
-    ghost use Rattle.frame_view.specs.of_segment_model.Ends as Ends;
-    ghost use Rattle.frame_view.specs.of_state_model.Accounts as Accounts;
+    ghost use Rattle.master_side.specs.of_segment_model.Returned.{Returns};
+    ghost use Rattle.master_side.specs.of_al_state.declared.bringing.BringStep.{BringStep};
+    ghost use Rattle.master_side.specs.of_life_model.Lives.{Life, Spot, passes, life_back, life_lost, reopens, gives_up};
+    ghost use Rattle.master_side.specs.of_segment_model.Record.{News, Kept};
+    ghost use Rattle.master_side.specs.of_segment_model.Ends as Ends;
+    ghost use Rattle.master_side.specs.of_state_model.Accounts as Accounts;
     ghost use Rattle.master_side.specs.Passing.{PassingShows, IsKept, counts_at, news_back, news_lost};
     ghost use Rattle.master_side.specs.declared.passing.Passing.{Passing};
     ghost use Rattle.master_tour.specs.Passing.{StandPassing, StandKept};

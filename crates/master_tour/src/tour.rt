@@ -3,8 +3,8 @@ ghost use Rattle.std.specs.Prelude.{◌≡◌, ℕ, List};
 use crate::cursor::Cursor;
 use crate::stop::Stop;
 use arrayvec::ArrayVec;
-use datagrams::FrameBuf;
-use master_side::{Hand, Wish};
+use master_side::datagrams::FrameBuf;
+use master_side::{Hand, Wish, datagrams};
 
 /// All slaves of a master, in ring order, and where their tour stands.
 #[derive(Drop)]
@@ -32,30 +32,30 @@ pub struct Tour<H: Hand> {
 impl<H: Hand> Tour<H> {
     ghost use Rattle.master_tour.specs.First.{FitsFirst, LacksFirst};
     ghost use Rattle.std.specs.Prelude.{◌≡◌, ◌≤◌, ◌<◌, ◌-◌, ℕ, List, IfSome, All, length, [], ◌∷◌, is_some, true, ◌++◌, ◌+◌, ◌==◌, Option, Some, drop, slice_get, Bool, false, not, nat_lt, ◌&&◌, if◌then◌else◌, None, filter};
-    ghost use Rattle.datagrams.specs.Datagram as Raw;
-    ghost use Rattle.datagrams.specs.Command.{IsNamed};
-    ghost use Rattle.datagrams.specs.Frame.{IsBegun, IsFrame, Each, chained};
-    ghost use Rattle.frame_view.specs.of_exchange_model.Exchange.{Speech};
-    ghost use Rattle.frame_view.specs.of_link_mails.Body.{Body};
-    ghost use Rattle.frame_view.specs.of_segment_model.Slaves.{Datagram};
-    ghost use Rattle.frame_view.specs.of_segment_model.Returned.{Returns};
-    ghost use Rattle.frame_view.specs.View.{Lens, datagram_seen};
-    ghost use Rattle.frame_view.specs.Seen.{seen};
+    ghost use Rattle.master_side.specs.of_datagrams.Datagram as Raw;
+    ghost use Rattle.master_side.specs.of_datagrams.Command.{IsNamed};
+    ghost use Rattle.master_side.specs.of_datagrams.Frame.{IsBegun, IsFrame, Each, chained};
+    ghost use Rattle.master_side.specs.of_exchange_model.Exchange.{Speech};
+    ghost use Rattle.master_side.specs.of_link_mails.Body.{Body};
+    ghost use Rattle.master_side.specs.of_segment_model.Slaves.{Datagram};
+    ghost use Rattle.master_side.specs.of_segment_model.Returned.{Returns};
+    ghost use Rattle.master_side.specs.of_frame_view.View.{Lens, datagram_seen};
+    ghost use Rattle.master_side.specs.of_frame_view.Seen.{seen};
     ghost use Rattle.master_side.specs.of_master_duty.Reply.{Reply};
     ghost use Rattle.master_side.specs.Shown.{wish_begun, takes_ready};
-    ghost use Rattle.frame_view.specs.of_state_model.Stated.{Service};
+    ghost use Rattle.master_side.specs.of_state_model.Stated.{Service};
     ghost use Rattle.master_tour.specs.Walks.{EachPair, StepsAt};
     ghost use Rattle.master_tour.specs.Stands.{came_at, given_where, stand_gram, StandMeant, NextShows, HoldShows, Counts};
     ghost use Rattle.master_side.specs.of_mailbox_master.Any.{in_area_len};
     ghost use Rattle.master_tour.specs.Orders.{start_of, place_in, round_left, visits_left, visited_of, is_fixed, AreOnce, IsNextOf, IsCarried};
-    ghost use Rattle.frame_view.specs.Shares.{Lived, AllBoth, AreDistinct};
+    ghost use Rattle.master_side.specs.of_frame_view.Shares.{Lived, AllBoth, AreDistinct};
     ghost use Rattle.master_side.specs.Heard.{Brought};
     ghost use Rattle.master_tour.specs.Brings.{accepted_in};
     ghost use Rattle.master_tour.specs.Joins.{Joins};
     ghost use Rattle.master_tour.specs.Replied.{StopReplies};
     ghost use Rattle.master_tour.specs.Made.{FrameMade, FrameSent, ComesAt, IsClearFor, is_in};
-    ghost use Rattle.frame_view.specs.of_life_model.Lives.{Life, Spot, life_next, life_back, life_lost};
-    ghost use Rattle.frame_view.specs.of_segment_model.Record.{News, Kept};
+    ghost use Rattle.master_side.specs.of_life_model.Lives.{Life, Spot, life_next, life_back, life_lost};
+    ghost use Rattle.master_side.specs.of_segment_model.Record.{News, Kept};
     ghost use Rattle.master_side.specs.Passing.{counts_at, news_back, news_lost};
     ghost use Rattle.master_tour.specs.Passing.{StandKept};
     ghost use Rattle.master_side.specs.Free.{is_free_side};

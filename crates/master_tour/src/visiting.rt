@@ -1,13 +1,13 @@
 //! A slave's visit: what comes into hand, and its datagram in the frame that is made.
 
 ghost use Rattle.std.specs.Prelude.{◌≡◌, ◌≤◌, length};
-ghost use Rattle.al_state.specs.BringUp.{octets_of};
+ghost use Rattle.master_side.specs.of_al_state.BringUp.{octets_of};
 
 use crate::stop::{Stand, Stop};
-use al_state::{BringStep, BringUp, access};
 use arrayvec::ArrayVec;
-use datagrams::{FrameBuf, Head};
-use master_side::{Hand, Wish};
+use master_side::al_state::{BringStep, BringUp, access};
+use master_side::datagrams::{FrameBuf, Head};
+use master_side::{Hand, Wish, datagrams};
 
 // How many octets the access of an opening has.
 fn access_len(up: &BringUp) -> usize
@@ -26,30 +26,30 @@ impl<H: Hand> Stop<H> {
     ghost use Rattle.master_side.specs.First.{first_of};
     ghost use Rattle.master_side.specs.declared.carried.Wish.{Wish};
     ghost use Rattle.std.specs.Prelude.{◌≡◌, ◌≤◌, ◌<◌, ◌-◌, ◌++◌, ◌∷◌, [], ℕ, List, length, true, false, is_some, ◌+◌, Bool, Option, if◌then◌else◌};
-    ghost use Rattle.datagrams.specs.Datagram as Raw;
-    ghost use Rattle.datagrams.specs.Frame.{IsBegun, datagram_of};
-    ghost use Rattle.frame_view.specs.of_exchange_model.Exchange.{Speech};
-    ghost use Rattle.frame_view.specs.of_link_mails.Body.{Body};
-    ghost use Rattle.frame_view.specs.of_segment_model.Seats as Seats;
-    ghost use Rattle.frame_view.specs.of_state_model.Accounts.{Account, duty_access};
-    ghost use Rattle.frame_view.specs.View.{Lens, datagram_seen};
+    ghost use Rattle.master_side.specs.of_datagrams.Datagram as Raw;
+    ghost use Rattle.master_side.specs.of_datagrams.Frame.{IsBegun, datagram_of};
+    ghost use Rattle.master_side.specs.of_exchange_model.Exchange.{Speech};
+    ghost use Rattle.master_side.specs.of_link_mails.Body.{Body};
+    ghost use Rattle.master_side.specs.of_segment_model.Seats as Seats;
+    ghost use Rattle.master_side.specs.of_state_model.Accounts.{Account, duty_access};
+    ghost use Rattle.master_side.specs.of_frame_view.View.{Lens, datagram_seen};
     ghost use Rattle.master_side.specs.of_mailbox_master.Any.{in_half_of, in_area_len};
-    ghost use Rattle.frame_view.specs.of_link_model.Master.{InState};
+    ghost use Rattle.master_side.specs.of_link_model.Master.{InState};
     ghost use Rattle.master_side.specs.of_master_duty.Reply.{Reply};
     ghost use Rattle.master_side.specs.declared.carried.Carried.{Carried};
     ghost use Rattle.master_side.specs.Carried.{Meant};
     ghost use Rattle.master_tour.specs.Made.{IsClearFor};
     ghost use Rattle.master_side.specs.Sent.{IsSent, visit_gram};
     ghost use Rattle.master_side.specs.Shown.{Holds, Picked, wish_begun, takes_ready};
-    ghost use Rattle.al_state.specs.BringUp.{head_of, octets_of};
+    ghost use Rattle.master_side.specs.of_al_state.BringUp.{head_of, octets_of};
     ghost use Rattle.master_tour.specs.Goes.{is_live};
     ghost use Rattle.master_tour.specs.Stands.{stand_gram, StandMeant, NextShows, HoldShows, Counts};
     ghost use Rattle.master_side.specs.Again.{HasNoRoom, IsOnWay, Repeats, area_of, sent_len};
     ghost use Rattle.master_tour.specs.Rooms.{StopRepeats, Visits, stop_len};
     ghost use Rattle.master_tour.specs.Recalls.{TakesUp, BeginsAll};
-    ghost use Rattle.al_state.specs.declared.bringing.BringStep.{BringStep};
-    ghost use Rattle.frame_view.specs.of_life_model.Lives.{Life, Spot, life_next};
-    ghost use Rattle.frame_view.specs.of_segment_model.Ends as Ends;
+    ghost use Rattle.master_side.specs.of_al_state.declared.bringing.BringStep.{BringStep};
+    ghost use Rattle.master_side.specs.of_life_model.Lives.{Life, Spot, life_next};
+    ghost use Rattle.master_side.specs.of_segment_model.Ends as Ends;
     ghost use Rattle.master_side.specs.Passing.{PassingShows, passing_behind};
     ghost use Rattle.master_tour.specs.declared.stop.Stand.{Stand};
     ghost use Rattle.master_side.specs.Free.{is_free_side, begins_by};

@@ -1,3 +1,4 @@
+pub use Rattle.ec_fields.proofs as of_ec_fields
 pub mod Tests
 pub mod Kept
 pub mod WholeKept

@@ -16,8 +16,8 @@ use Rattle.master_node.specs.Toured.{turn_share}
 use Rattle.master_node.proofs.Sents.{sent_is, sent_many}
 use Rattle.master_node.specs.of_master_tour.Goes.{holds_at}
 use Rattle.master_node.specs.of_master_tour.Toured.{Tour, HaveFrom, IsOfTour, has_number}
-use Rattle.master_node.specs.of_segment_model.Slaves.{Address}
-use Rattle.master_node.specs.of_segment_model.Visits.{Stop, addressed, carried, station_at}
+use Rattle.slave_server.specs.of_segment_model.Slaves.{Address}
+use Rattle.slave_server.specs.of_segment_model.Visits.{Stop, addressed, carried, station_at}
 use Rattle.packets_heard.specs.Toured.{AreAt}
 use Rattle.packets_heard.specs.Visits.{stop_at, stations_at}
 

@@ -2,20 +2,20 @@
 use Rattle.std.proofs.Common.{◌≡◌, ℕ, zero, suc, Bool, true, false, Option, Some, None, List, [], ◌∷◌, ◌++◌, map, length, refl, sym, ap, subst, ◌∙◌}
 use Rattle.std.specs.Prelude.{◌==◌, if◌then◌else◌, All, ⊤}
 use Rattle.std.proofs.lemmas.List.Elements.{All-nil, All-cons, All-head, All-tail}
-use Rattle.datagrams.specs.Datagram as Raw
-use Rattle.datagrams.specs.Frame.{IsFrame, chained}
-use Rattle.eoe_switch.specs.declared.switching.SwitchEvent.{SwitchEvent}
-use Rattle.frame_view.specs.View.{Lens}
-use Rattle.frame_view.specs.Seen.{seen}
-use Rattle.frame_view.proofs.Octets.{seen_is, seen_chained}
-use Rattle.frame_view.specs.Frames.{FrameFor}
-use Rattle.frame_view.specs.Shares.{Asked}
-use Rattle.frame_view.proofs.Frames.{own_none}
-use Rattle.life_model.specs.Lives.{Stand}
-use Rattle.life_model.specs.Own.{own}
+use Rattle.master_node.specs.of_datagrams.Datagram as Raw
+use Rattle.master_node.specs.of_datagrams.Frame.{IsFrame, chained}
+use Rattle.master_node.specs.of_eoe_switch.declared.switching.SwitchEvent.{SwitchEvent}
+use Rattle.master_node.specs.of_frame_view.View.{Lens}
+use Rattle.master_node.specs.of_frame_view.Seen.{seen}
+use Rattle.master_node.proofs.of_frame_view.Octets.{seen_is, seen_chained}
+use Rattle.master_node.specs.of_frame_view.Frames.{FrameFor}
+use Rattle.master_node.specs.of_frame_view.Shares.{Asked}
+use Rattle.master_node.proofs.of_frame_view.Frames.{own_none}
+use Rattle.master_node.specs.of_life_model.Lives.{Stand}
+use Rattle.master_node.specs.of_life_model.Own.{own}
 use Rattle.master_node.specs.of_life_runs.Led.{Exchanged, Leads, Turn, AllTurn}
-use Rattle.link_mails.specs.Body.{Body}
-use Rattle.link_model.specs.Frames.{all_accepted}
+use Rattle.slave_server.specs.of_link_mails.Body.{Body}
+use Rattle.master_node.specs.of_link_model.Frames.{all_accepted}
 use Rattle.master_node.specs.of_master_hand.Joins.{packets_in}
 use Rattle.master_node.specs.Arrivals.{completed_at, ComeIn}
 use Rattle.master_node.specs.Downs.{goes_down, GoDown}
@@ -32,11 +32,11 @@ use Rattle.master_node.specs.of_master_tour.Made.{is_in}
 use Rattle.master_node.specs.of_master_tour.Orders.{AreOnce}
 use Rattle.master_node.specs.of_master_tour.Toured.{Tour, IsOfTour, visit_of, visit_on}
 use Rattle.packets_heard.specs.Heard.{Joined}
-use Rattle.segment_model.specs.Returned.{Returns}
-use Rattle.segment_model.specs.Record.{is_for}
-use Rattle.segment_model.specs.Slaves.{Datagram, grams}
-use Rattle.segment_ring.specs.declared.wire.Fate.{Fate}
-use Rattle.segment_ring.specs.declared.wire.Fate.TheVariants.{Pass, Lost}
+use Rattle.slave_server.specs.of_segment_model.Returned.{Returns}
+use Rattle.slave_server.specs.of_segment_model.Record.{is_for}
+use Rattle.slave_server.specs.of_segment_model.Slaves.{Datagram, grams}
+use Rattle.master_node.specs.of_segment_ring.declared.wire.Fate.{Fate}
+use Rattle.master_node.specs.of_segment_ring.declared.wire.Fate.TheVariants.{Pass, Lost}
 use Rattle.packets_heard.specs.Listed.{unfinished_of, CarriesAll, packets_by, listed_behind, ListedOn}
 use Rattle.master_node.specs.of_life_runs.Served.{Serves, ServedTurn, AllServedTurn}
 
@@ -89,11 +89,11 @@ serves_asked lens made ds (w ∷ ws) [] t = absurd t
 serves_asked lens made ds (w ∷ ws) (v ∷ vs) t = (t.0.asked, serves_asked lens made ds ws vs t.1)
 
 module _ (lens : ℕ → Lens) (f : Exchanged) where
-  sees : (ds : List Raw.Datagram) → seen lens f.sent ≡ map (λ d. Rattle.frame_view.specs.View.datagram_seen lens d) ds → (u : Turn) → FrameFor lens u.lived.spot u.lived.life.stand u.share ds → u.share.under ≡ false → own u.lived.spot.station (seen lens f.sent) ≡ []
+  sees : (ds : List Raw.Datagram) → seen lens f.sent ≡ map (λ d. Rattle.master_node.specs.of_frame_view.View.datagram_seen lens d) ds → (u : Turn) → FrameFor lens u.lived.spot u.lived.life.stand u.share ds → u.share.under ≡ false → own u.lived.spot.station (seen lens f.sent) ≡ []
   sees ds e u (FrameFor.none n a) out = ap (λ z. own u.lived.spot.station z) e ∙ own_none lens u.lived.spot ds a
   sees ds e u (FrameFor.one n d a b) out = absurd (let bad : true ≡ false = sym n ∙ out in cc)
 
-  none_completed : Returns (seen lens f.sent) (seen lens f.back) → (ds : List Raw.Datagram) → seen lens f.sent ≡ map (λ d. Rattle.frame_view.specs.View.datagram_seen lens d) ds → (us : List Turn) → AllAsked lens ds us → (js : List Joined) (k : ℕ) →
+  none_completed : Returns (seen lens f.sent) (seen lens f.back) → (ds : List Raw.Datagram) → seen lens f.sent ≡ map (λ d. Rattle.master_node.specs.of_frame_view.View.datagram_seen lens d) ds → (us : List Turn) → AllAsked lens ds us → (js : List Joined) (k : ℕ) →
       holds_at is_carried us k ≡ false → completed_at (seen lens f.back) us (unfinished_of js) k ≡ []
   none_completed r ds e [] t js k out = refl
   none_completed r ds e (u ∷ us) t [] k out = refl

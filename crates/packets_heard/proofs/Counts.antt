@@ -3,8 +3,8 @@ use Rattle.std.proofs.Common.{◌≡◌, ◌≤◌, ◌<◌, ℕ, zero, suc, ◌
 use Rattle.std.specs.Prelude.{◌==◌, nat_le, if◌then◌else◌, All}
 use Rattle.std.proofs.lemmas.Bool.{le-leb, lt-leb}
 use Rattle.std.proofs.lemmas.List.Elements.{All-head, All-tail}
-use Rattle.eoe_switch.specs.declared.switching.SwitchEvent.{SwitchEvent}
-use Rattle.eoe_switch.specs.declared.switching.SwitchEvent.TheVariants.{Arrive, Begun, Down}
+use Rattle.master_node.specs.of_eoe_switch.declared.switching.SwitchEvent.{SwitchEvent}
+use Rattle.master_node.specs.of_eoe_switch.declared.switching.SwitchEvent.TheVariants.{Arrive, Begun, Down}
 use Rattle.master_node.specs.Happened.{arrivals_at}
 use Rattle.packets_heard.specs.Numbers.{begins, comes_in, each_with, events_up_to, goes, numbers_where}
 use Rattle.packets_heard.specs.Over.{IsNoBegun, begun_at}

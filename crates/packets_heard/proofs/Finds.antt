@@ -7,8 +7,8 @@ use Rattle.master_node.specs.Forwards.{port_by}
 use Rattle.master_node.specs.Ports.{ports_behind, ports_of, port_where, last_where}
 use Rattle.master_node.specs.Shows.{is_live_lead}
 use Rattle.master_node.specs.of_master_tour.Goes.{holds_at}
-use Rattle.segment_plan.specs.declared.service.Service as Plan
-use Rattle.segment_plan.specs.declared.slave.SlaveSpec.{SlaveSpec}
+use Rattle.slave_server.specs.of_segment_plan.declared.service.Service as Plan
+use Rattle.slave_server.specs.of_segment_plan.declared.slave.SlaveSpec.{SlaveSpec}
 
 abbrev one_more : ℕ → SlaveSpec → ℕ
 one_more last s = last + cond s.eoe 1 0

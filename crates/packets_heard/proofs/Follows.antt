@@ -4,14 +4,14 @@ use Rattle.std.specs.Prelude.{⊤, ◌==◌, ◌||◌, not, nat_lt, if◌then◌
 use Rattle.std.proofs.lemmas.Bool.Decides.{nat_tests}
 use Rattle.std.proofs.lemmas.Grind.{common_steps}
 use Rattle.arrayvec.specs.ArrayVec.{ArrayVec}
-use Rattle.eoe_switch.specs.Ports.{AtPort, is_known_target, is_target, taken_at, offered}
-use Rattle.eoe_switch.specs.Switch.{Switched, Flow, first_port, first_switch, ports_behind, bit_where, route_of, learned_from, queue_of, queue_at, changed, forwards_behind, flow_behind, flow_of, switched}
-use Rattle.eoe_switch.specs.declared.port.Offered.{Offered}
-use Rattle.eoe_switch.specs.declared.port.Offered.TheVariants.{Not, Taken, Full}
-use Rattle.eoe_switch.specs.declared.port.Port.{Port}
-use Rattle.eoe_switch.specs.declared.port.Route.{Route}
-use Rattle.eoe_switch.specs.declared.switching.SwitchEvent.{SwitchEvent}
-use Rattle.eoe_switch.specs.declared.switching.SwitchEvent.TheVariants.{Arrive, Begun, Down}
+use Rattle.master_node.specs.of_eoe_switch.Ports.{AtPort, is_known_target, is_target, taken_at, offered}
+use Rattle.master_node.specs.of_eoe_switch.Switch.{Switched, Flow, first_port, first_switch, ports_behind, bit_where, route_of, learned_from, queue_of, queue_at, changed, forwards_behind, flow_behind, flow_of, switched}
+use Rattle.master_node.specs.of_eoe_switch.declared.port.Offered.{Offered}
+use Rattle.master_node.specs.of_eoe_switch.declared.port.Offered.TheVariants.{Not, Taken, Full}
+use Rattle.master_node.specs.of_eoe_switch.declared.port.Port.{Port}
+use Rattle.master_node.specs.of_eoe_switch.declared.port.Route.{Route}
+use Rattle.master_node.specs.of_eoe_switch.declared.switching.SwitchEvent.{SwitchEvent}
+use Rattle.master_node.specs.of_eoe_switch.declared.switching.SwitchEvent.TheVariants.{Arrive, Begun, Down}
 use Rattle.master_node.specs.Begins as Begins
 use Rattle.master_node.specs.Begins.{switch_on, switch_behind, taken_by, taken_in}
 use Rattle.packets_heard.specs.Over.{forwarded_to}

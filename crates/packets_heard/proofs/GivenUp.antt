@@ -2,26 +2,26 @@
 use Rattle.std.proofs.Common.{◌≡◌, ◌≤◌, ◌⊎◌, inl, inr, ℕ, zero, suc, ◌+◌, Bool, true, false, Option, Some, None, List, [], ◌∷◌, ◌++◌, map, length, length-append, refl, sym, ap, subst, ◌∙◌, arith, append-nil}
 use Rattle.std.specs.Prelude.{◌&&◌, if◌then◌else◌, slice_get}
 use Rattle.std.proofs.lemmas.Option.{slice_get_past}
-use Rattle.eoe_switch.specs.declared.switching.SwitchEvent.{SwitchEvent}
-use Rattle.master_node.specs.of_life_runs.of_datagrams.Datagram as Raw
-use Rattle.master_node.specs.of_life_runs.of_frame_view.View.{Lens}
-use Rattle.master_node.specs.of_life_runs.of_frame_view.Seen.{seen}
-use Rattle.master_node.specs.of_life_runs.of_frame_view.Shares.{came_at, given_where, lived_back, lived_lost}
-use Rattle.master_node.specs.of_life_runs.of_frame_view.of_life_model.Lives.{Life, Spot, Stand, life_lost}
+use Rattle.master_node.specs.of_eoe_switch.declared.switching.SwitchEvent.{SwitchEvent}
+use Rattle.master_node.specs.of_datagrams.Datagram as Raw
+use Rattle.master_node.specs.of_frame_view.View.{Lens}
+use Rattle.master_node.specs.of_frame_view.Seen.{seen}
+use Rattle.master_node.specs.of_frame_view.Shares.{came_at, given_where, lived_back, lived_lost}
+use Rattle.master_node.specs.of_life_model.Lives.{Life, Spot, Stand, life_lost}
 use Rattle.master_node.specs.of_life_runs.First.{first_leads, leads_from}
 use Rattle.master_node.specs.of_life_runs.Led.{Exchanged, Leads, Turn, AllTurn, IsLed, led_behind, life_behind, gives_up_at, is_passed, speech_at}
-use Rattle.master_node.specs.of_life_runs.of_link_mails.Body.{Body}
-use Rattle.master_node.specs.of_life_runs.of_master_duty.Reply.{Reply}
-use Rattle.master_node.specs.of_life_runs.of_segment_plan.declared.plan.Scenario.{Scenario}
-use Rattle.master_node.specs.of_life_runs.of_segment_plan.declared.service.Service as Plan
-use Rattle.master_node.specs.of_life_runs.of_segment_plan.declared.slave.SlaveSpec.{SlaveSpec}
+use Rattle.slave_server.specs.of_link_mails.Body.{Body}
+use Rattle.master_node.specs.of_master_duty.Reply.{Reply}
+use Rattle.slave_server.specs.of_segment_plan.declared.plan.Scenario.{Scenario}
+use Rattle.slave_server.specs.of_segment_plan.declared.service.Service as Plan
+use Rattle.slave_server.specs.of_segment_plan.declared.slave.SlaveSpec.{SlaveSpec}
 use Rattle.master_node.specs.of_master_hand.Spoken.{Asked, acknowledged, is_followed}
 use Rattle.master_node.proofs.Servings.{leads_same, run_all}
 use Rattle.master_node.specs.Serving.{run_lead, run_turn}
 use Rattle.master_node.specs.Shows.{is_led, is_live_lead}
 use Rattle.master_node.specs.Wants.{gave_of, IsCounted, AllCounted}
 use Rattle.master_node.proofs.Counts.{back_gave, counted, lost_gave, next_gave, turn_gave}
-use Rattle.master_side.specs.Passing.{news_back, news_lost}
+use Rattle.master_node.specs.of_master_side.Passing.{news_back, news_lost}
 use Rattle.master_node.specs.of_master_tour.Goes.{holds_at}
 use Rattle.packets_heard.specs.Numbers.{Numbered, NumberedOn, given_up_at, goes, number_behind, numbers_where}
 use Rattle.packets_heard.proofs.Counts.{count, count_goes, repeat}
@@ -31,9 +31,9 @@ use Rattle.packets_heard.specs.Over.{AreBegun}
 use Rattle.packets_heard.proofs.Ports.{making_downs}
 use Rattle.packets_heard.proofs.Runs.{run_downs, serving_downs}
 use Rattle.packets_heard.specs.Servings.{AreServedBegun, ServedListed, ServedNumbered}
-use Rattle.segment_model.specs.Record.{News}
-use Rattle.segment_ring.specs.declared.wire.Fate.{Fate}
-use Rattle.segment_ring.specs.declared.wire.Fate.TheVariants.{Pass, Lost}
+use Rattle.slave_server.specs.of_segment_model.Record.{News}
+use Rattle.master_node.specs.of_segment_ring.declared.wire.Fate.{Fate}
+use Rattle.master_node.specs.of_segment_ring.declared.wire.Fate.TheVariants.{Pass, Lost}
 use Rattle.master_node.specs.of_life_runs.Served.{AllServedTurn, IsServedLed, IsServedTurn, Serves, ServedTurn, all_serve, served_behind, served_life}
 
 abbrev SlaveLife : Type 0

@@ -1,29 +1,29 @@
 -- Which slaves are live, frame by frame.
 use Rattle.std.proofs.Common.{◌≡◌, ℕ, zero, suc, Bool, true, false, Option, Some, None, List, [], ◌∷◌, map, refl, sym, ap, ◌∙◌}
 use Rattle.std.specs.Prelude.{◌==◌, ◌&&◌, not}
-use Rattle.datagrams.specs.Datagram as Raw
-use Rattle.frame_view.specs.View.{Lens}
-use Rattle.frame_view.specs.Seen.{seen}
-use Rattle.frame_view.specs.Frames.{FrameFor}
-use Rattle.frame_view.specs.Shares.{came_at, given_where}
-use Rattle.life_model.specs.Lives as Lives
-use Rattle.life_model.specs.Lives.{Life, Opening, Stand, life_back, life_lost, opening_back, shows_clear, last_step, is_shown, clears, opens, reopens, reopens_at, returns_to_init, era_back}
+use Rattle.master_node.specs.of_datagrams.Datagram as Raw
+use Rattle.master_node.specs.of_frame_view.View.{Lens}
+use Rattle.master_node.specs.of_frame_view.Seen.{seen}
+use Rattle.master_node.specs.of_frame_view.Frames.{FrameFor}
+use Rattle.master_node.specs.of_frame_view.Shares.{came_at, given_where}
+use Rattle.master_node.specs.of_life_model.Lives as Lives
+use Rattle.master_node.specs.of_life_model.Lives.{Life, Opening, Stand, life_back, life_lost, opening_back, shows_clear, last_step, is_shown, clears, opens, reopens, reopens_at, returns_to_init, era_back}
 use Rattle.master_node.specs.of_life_runs.Led.{Exchanged, Leads, Turn, AllTurn, speech_at, life_behind, led_behind, is_passed}
-use Rattle.link_mails.specs.Body.{Body}
-use Rattle.master_duty.specs.Reply.{Reply}
+use Rattle.slave_server.specs.of_link_mails.Body.{Body}
+use Rattle.master_node.specs.of_master_duty.Reply.{Reply}
 use Rattle.master_node.specs.of_master_hand.Spoken.{Asked, acknowledged, is_followed}
 use Rattle.master_node.specs.Downs.{goes_down}
 use Rattle.master_node.specs.Serving.{run_lead, run_turn}
 use Rattle.master_node.specs.Shows.{is_led, is_live_lead, is_live_turn, is_carried}
 use Rattle.master_node.proofs.Counts.{if_by, next_stand}
-use Rattle.master_side.specs.Passing.{news_back, news_lost}
+use Rattle.master_node.specs.of_master_side.Passing.{news_back, news_lost}
 use Rattle.master_node.specs.of_master_tour.Goes.{holds_at}
-use Rattle.segment_model.specs.Record.{News}
-use Rattle.segment_model.specs.Slaves.{Found}
-use Rattle.segment_ring.specs.declared.wire.Fate.{Fate}
-use Rattle.segment_ring.specs.declared.wire.Fate.TheVariants.{Pass, Lost}
+use Rattle.slave_server.specs.of_segment_model.Record.{News}
+use Rattle.slave_server.specs.of_segment_model.Slaves.{Found}
+use Rattle.master_node.specs.of_segment_ring.declared.wire.Fate.{Fate}
+use Rattle.master_node.specs.of_segment_ring.declared.wire.Fate.TheVariants.{Pass, Lost}
 use Rattle.master_node.specs.of_life_runs.Served.{Serves, ServedTurn, AllServedTurn, served_behind, served_life}
-use Rattle.state_model.specs.Accounts.{Duty, Stage}
+use Rattle.slave_server.specs.of_state_model.Accounts.{Duty, Stage}
 
 abbrev SlaveLife : Type 0
 SlaveLife = Life Body Asked Reply

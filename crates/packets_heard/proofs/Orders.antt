@@ -2,7 +2,7 @@
 use Rattle.std.proofs.Common.{◌≡◌, ℕ, zero, suc, ◌+◌, ◌-◌, ◌<◌, ◌≤◌, ◌==◌, Bool, true, false, Option, Some, None, List, [], ◌∷◌, ◌++◌, length, take, drop, refl, sym, ap, ◌∙◌, subst, arith, append_assoc}
 use Rattle.std.specs.Prelude.{if◌then◌else◌, cond, map, filter}
 use Rattle.std.proofs.lemmas.Bool.{lt-ltb, le-ltb, eq-eqb}
-use Rattle.master_node.specs.of_segment_model.Visits.{Stop, Fills, Carries, IsVisit, split_behind}
+use Rattle.slave_server.specs.of_segment_model.Visits.{Stop, Fills, Carries, IsVisit, split_behind}
 use Rattle.master_node.specs.of_life_model.Tours.{Member, stops_of, is_live_in, round}
 use Rattle.master_node.specs.of_master_tour.Orders.{start_of, place_in, places_from, round_left, visits_left}
 use Rattle.packets_heard.specs.Visits.{stop_at, stops_at, stations_at, last_station, IsPlace, AreOf, IsApart, AreApart, Comes, GoesThrough}

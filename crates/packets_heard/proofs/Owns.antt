@@ -1,7 +1,7 @@
 -- Each slave of a plan that serves EoE has a port of its own.
 use Rattle.std.proofs.Common.{◌≡◌, ◌≤◌, ◌<◌, ℕ, zero, suc, ◌+◌, Bool, true, false, Option, Some, List, [], ◌∷◌, refl, sym, ap, arith}
 use Rattle.std.specs.Prelude.{slice_get}
-use Rattle.segment_plan.specs.declared.slave.SlaveSpec.{SlaveSpec}
+use Rattle.slave_server.specs.of_segment_plan.declared.slave.SlaveSpec.{SlaveSpec}
 use Rattle.master_node.specs.Forwards.{port_by}
 use Rattle.master_node.specs.Ports.{port_where, last_where, ports_behind}
 use Rattle.packets_heard.specs.Listed.{IsOwn}

@@ -1,17 +1,17 @@
 -- Fragments of packets in order, the first of them, and what is joined of these.
 use Rattle.std.proofs.Common.{◌≡◌, ◌⊎◌, inl, inr, ℕ, ◌-◌, ◌*◌, ◌/◌, ◌≤◌, Bool, true, false, cond, Option, Some, None, List, [], ◌∷◌, ◌++◌, refl, ap, ap₂, sym, ◌∙◌, subst, append_assoc}
-use Rattle.eoe.specs.declared.message.Fragment.{Fragment}
-use Rattle.eoe.specs.declared.joining.Joined.{Joined}
-use Rattle.eoe.specs.declared.joining.Joined.TheVariants.{More, Whole, Dropped}
-use Rattle.eoe.specs.declared.joining.Unfinished.{Unfinished}
-use Rattle.eoe.specs.Cutting.{fragments_of}
-use Rattle.eoe.specs.Joining.{taken, joins, GivesWhole}
-use Rattle.eoe.proofs.Whole.{every_area_gives_the_packet}
-use Rattle.exchange_model.specs.Prefix.{IsPrefixOf}
-use Rattle.exchange_model.specs.Exchange.{Exchange, emitted}
-use Rattle.state_model.specs.States.{Table}
-use Rattle.state_model.specs.Stated.{Stated, Service}
-use Rattle.life_model.specs.Book.{Line, EpochBook, EpochFits, acted, emits_by, all_emits}
+use Rattle.master_node.specs.of_eoe.declared.message.Fragment.{Fragment}
+use Rattle.master_node.specs.of_eoe.declared.joining.Joined.{Joined}
+use Rattle.master_node.specs.of_eoe.declared.joining.Joined.TheVariants.{More, Whole, Dropped}
+use Rattle.master_node.specs.of_eoe.declared.joining.Unfinished.{Unfinished}
+use Rattle.master_node.specs.of_eoe.Cutting.{fragments_of}
+use Rattle.master_node.specs.of_eoe.Joining.{taken, joins, GivesWhole}
+use Rattle.master_node.proofs.of_eoe.Whole.{every_area_gives_the_packet}
+use Rattle.slave_server.specs.of_exchange_model.Prefix.{IsPrefixOf}
+use Rattle.slave_server.specs.of_exchange_model.Exchange.{Exchange, emitted}
+use Rattle.slave_server.specs.of_state_model.States.{Table}
+use Rattle.slave_server.specs.of_state_model.Stated.{Stated, Service}
+use Rattle.master_node.specs.of_life_model.Book.{Line, EpochBook, EpochFits, acted, emits_by, all_emits}
 use Rattle.packets_heard.specs.Packets.{Emitted, ArePackets, all_fragments, octets_of, wholes, NoneDropped, HasArrived, HaveAllArrived, as_part, parts, IsOwn, IsCut, AreCut, packets_by, packets_of}
 
 -- what is unfinished behind fragments

@@ -4,13 +4,13 @@ use Rattle.std.specs.Prelude.{◌==◌, if◌then◌else◌, slice_get, All}
 use Rattle.std.proofs.lemmas.Bool.Decides.{nat_tests}
 use Rattle.std.proofs.lemmas.List.Elements.{All-nil, All-cons, All-head, All-tail}
 use Rattle.arrayvec.specs.ArrayVec.{ArrayVec}
-use Rattle.eoe_switch.specs.Switch.{Switched, downed_at, first_switch, switched}
-use Rattle.eoe_switch.specs.declared.switching.SwitchEvent.{SwitchEvent}
-use Rattle.eoe_switch.specs.declared.switching.SwitchEvent.TheVariants.{Arrive, Begun, Down}
-use Rattle.master_node.specs.of_life_runs.of_frame_view.View.{Lens}
-use Rattle.master_node.specs.of_life_runs.of_frame_view.of_state_model.Stated.{Service}
+use Rattle.master_node.specs.of_eoe_switch.Switch.{Switched, downed_at, first_switch, switched}
+use Rattle.master_node.specs.of_eoe_switch.declared.switching.SwitchEvent.{SwitchEvent}
+use Rattle.master_node.specs.of_eoe_switch.declared.switching.SwitchEvent.TheVariants.{Arrive, Begun, Down}
+use Rattle.master_node.specs.of_frame_view.View.{Lens}
+use Rattle.slave_server.specs.of_state_model.Stated.{Service}
 use Rattle.master_node.specs.of_life_runs.Led.{Exchanged, Leads, Turn, IsLed}
-use Rattle.master_node.specs.of_master_hand.of_protocol_models.EoeClient as EoeClient
+use Rattle.slave_server.specs.of_protocol_models.EoeClient as EoeClient
 use Rattle.master_node.specs.of_master_hand.Spoken.{Asked, sdo, file, drive, net, passed}
 use Rattle.master_node.specs.Arrivals.{arrive_where, arrive_at, arrive_by, arrivals_in}
 use Rattle.master_node.specs.Begins as Begins
@@ -26,8 +26,8 @@ use Rattle.packets_heard.specs.Over.{AreBegun, BegunOn, IsNoBegun, begun_at, beg
 use Rattle.packets_heard.proofs.Follows.{all_append, all_at, closed_none, down_closed, first_taken, flow_switch, taken_append}
 use Rattle.packets_heard.specs.Listed.{IsOwn}
 use Rattle.packets_heard.specs.Servings.{AreServedBegun, served_packets}
-use Rattle.segment_ring.specs.declared.wire.Fate.{Fate}
-use Rattle.segment_ring.specs.declared.wire.Fate.TheVariants.{Pass, Lost}
+use Rattle.master_node.specs.of_segment_ring.declared.wire.Fate.{Fate}
+use Rattle.master_node.specs.of_segment_ring.declared.wire.Fate.TheVariants.{Pass, Lost}
 use Rattle.master_node.specs.of_life_runs.Served.{Serves, IsServedLed}
 
 -- ---- how many are taken at a port, whether one waits there or not

@@ -1,24 +1,24 @@
 -- The packets of mails, part by part.
 use Rattle.std.proofs.Common.{◌≡◌, ℕ, Option, Some, None, List, [], ◌∷◌, ◌++◌, map, refl, sym, ap, ◌∙◌, append_assoc, append-nil}
-use Rattle.eoe.specs.Joining.{taken, joins}
-use Rattle.eoe.specs.declared.joining.Joined as Eoe
-use Rattle.eoe.specs.declared.joining.Joined.TheVariants.{More, Whole, Dropped}
-use Rattle.eoe.specs.declared.joining.Unfinished.{Unfinished}
-use Rattle.eoe.specs.declared.message.Fragment.{Fragment}
-use Rattle.frame_view.specs.View.{Lens}
-use Rattle.frame_view.specs.Seen.{seen}
-use Rattle.frame_view.specs.Shares.{AllBoth}
-use Rattle.life_model.specs.Lives.{Stand}
+use Rattle.master_node.specs.of_eoe.Joining.{taken, joins}
+use Rattle.master_node.specs.of_eoe.declared.joining.Joined as Eoe
+use Rattle.master_node.specs.of_eoe.declared.joining.Joined.TheVariants.{More, Whole, Dropped}
+use Rattle.master_node.specs.of_eoe.declared.joining.Unfinished.{Unfinished}
+use Rattle.master_node.specs.of_eoe.declared.message.Fragment.{Fragment}
+use Rattle.master_node.specs.of_frame_view.View.{Lens}
+use Rattle.master_node.specs.of_frame_view.Seen.{seen}
+use Rattle.master_node.specs.of_frame_view.Shares.{AllBoth}
+use Rattle.master_node.specs.of_life_model.Lives.{Stand}
 use Rattle.master_node.specs.of_life_runs.Led.{Exchanged, Leads, Turn, IsLed}
-use Rattle.link_mails.specs.Body.{Body}
+use Rattle.slave_server.specs.of_link_mails.Body.{Body}
 use Rattle.master_node.specs.of_master_hand.Brings.{as_list}
 use Rattle.master_node.specs.of_master_hand.Joins.{fragment_in, unfinished_by, completed_by, whole_of, unfinished_behind, packet_in, packets_in}
 use Rattle.master_node.specs.Serving.{run_lead, run_turn}
-use Rattle.master_side.specs.Heard.{joined_by}
+use Rattle.master_node.specs.of_master_side.Heard.{joined_by}
 use Rattle.master_node.specs.of_master_tour.Brings.{accepted_at}
 use Rattle.packets_heard.specs.Packets.{wholes, as_part, parts}
-use Rattle.segment_ring.specs.declared.wire.Fate.{Fate}
-use Rattle.segment_ring.specs.declared.wire.Fate.TheVariants.{Pass, Lost}
+use Rattle.master_node.specs.of_segment_ring.declared.wire.Fate.{Fate}
+use Rattle.master_node.specs.of_segment_ring.declared.wire.Fate.TheVariants.{Pass, Lost}
 use Rattle.packets_heard.specs.Heard.{mails_by, Joined, joined_behind, joined_on, joined_none, joined_in, Times, ended, times_behind, times_on, times_none, times_in, packets_of, IsJoined}
 use Rattle.packets_heard.specs.Servings.{served_joined, served_times}
 use Rattle.master_node.specs.of_life_runs.Served.{Serves, IsServedLed}

@@ -4,8 +4,8 @@ use Rattle.std.specs.Prelude.{◌==◌, nat_lt, if◌then◌else◌, slice_get, 
 use Rattle.std.proofs.lemmas.Bool.Decides.{nat_tests}
 use Rattle.std.proofs.lemmas.List.Elements.{All-head, All-tail}
 use Rattle.arrayvec.specs.ArrayVec.{ArrayVec}
-use Rattle.eoe_switch.specs.declared.switching.SwitchEvent.{SwitchEvent}
-use Rattle.eoe_switch.specs.declared.switching.SwitchEvent.TheVariants.{Arrive, Begun, Down}
+use Rattle.master_node.specs.of_eoe_switch.declared.switching.SwitchEvent.{SwitchEvent}
+use Rattle.master_node.specs.of_eoe_switch.declared.switching.SwitchEvent.TheVariants.{Arrive, Begun, Down}
 use Rattle.master_node.specs.Arrivals.{arrive_where, arrive_at, arrive_by, arrivals_in}
 use Rattle.master_node.specs.Downs.{down_by, downs_in}
 use Rattle.master_node.specs.Forwards.{port_by}

@@ -2,9 +2,9 @@
 use Rattle.std.proofs.Common.{◌≡◌, ◌≤◌, ℕ, zero, suc, ◌+◌, Bool, true, false, Some, List, [], ◌∷◌, map, refl, sym, ap, ◌∙◌, subst, arith, if◌then◌else◌, inl, inr}
 use Rattle.std.specs.Prelude.{replicate, slice_get}
 use Rattle.std.proofs.lemmas.Bool.{cases_order}
-use Rattle.eoe_switch.specs.Switch.{Flow, queue_of, queue_at, switched, first_port, first_switch}
-use Rattle.eoe_switch.specs.declared.switching.SwitchEvent.{SwitchEvent}
-use Rattle.frame_view.specs.View.{Lens}
+use Rattle.master_node.specs.of_eoe_switch.Switch.{Flow, queue_of, queue_at, switched, first_port, first_switch}
+use Rattle.master_node.specs.of_eoe_switch.declared.switching.SwitchEvent.{SwitchEvent}
+use Rattle.master_node.specs.of_frame_view.View.{Lens}
 use Rattle.master_node.specs.of_life_runs.First.{lens_of, first_leads}
 use Rattle.master_node.specs.of_life_runs.Led.{Exchanged, Leads, IsLed}
 use Rattle.master_node.specs.Forwards.{forwarded, port_by, waiting_by}
@@ -18,7 +18,7 @@ use Rattle.master_node.specs.declared.lan.Lan.{Lan}
 use Rattle.master_node.specs.of_master_tour.Goes.{holds_at}
 use Rattle.master_node.proofs.Restings.{rest_leads}
 use Rattle.master_node.proofs.Servings.{run_all}
-use Rattle.master_side.specs.Recall.{Recall}
+use Rattle.master_node.specs.of_master_side.Recall.{Recall}
 use Rattle.packets_heard.specs.Listed.{Listed, downs_at}
 use Rattle.packets_heard.proofs.Owns.{own_port}
 use Rattle.packets_heard.proofs.Runs.{run_downs, serving_downs}
@@ -26,7 +26,7 @@ use Rattle.packets_heard.proofs.Finds.{finds, first_live}
 use Rattle.packets_heard.proofs.Shut.{down_shut, host_empty, host_first, past_behind, past_first, shut_empty}
 use Rattle.packets_heard.specs.Recalled.{IsLanOf}
 use Rattle.packets_heard.specs.Servings.{ServedListed}
-use Rattle.segment_plan.specs.declared.plan.Scenario.{Scenario}
+use Rattle.slave_server.specs.of_segment_plan.declared.plan.Scenario.{Scenario}
 use Rattle.master_node.specs.of_life_runs.Served.{Serves, IsServedLed, all_serve}
 
 -- at the port of a live slave that rests none waits

@@ -1,9 +1,9 @@
 -- The events at a slave's port over a run.
 use Rattle.std.proofs.Common.{◌≡◌, ℕ, zero, suc, ◌+◌, Bool, true, false, Option, List, [], ◌∷◌, ◌++◌, map, length, refl, sym, ap, ◌∙◌, arith, append-nil}
 use Rattle.std.specs.Prelude.{◌&&◌, not, if◌then◌else◌}
-use Rattle.eoe_switch.specs.declared.switching.SwitchEvent.{SwitchEvent}
-use Rattle.frame_view.specs.View.{Lens}
-use Rattle.frame_view.specs.Seen.{seen}
+use Rattle.master_node.specs.of_eoe_switch.declared.switching.SwitchEvent.{SwitchEvent}
+use Rattle.master_node.specs.of_frame_view.View.{Lens}
+use Rattle.master_node.specs.of_frame_view.Seen.{seen}
 use Rattle.master_node.specs.of_life_runs.Led.{Exchanged, Leads, Turn, IsLed, led_behind, gives_up_at}
 use Rattle.master_node.specs.of_master_hand.Joins.{packets_in}
 use Rattle.master_node.specs.Arrivals.{completed_at}
@@ -15,8 +15,8 @@ use Rattle.master_node.proofs.Servings.{leads_same}
 use Rattle.master_node.specs.of_master_tour.Goes.{holds_at}
 use Rattle.master_node.specs.of_master_tour.Made.{is_in}
 use Rattle.packets_heard.specs.Heard.{Joined, joined_in, joined_on, joined_none, mails_by}
-use Rattle.segment_ring.specs.declared.wire.Fate.{Fate}
-use Rattle.segment_ring.specs.declared.wire.Fate.TheVariants.{Pass, Lost}
+use Rattle.master_node.specs.of_segment_ring.declared.wire.Fate.{Fate}
+use Rattle.master_node.specs.of_segment_ring.declared.wire.Fate.TheVariants.{Pass, Lost}
 use Rattle.packets_heard.specs.Listed.{downs_at, long_ones, packets_at, unfinished_of, IsOwn, packets_by, listed_behind, Listed, ListedOn}
 use Rattle.packets_heard.specs.Servings.{ServedListed, served_joined}
 use Rattle.master_node.specs.of_life_runs.Served.{Serves, IsServedLed, served_behind}

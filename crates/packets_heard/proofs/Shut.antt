@@ -3,13 +3,13 @@ use Rattle.std.proofs.Common.{◌≡◌, ◌≤◌, ℕ, zero, suc, ◌+◌, ◌
 use Rattle.std.specs.Prelude.{◌||◌, not, slice_get, drop, replicate}
 use Rattle.std.proofs.lemmas.Bool.{eqb-true}
 use Rattle.arrayvec.specs.ArrayVec.{ArrayVec}
-use Rattle.eoe_switch.specs.Ports.{offered, taken_at, is_known_target}
-use Rattle.eoe_switch.specs.Switch.{Flow, flow_behind, flow_of, ports_behind, changed, queue_of, route_of, learned_from}
-use Rattle.eoe_switch.specs.declared.port.Offered.TheVariants.{Not}
-use Rattle.eoe_switch.specs.declared.port.Port.{Port}
-use Rattle.eoe_switch.specs.declared.port.Route.{Route}
-use Rattle.eoe_switch.specs.declared.switching.SwitchEvent.{SwitchEvent}
-use Rattle.eoe_switch.specs.declared.switching.SwitchEvent.TheVariants.{Arrive, Begun, Down}
+use Rattle.master_node.specs.of_eoe_switch.Ports.{offered, taken_at, is_known_target}
+use Rattle.master_node.specs.of_eoe_switch.Switch.{Flow, flow_behind, flow_of, ports_behind, changed, queue_of, route_of, learned_from}
+use Rattle.master_node.specs.of_eoe_switch.declared.port.Offered.TheVariants.{Not}
+use Rattle.master_node.specs.of_eoe_switch.declared.port.Port.{Port}
+use Rattle.master_node.specs.of_eoe_switch.declared.port.Route.{Route}
+use Rattle.master_node.specs.of_eoe_switch.declared.switching.SwitchEvent.{SwitchEvent}
+use Rattle.master_node.specs.of_eoe_switch.declared.switching.SwitchEvent.TheVariants.{Arrive, Begun, Down}
 use Rattle.packets_heard.specs.Listed.{downs_at}
 
 -- a port that is down, or none

@@ -3,11 +3,11 @@ use Rattle.std.proofs.Common.{◌≡◌, ℕ, zero, suc, ◌&&◌, false, is_som
 use Rattle.std.specs.Prelude.{All, slice_get, ◌||◌}
 use Rattle.std.proofs.lemmas.List.Elements.{All-head, All-tail, All-cons, All-nil}
 use Rattle.arrayvec.specs.ArrayVec.{ArrayVec}
-use Rattle.eoe.specs.declared.joining.Unfinished.{Unfinished}
-use Rattle.eoe_switch.specs.Switch.{switched}
-use Rattle.eoe_switch.specs.declared.switching.SwitchEvent.{SwitchEvent}
-use Rattle.frame_view.specs.Seen.{seen}
-use Rattle.frame_view.specs.View.{Lens}
+use Rattle.master_node.specs.of_eoe.declared.joining.Unfinished.{Unfinished}
+use Rattle.master_node.specs.of_eoe_switch.Switch.{switched}
+use Rattle.master_node.specs.of_eoe_switch.declared.switching.SwitchEvent.{SwitchEvent}
+use Rattle.master_node.specs.of_frame_view.Seen.{seen}
+use Rattle.master_node.specs.of_frame_view.View.{Lens}
 use Rattle.master_node.specs.of_life_runs.First.{lens_of}
 use Rattle.master_node.specs.of_life_runs.Led.{Exchanged, Leads, Turn}
 use Rattle.master_node.specs.of_master_hand.Joins.{packets_in}
@@ -25,17 +25,17 @@ use Rattle.master_node.specs.declared.node.MasterNode.{MasterNode}
 use Rattle.master_node.specs.of_frame_view.Shares.{AllBoth}
 use Rattle.master_node.specs.of_life_model.Lives.{Stand}
 use Rattle.master_node.specs.of_master_duty.declared.duty.Duty.{Duty}
-use Rattle.master_node.specs.of_master_side.of_link_mails.Body.{Body}
+use Rattle.slave_server.specs.of_link_mails.Body.{Body}
 use Rattle.master_node.specs.of_master_tour.Stands.{StandShows}
 use Rattle.master_node.specs.of_master_tour.declared.stop.Stand as Stops
 use Rattle.master_node.specs.of_master_tour.declared.stop.Stop.{Stop}
-use Rattle.master_node.specs.of_segment_model.Slaves.{Datagram}
-use Rattle.master_side.specs.Carried.{in_hand}
-use Rattle.master_side.specs.Shown.{DutyShows}
-use Rattle.master_side.specs.declared.hand.Hand.{Ghosts}
+use Rattle.slave_server.specs.of_segment_model.Slaves.{Datagram}
+use Rattle.master_node.specs.of_master_side.Carried.{in_hand}
+use Rattle.master_node.specs.of_master_side.Shown.{DutyShows}
+use Rattle.master_node.specs.of_master_side.declared.hand.Hand.{Ghosts}
 use Rattle.packets_heard.specs.Recalled.{AllQuiet, AllStill, AtSwitch, IsLanOf}
-use Rattle.segment_plan.specs.declared.plan.Scenario.{Scenario}
-use Rattle.segment_ring.specs.declared.wire.Fate.TheVariants.{Pass}
+use Rattle.slave_server.specs.of_segment_plan.declared.plan.Scenario.{Scenario}
+use Rattle.master_node.specs.of_segment_ring.declared.wire.Fate.TheVariants.{Pass}
 
 -- ---- what happened while a frame was made
 all_events : (rows : List Happening) → AreOfMaking rows → All IsOfMaking (events_of rows)

@@ -7,7 +7,7 @@ use Rattle.master_node.specs.of_life_model.Tours.{Member, is_live_in, round}
 use Rattle.master_node.specs.of_life_runs.Led.{Leads, Exchanged, IsLed, missed_behind, Turn, IsLedFrame}
 use Rattle.master_node.specs.of_master_tour.Orders.{start_of, round_left, visited_of}
 use Rattle.master_node.specs.of_master_tour.Toured.{Tour, visit_of}
-use Rattle.master_node.specs.of_segment_model.Visits.{Stop}
+use Rattle.slave_server.specs.of_segment_model.Visits.{Stop}
 use Rattle.master_node.specs.of_segment_ring.declared.wire.Fate.{Fate}
 use Rattle.master_node.specs.of_segment_ring.declared.wire.Fate.TheVariants.{Pass, Lost}
 use Rattle.packets_heard.specs.Toured.{IsToured, IsTourFrame, lives_behind, tour_behind, stations_of, visit_stations}

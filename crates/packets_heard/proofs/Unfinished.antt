@@ -1,12 +1,12 @@
 -- What is unfinished of the slaves' packets, before a frame, while it is under way, and behind it.
 use Rattle.std.proofs.Common.{◌≡◌, ℕ, Option, None, List, [], ◌∷◌, map, length, refl, sym, ap, subst, ◌∙◌, arith}
-use Rattle.datagrams.specs.Datagram as Raw
-use Rattle.eoe.specs.declared.joining.Unfinished.{Unfinished}
-use Rattle.frame_view.specs.View.{Lens}
-use Rattle.life_model.specs.Lives.{Life, Stand}
+use Rattle.master_node.specs.of_datagrams.Datagram as Raw
+use Rattle.master_node.specs.of_eoe.declared.joining.Unfinished.{Unfinished}
+use Rattle.master_node.specs.of_frame_view.View.{Lens}
+use Rattle.master_node.specs.of_life_model.Lives.{Life, Stand}
 use Rattle.master_node.specs.of_life_runs.Led.{Exchanged, Leads, Turn, AllTurn, speech_at, is_passed}
-use Rattle.link_mails.specs.Body.{Body}
-use Rattle.master_duty.specs.Reply.{Reply}
+use Rattle.slave_server.specs.of_link_mails.Body.{Body}
+use Rattle.master_node.specs.of_master_duty.Reply.{Reply}
 use Rattle.master_node.specs.of_master_hand.Joins.{unfinished_behind}
 use Rattle.master_node.specs.of_master_hand.Spoken.{Asked, acknowledged, is_followed}
 use Rattle.master_node.specs.Joined.{IsUnfinished, HasUnfinished, JoinsKept, stand_before, stand_under, unfinished_after}

@@ -3,7 +3,7 @@ use Rattle.std.proofs.Common.{◌≡◌, ◌==◌, Bool, true, false, Some, None
 use Rattle.std.specs.Prelude.{not}
 use Rattle.master_node.specs.of_master_tour.Sizes.{frame_size}
 use Rattle.master_node.specs.of_master_tour.Toured.{LeavesOut, visit_of, new_tour, goes_on, lost_on}
-use Rattle.master_node.specs.of_segment_model.Visits.{Stop, IsVisit}
+use Rattle.slave_server.specs.of_segment_model.Visits.{Stop, IsVisit}
 use Rattle.master_node.specs.of_life_model.Tours.{Member, round}
 use Rattle.master_node.specs.of_master_tour.Orders.{visits_left}
 use Rattle.packets_heard.specs.Visits.{GoesThrough, stations_at, last_station}

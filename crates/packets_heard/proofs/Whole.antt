@@ -9,7 +9,7 @@ use Rattle.master_node.specs.of_life_runs.Led.{Leads, Turn, IsLedFrame}
 use Rattle.master_node.specs.Toured.{turn_share}
 use Rattle.master_node.specs.of_master_tour.Orders.{start_of, round_left, visited_of}
 use Rattle.master_node.specs.of_master_tour.Toured.{Tour, IsOfTour, LeavesOut, visit_of}
-use Rattle.master_node.specs.of_segment_model.Visits.{Stop, IsVisit, carried}
+use Rattle.slave_server.specs.of_segment_model.Visits.{Stop, IsVisit, carried}
 use Rattle.packets_heard.specs.Toured.{AreAt, stations_of}
 use Rattle.packets_heard.specs.Visits.{AreOf, AreApart, IsPlace, Comes, GoesThrough, stop_at, stations_at, last_station}
 use Rattle.packets_heard.proofs.Carried.{carried_are}

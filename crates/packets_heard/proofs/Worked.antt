@@ -1,8 +1,8 @@
 -- A worked row of a port's events with their numbers.
 use Rattle.std.proofs.Common.{◌≡◌, ℕ, List, Some, None, [], ◌∷◌, refl}
 use Rattle.arrayvec.specs.ArrayVec.{ArrayVec}
-use Rattle.eoe_switch.specs.declared.switching.SwitchEvent.{SwitchEvent}
-use Rattle.eoe_switch.specs.declared.switching.SwitchEvent.TheVariants.{Arrive, Begun, Down}
+use Rattle.master_node.specs.of_eoe_switch.declared.switching.SwitchEvent.{SwitchEvent}
+use Rattle.master_node.specs.of_eoe_switch.declared.switching.SwitchEvent.TheVariants.{Arrive, Begun, Down}
 use Rattle.packets_heard.specs.Numbers.{begins, comes_in, events_up_to, goes, number_behind, numbers_where}
 
 -- a packet of the host goes to port 2 before frame 8, which brings one from port 1; a packet begins there before frame 9, at which the slave of port 1 is given up for good

@@ -1,17 +1,17 @@
 -- THE PACKETS THAT SLAVES SEND, as their master joins them over the frames of a run.
 use Rattle.std.specs.Prelude.{◌≡◌, ℕ, Option, None, List, [], ◌∷◌, ◌++◌, map}
-use Rattle.eoe.specs.declared.joining.Unfinished.{Unfinished}
-use Rattle.frame_view.specs.View.{Lens}
-use Rattle.frame_view.specs.Seen.{seen}
-use Rattle.life_model.specs.Lives.{Stand}
+use Rattle.master_node.specs.of_eoe.declared.joining.Unfinished.{Unfinished}
+use Rattle.master_node.specs.of_frame_view.View.{Lens}
+use Rattle.master_node.specs.of_frame_view.Seen.{seen}
+use Rattle.master_node.specs.of_life_model.Lives.{Stand}
 use Rattle.master_node.specs.of_life_runs.Led.{Exchanged, Leads, Turn, IsLed}
-use Rattle.link_mails.specs.Body.{Body}
+use Rattle.slave_server.specs.of_link_mails.Body.{Body}
 use Rattle.master_node.specs.of_master_hand.Joins.{unfinished_behind, packets_in}
-use Rattle.master_side.specs.Heard.{joined_by}
+use Rattle.master_node.specs.of_master_side.Heard.{joined_by}
 use Rattle.master_node.specs.of_master_tour.Brings.{accepted_in}
 use Rattle.master_node.specs.of_master_tour.Joins.{join_at}
-use Rattle.segment_ring.specs.declared.wire.Fate.{Fate}
-use Rattle.segment_ring.specs.declared.wire.Fate.TheVariants.{Pass, Lost}
+use Rattle.master_node.specs.of_segment_ring.declared.wire.Fate.{Fate}
+use Rattle.master_node.specs.of_segment_ring.declared.wire.Fate.TheVariants.{Pass, Lost}
 
 -- the mails accepted of a slave by a frame of this fate: a lost one brings none
 abbrev pub mails_by : (ℕ → Lens) → Exchanged → Fate → Turn → List Body

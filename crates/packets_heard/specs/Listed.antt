@@ -1,11 +1,11 @@
 -- THE EVENTS OF A SWITCH over the frames of a run: what comes in of the slaves, and which of their ports go down.
 use Rattle.std.specs.Prelude.{◌≡◌, ◌≤◌, ℕ, zero, suc, ◌+◌, ◌==◌, nat_lt, if◌then◌else◌, Bool, true, false, Option, Some, List, [], ◌∷◌, ◌++◌, map, length, slice_get, All}
 use Rattle.arrayvec.specs.ArrayVec.{ArrayVec}
-use Rattle.eoe.specs.declared.joining.Unfinished.{Unfinished}
-use Rattle.eoe_switch.specs.declared.switching.SwitchEvent.{SwitchEvent}
-use Rattle.eoe_switch.specs.declared.switching.SwitchEvent.TheVariants.{Arrive, Begun, Down}
-use Rattle.frame_view.specs.View.{Lens}
-use Rattle.frame_view.specs.Seen.{seen}
+use Rattle.master_node.specs.of_eoe.declared.joining.Unfinished.{Unfinished}
+use Rattle.master_node.specs.of_eoe_switch.declared.switching.SwitchEvent.{SwitchEvent}
+use Rattle.master_node.specs.of_eoe_switch.declared.switching.SwitchEvent.TheVariants.{Arrive, Begun, Down}
+use Rattle.master_node.specs.of_frame_view.View.{Lens}
+use Rattle.master_node.specs.of_frame_view.Seen.{seen}
 use Rattle.master_node.specs.of_life_runs.Led.{Exchanged, Leads, Turn, IsLed, led_behind, gives_up_at}
 use Rattle.master_node.specs.Arrivals.{arrivals_in, completed_at}
 use Rattle.master_node.specs.Downs.{downs_in, goes_down}
@@ -16,8 +16,8 @@ use Rattle.master_node.specs.of_master_tour.Goes.{holds_at}
 use Rattle.master_node.specs.of_master_tour.Made.{is_in}
 use Rattle.master_node.specs.of_master_tour.Orders.{AreOnce}
 use Rattle.packets_heard.specs.Heard.{Joined, joined_in}
-use Rattle.segment_ring.specs.declared.wire.Fate.{Fate}
-use Rattle.segment_ring.specs.declared.wire.Fate.TheVariants.{Pass, Lost}
+use Rattle.master_node.specs.of_segment_ring.declared.wire.Fate.{Fate}
+use Rattle.master_node.specs.of_segment_ring.declared.wire.Fate.TheVariants.{Pass, Lost}
 
 -- how often a port goes down by an event
 abbrev pub down_by_event : ℕ → SwitchEvent → ℕ

@@ -1,16 +1,16 @@
 -- THE PACKETS THAT BEGIN over the frames of a run.
 use Rattle.std.specs.Prelude.{◌≡◌, ℕ, zero, suc, ◌+◌, ◌==◌, true, false, if◌then◌else◌, Option, Some, None, List, [], ◌∷◌, ◌++◌, slice_get, All, ⊤}
 use Rattle.arrayvec.specs.ArrayVec.{ArrayVec}
-use Rattle.eoe_switch.specs.Switch.{switched}
-use Rattle.eoe_switch.specs.declared.switching.SwitchEvent.{SwitchEvent}
-use Rattle.eoe_switch.specs.declared.switching.SwitchEvent.TheVariants.{Arrive, Begun, Down}
-use Rattle.master_node.specs.of_life_runs.of_frame_view.View.{Lens}
+use Rattle.master_node.specs.of_eoe_switch.Switch.{switched}
+use Rattle.master_node.specs.of_eoe_switch.declared.switching.SwitchEvent.{SwitchEvent}
+use Rattle.master_node.specs.of_eoe_switch.declared.switching.SwitchEvent.TheVariants.{Arrive, Begun, Down}
+use Rattle.master_node.specs.of_frame_view.View.{Lens}
 use Rattle.master_node.specs.of_life_runs.Led.{Exchanged, Leads, Turn, IsLed}
-use Rattle.master_node.specs.of_master_hand.of_protocol_models.EoeClient as EoeClient
+use Rattle.slave_server.specs.of_protocol_models.EoeClient as EoeClient
 use Rattle.master_node.specs.of_master_hand.Spoken.{Asked, sdo, file, drive, net, passed}
 use Rattle.master_node.specs.Begins.{begins_by, begins_in, begins_other, begun_of, taken_in}
 use Rattle.master_node.specs.Forwards.{port_by, waiting_by}
-use Rattle.master_node.specs.of_life_runs.of_frame_view.of_state_model.Stated.{Service}
+use Rattle.slave_server.specs.of_state_model.Stated.{Service}
 use Rattle.master_node.specs.of_master_tour.Made.{is_in}
 use Rattle.master_node.specs.of_master_tour.Orders.{AreOnce}
 

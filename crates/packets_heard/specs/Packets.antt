@@ -1,15 +1,15 @@
 -- Packets that a slave emits, cut into fragments, and what its master joins of those that it heard.
 use Rattle.std.specs.Prelude.{◌≡◌, ℕ, ◌-◌, ◌*◌, ◌/◌, ◌≤◌, ⊤, Bool, true, Option, Some, None, List, [], ◌∷◌, ◌++◌, map, length}
-use Rattle.eoe.specs.declared.message.Fragment.{Fragment}
-use Rattle.eoe.specs.declared.joining.Joined.{Joined}
-use Rattle.eoe.specs.declared.joining.Joined.TheVariants.{More, Whole, Dropped}
-use Rattle.eoe.specs.Cutting.{fragments_of}
-use Rattle.eoe.specs.Joining.{joins}
-use Rattle.exchange_model.specs.Prefix.{IsPrefixOf}
-use Rattle.exchange_model.specs.Exchange.{Exchange}
-use Rattle.state_model.specs.States.{Table}
-use Rattle.state_model.specs.Stated.{Stated, Service}
-use Rattle.life_model.specs.Book.{Line, acted}
+use Rattle.master_node.specs.of_eoe.declared.message.Fragment.{Fragment}
+use Rattle.master_node.specs.of_eoe.declared.joining.Joined.{Joined}
+use Rattle.master_node.specs.of_eoe.declared.joining.Joined.TheVariants.{More, Whole, Dropped}
+use Rattle.master_node.specs.of_eoe.Cutting.{fragments_of}
+use Rattle.master_node.specs.of_eoe.Joining.{joins}
+use Rattle.slave_server.specs.of_exchange_model.Prefix.{IsPrefixOf}
+use Rattle.slave_server.specs.of_exchange_model.Exchange.{Exchange}
+use Rattle.slave_server.specs.of_state_model.States.{Table}
+use Rattle.slave_server.specs.of_state_model.Stated.{Stated, Service}
+use Rattle.master_node.specs.of_life_model.Book.{Line, acted}
 
 -- a packet that a slave emitted, with its EoE frame number
 pub record Emitted : Type 0 where

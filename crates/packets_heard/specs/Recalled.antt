@@ -1,9 +1,9 @@
 -- A RUN OF ONE TOUR, with what its master remembers of its slaves' visits and what happens at its switch, frame by frame.
 use Rattle.std.specs.Prelude.{◌≡◌, ◌⊎◌, ℕ, ◌==◌, Bool, true, false, Option, None, List, [], ◌∷◌, ◌++◌, map, All, ⊤}
 use Rattle.std.specs.List.{list_any}
-use Rattle.eoe_switch.specs.Switch.{switched}
-use Rattle.eoe_switch.specs.declared.switching.SwitchEvent.{SwitchEvent}
-use Rattle.eoe_switch.specs.declared.switching.SwitchEvent.TheVariants.{Arrive, Begun, Down}
+use Rattle.master_node.specs.of_eoe_switch.Switch.{switched}
+use Rattle.master_node.specs.of_eoe_switch.declared.switching.SwitchEvent.{SwitchEvent}
+use Rattle.master_node.specs.of_eoe_switch.declared.switching.SwitchEvent.TheVariants.{Arrive, Begun, Down}
 use Rattle.master_node.specs.of_life_runs.First.{lens_of, first_leads}
 use Rattle.master_node.specs.of_life_runs.Led.{Exchanged, Leads, Turn}
 use Rattle.master_node.specs.Begins.{begins_by, begins_in, begun_of, taken_in}
@@ -17,15 +17,15 @@ use Rattle.master_node.specs.Starts.{AllBegin, AllUnvisited}
 use Rattle.master_node.specs.declared.lan.Lan.{Lan}
 use Rattle.master_node.specs.of_frame_view.Seen.{seen}
 use Rattle.master_node.specs.of_life_model.Lives.{Stand}
-use Rattle.master_node.specs.of_master_side.of_link_mails.Body.{Body}
+use Rattle.slave_server.specs.of_link_mails.Body.{Body}
 use Rattle.master_node.specs.of_master_tour.Made.{is_in}
 use Rattle.master_node.specs.of_master_tour.Orders.{AreOnce}
 use Rattle.master_node.specs.of_master_tour.Toured.{Tour}
-use Rattle.master_node.specs.of_segment_model.Slaves.{Datagram}
-use Rattle.master_side.specs.Recall.{Recall}
-use Rattle.segment_plan.specs.declared.plan.Scenario.{Scenario}
-use Rattle.segment_ring.specs.Ring.{RingState, ring_behind}
-use Rattle.segment_ring.specs.declared.wire.Fate.TheVariants.{Pass, Lost}
+use Rattle.slave_server.specs.of_segment_model.Slaves.{Datagram}
+use Rattle.master_node.specs.of_master_side.Recall.{Recall}
+use Rattle.slave_server.specs.of_segment_plan.declared.plan.Scenario.{Scenario}
+use Rattle.master_node.specs.of_segment_ring.Ring.{RingState, ring_behind}
+use Rattle.master_node.specs.of_segment_ring.declared.wire.Fate.TheVariants.{Pass, Lost}
 use Rattle.slave_server.specs.of_slave_node.Node.{Node, node_passed, is_settled}
 use Rattle.slave_server.specs.of_slave_node.Step.{pdi_step}
 use Rattle.slave_server.specs.Serving.{Serving, takes, next_mail, rest, cleared}

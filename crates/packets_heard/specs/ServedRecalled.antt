@@ -9,9 +9,9 @@ use Rattle.master_node.specs.Starts.{AllUnvisited}
 use Rattle.master_node.specs.declared.lan.Lan.{Lan}
 use Rattle.master_node.specs.of_frame_view.Seen.{seen}
 use Rattle.master_node.specs.of_master_tour.Toured.{Tour}
-use Rattle.segment_plan.specs.declared.plan.Scenario.{Scenario}
-use Rattle.segment_ring.specs.Ring.{ring_behind}
-use Rattle.segment_ring.specs.declared.wire.Fate.TheVariants.{Pass, Lost}
+use Rattle.slave_server.specs.of_segment_plan.declared.plan.Scenario.{Scenario}
+use Rattle.master_node.specs.of_segment_ring.Ring.{ring_behind}
+use Rattle.master_node.specs.of_segment_ring.declared.wire.Fate.TheVariants.{Pass, Lost}
 use Rattle.master_node.specs.of_life_runs.Served.{Serves, ServedTurn, all_serve, served_behind}
 use Rattle.slave_server.specs.of_slave_node.Node.{node_passed}
 use Rattle.packets_heard.specs.Recalled.{AllSettled, AtSwitch, IsFirst, IsLanOf, State, has_entered, stepped}

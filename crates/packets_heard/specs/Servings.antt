@@ -1,8 +1,8 @@
 -- THE PACKETS AND THE EVENTS OF A SWITCH over the frames of a serving, as over those of a run: a mail that is asked between them changes nothing of them.
 use Rattle.std.specs.Prelude.{◌≡◌, ℕ, Option, List, [], ◌++◌, map, length}
 use Rattle.arrayvec.specs.ArrayVec.{ArrayVec}
-use Rattle.eoe_switch.specs.declared.switching.SwitchEvent.{SwitchEvent}
-use Rattle.master_node.specs.of_life_runs.of_frame_view.View.{Lens}
+use Rattle.master_node.specs.of_eoe_switch.declared.switching.SwitchEvent.{SwitchEvent}
+use Rattle.master_node.specs.of_frame_view.View.{Lens}
 use Rattle.master_node.specs.of_life_runs.Led.{Exchanged, gives_up_at}
 use Rattle.master_node.specs.Begins.{begins_other, begun_of}
 use Rattle.master_node.specs.Serving.{run_lead, run_turn}

@@ -10,7 +10,7 @@ use Rattle.master_node.specs.Rooms.{area_at}
 use Rattle.master_node.specs.of_master_tour.Goes.{holds_at}
 use Rattle.master_node.specs.of_master_tour.Sizes.{frame_size}
 use Rattle.master_node.specs.of_master_tour.Toured.{Tour, IsOfTour, new_tour, goes_on, lost_on}
-use Rattle.master_node.specs.of_segment_model.Visits.{Stop, station_at}
+use Rattle.slave_server.specs.of_segment_model.Visits.{Stop, station_at}
 use Rattle.master_node.specs.of_segment_ring.declared.wire.Fate.{Fate}
 use Rattle.master_node.specs.of_segment_ring.declared.wire.Fate.TheVariants.{Pass, Lost}
 use Rattle.packets_heard.specs.Visits.{stations_at}

@@ -1,6 +1,6 @@
 -- The slaves of a ring by their places.
 use Rattle.std.specs.Prelude.{◌≡◌, ℕ, ◌+◌, ◌<◌, ◌==◌, Bool, true, false, Option, Some, None, List, [], ◌∷◌, map, get_or, length, ⊤}
-use Rattle.master_node.specs.of_segment_model.Visits.{Stop}
+use Rattle.slave_server.specs.of_segment_model.Visits.{Stop}
 use Rattle.master_node.specs.of_life_model.Tours.{Member, is_live_in}
 use Rattle.master_node.specs.of_master_tour.Made.{is_in}
 use Rattle.master_node.specs.of_master_tour.Orders.{AreOnce}

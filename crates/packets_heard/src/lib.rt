@@ -9,18 +9,21 @@ pub mod recalled_runs;
 pub mod switch_model;
 pub mod visit_orders;
 
-ghost use Rattle.eoe.specs.declared.message.Fragment.{Fragment};
-ghost use Rattle.exchange_model.specs.Prefix.{IsPrefixOf};
-ghost use Rattle.frame_view.specs.View.{Lens};
-ghost use Rattle.frame_view.specs.Shares.{AllBoth};
+ghost use Rattle.master_node.specs.of_eoe.declared.message.Fragment.{Fragment};
+ghost use Rattle.slave_server.specs.of_exchange_model.Prefix.{IsPrefixOf};
+ghost use Rattle.master_node.specs.of_frame_view.View.{Lens};
+ghost use Rattle.master_node.specs.of_frame_view.Shares.{AllBoth};
 ghost use Rattle.master_node.specs.of_life_runs.Led.{Exchanged, Leads, Turn, IsLed, IsLedFrame};
-ghost use Rattle.link_mails.specs.Body.{Body};
+ghost use Rattle.slave_server.specs.of_link_mails.Body.{Body};
 ghost use Rattle.master_node.specs.of_master_hand.Joins.{fragment_in, packets_in};
 ghost use Rattle.packets_heard.specs.Packets.{Emitted, ArePackets, all_fragments, octets_of, parts};
 ghost use Rattle.packets_heard.specs.Heard.{IsJoined, times_in, joined_in, joined_on};
 ghost use Rattle.packets_heard.specs.Servings.{served_joined, served_times};
 ghost use Rattle.master_node.specs.of_life_runs.Served.{Serves, IsServedLed};
 ghost use Rattle.std.specs.Prelude.{◌≡◌, ◌≤◌, ◌++◌, ℕ, None, List, length};
+
+pub use slave_server;
+pub use slave_server::slave_node;
 
 /// FRAME BY FRAME a slave's packets are joined as from its mails at once: over a run they are, in order, just those that the mails of each time that it
 /// was open join to, with nothing unfinished before. And where the fragments of such a time are the first of those of packets that the slave sent, the

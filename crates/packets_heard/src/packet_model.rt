@@ -1,11 +1,11 @@
 //! Packets that slaves emit: cut into fragments, heard one by one, and joined again by the master. Definitions and laws, no running code.
 
 ghost use Rattle.std.specs.Prelude.{◌≡◌, ℕ, ◌≤◌, Bool, Option, List, ◌++◌};
-ghost use Rattle.eoe.specs.declared.message.Fragment.{Fragment};
-ghost use Rattle.exchange_model.specs.Exchange.{Exchange, emitted};
-ghost use Rattle.state_model.specs.States.{Table};
-ghost use Rattle.state_model.specs.Stated.{Stated};
-ghost use Rattle.life_model.specs.Book.{Line, EpochBook, EpochFits, all_emits};
+ghost use Rattle.master_node.specs.of_eoe.declared.message.Fragment.{Fragment};
+ghost use Rattle.slave_server.specs.of_exchange_model.Exchange.{Exchange, emitted};
+ghost use Rattle.slave_server.specs.of_state_model.States.{Table};
+ghost use Rattle.slave_server.specs.of_state_model.Stated.{Stated};
+ghost use Rattle.master_node.specs.of_life_model.Book.{Line, EpochBook, EpochFits, all_emits};
 ghost use Rattle.packets_heard.specs.Packets.{Emitted, ArePackets, all_fragments, HasArrived, HaveAllArrived, parts, IsOwn, AreCut, packets_of};
 
 /// Of the first fragments of packets, in order, the first packets are joined, each whole as it was emitted, and no fragment is dropped.

@@ -2,10 +2,10 @@
 
 ghost use Rattle.std.specs.Prelude.{◌≡◌, ◌<◌, ◌++◌, ◌∷◌, ℕ, suc, true, Option, List, length, map, All};
 ghost use Rattle.arrayvec.specs.ArrayVec.{ArrayVec};
-ghost use Rattle.eoe_switch.specs.Switch.{switched};
-ghost use Rattle.eoe_switch.specs.declared.switching.SwitchEvent.{SwitchEvent};
-ghost use Rattle.master_node.specs.of_life_runs.of_frame_view.View.{Lens};
-ghost use Rattle.master_node.specs.of_life_runs.of_segment_plan.declared.plan.Scenario.{Scenario};
+ghost use Rattle.master_node.specs.of_eoe_switch.Switch.{switched};
+ghost use Rattle.master_node.specs.of_eoe_switch.declared.switching.SwitchEvent.{SwitchEvent};
+ghost use Rattle.master_node.specs.of_frame_view.View.{Lens};
+ghost use Rattle.slave_server.specs.of_segment_plan.declared.plan.Scenario.{Scenario};
 ghost use Rattle.master_node.specs.of_life_runs.First.{first_leads};
 ghost use Rattle.master_node.specs.of_life_runs.Led.{Exchanged, Leads, Turn, IsLed, IsLedFrame};
 ghost use Rattle.master_node.specs.Arrivals.{ComeIn};
@@ -22,7 +22,7 @@ ghost use Rattle.packets_heard.specs.Over.{AreBegun, begun_at, forwarded_to, pac
 ghost use Rattle.packets_heard.specs.Listed.{IsOwn, Listed};
 ghost use Rattle.packets_heard.specs.Servings.{AreServedBegun, ServedListed, ServedNumbered, served_begun, served_completed, served_other, served_packets};
 ghost use Rattle.master_node.specs.of_life_runs.Served.{Serves, ServedTurn, IsServedFrame, IsServedLed};
-ghost use Rattle.segment_ring.specs.declared.wire.Fate.{Fate};
+ghost use Rattle.master_node.specs.of_segment_ring.declared.wire.Fate.{Fate};
 
 /// WHERE JUST THE PACKETS BEGIN THAT CAME INTO HAND, frame by frame, each the oldest at the port of its slave, over a run: at a port as many packets begin as came
 /// into hand of its slave; and these are the first of those that were forwarded there, in order;

@@ -1,11 +1,11 @@
 //! What happens at the ports of slaves over the frames of a run. No running code: the function here does nothing, and its contract states a law.
 
 ghost use Rattle.std.specs.Prelude.{◌≡◌, ◌++◌, ℕ, Bool, true, if◌then◌else◌, Option, Some, List, map, length, slice_get};
-ghost use Rattle.datagrams.specs.Datagram as Raw;
-ghost use Rattle.eoe.specs.declared.joining.Unfinished.{Unfinished};
-ghost use Rattle.eoe_switch.specs.declared.switching.SwitchEvent.{SwitchEvent};
-ghost use Rattle.frame_view.specs.View.{Lens};
-ghost use Rattle.frame_view.specs.Seen.{seen};
+ghost use Rattle.master_node.specs.of_datagrams.Datagram as Raw;
+ghost use Rattle.master_node.specs.of_eoe.declared.joining.Unfinished.{Unfinished};
+ghost use Rattle.master_node.specs.of_eoe_switch.declared.switching.SwitchEvent.{SwitchEvent};
+ghost use Rattle.master_node.specs.of_frame_view.View.{Lens};
+ghost use Rattle.master_node.specs.of_frame_view.Seen.{seen};
 ghost use Rattle.master_node.specs.of_life_runs.Led.{Exchanged, Leads, Turn, AllTurn, IsLed, IsLedFrame, led_behind, gives_up_at};
 ghost use Rattle.master_node.specs.Arrivals.{completed_at, ComeIn};
 ghost use Rattle.master_node.specs.Downs.{GoDown};
@@ -21,9 +21,9 @@ ghost use Rattle.master_node.specs.declared.node.MasterNode.{MasterNode};
 ghost use Rattle.master_node.specs.of_master_tour.Goes.{holds_at};
 ghost use Rattle.master_node.specs.of_master_tour.Orders.{AreOnce};
 ghost use Rattle.master_node.specs.of_master_tour.Toured.{Tour, IsOfTour};
-ghost use Rattle.segment_model.specs.Returned.{Returns};
-ghost use Rattle.segment_plan.specs.declared.slave.SlaveSpec.{SlaveSpec};
-ghost use Rattle.segment_ring.specs.declared.wire.Fate.{Fate};
+ghost use Rattle.slave_server.specs.of_segment_model.Returned.{Returns};
+ghost use Rattle.slave_server.specs.of_segment_plan.declared.slave.SlaveSpec.{SlaveSpec};
+ghost use Rattle.master_node.specs.of_segment_ring.declared.wire.Fate.{Fate};
 ghost use Rattle.packets_heard.specs.Heard.{Joined, joined_in, joined_on, mails_by};
 ghost use Rattle.packets_heard.specs.Listed.{CarriesAll, IsOwn, Listed, downs_at, long_ones, packets_at, packets_by, unfinished_of};
 ghost use Rattle.packets_heard.specs.Servings.{ServedListed, served_joined};

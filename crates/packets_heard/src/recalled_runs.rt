@@ -2,7 +2,7 @@
 //! functions here do nothing, and their contracts state the laws.
 
 ghost use Rattle.std.specs.Prelude.{ℕ, List};
-ghost use Rattle.eoe_switch.specs.declared.switching.SwitchEvent.{SwitchEvent};
+ghost use Rattle.master_node.specs.of_eoe_switch.declared.switching.SwitchEvent.{SwitchEvent};
 ghost use Rattle.master_node.specs.of_life_runs.First.{lens_of, first_leads};
 ghost use Rattle.master_node.specs.of_life_runs.Led.{Exchanged, Leads, IsLed};
 ghost use Rattle.master_node.specs.Happened.{NoneWaits};
@@ -10,11 +10,11 @@ ghost use Rattle.master_node.specs.Ports.{ports_behind};
 ghost use Rattle.master_node.specs.Resting.{AllRest};
 ghost use Rattle.master_node.specs.ServedEager.{AllServedRest};
 ghost use Rattle.master_node.specs.declared.lan.Lan.{Lan};
-ghost use Rattle.master_side.specs.Recall.{Recall};
+ghost use Rattle.master_node.specs.of_master_side.Recall.{Recall};
 ghost use Rattle.packets_heard.specs.Listed.{Listed};
 ghost use Rattle.packets_heard.specs.Recalled.{IsLanOf};
 ghost use Rattle.packets_heard.specs.Servings.{ServedListed};
-ghost use Rattle.segment_plan.specs.declared.plan.Scenario.{Scenario};
+ghost use Rattle.slave_server.specs.of_segment_plan.declared.plan.Scenario.{Scenario};
 ghost use Rattle.master_node.specs.of_life_runs.Served.{Serves, IsServedLed, all_serve};
 
 /// WHERE THE MASTER WANTS NOTHING of each slave, no packet waits at any port: not at that of a slave that rests, nor at that of one that was given up for

@@ -2,7 +2,7 @@
 //! each function here does nothing, and its contract states a law.
 
 ghost use Rattle.std.specs.Prelude.{◌≡◌, ◌≤◌, ◌<◌, ◌∷◌, [], ℕ, Bool, false, List, Option, None, length, drop, ◌++◌};
-ghost use Rattle.master_node.specs.of_segment_model.Visits.{Stop, IsVisit, carried};
+ghost use Rattle.slave_server.specs.of_segment_model.Visits.{Stop, IsVisit, carried};
 ghost use Rattle.master_node.specs.of_life_model.Tours.{Member, round, is_live_in};
 ghost use Rattle.master_node.specs.of_master_tour.Orders.{visits_left, IsNextOf, IsCarried};
 ghost use Rattle.packets_heard.specs.Visits.{AreOf, AreApart, IsPlace, GoesThrough, last_station, stations_at, stop_at, Carried};

@@ -1,18 +1,18 @@
 -- TWO CLIENTS THAT SPEAK ALIKE lead a life alike: its choices and frames make the same of it.
 use Rattle.std.proofs.Common.{◌≡◌, ℕ, ◌==◌, ◌&&◌, ◌||◌, Bool, true, false, List, [], ◌∷◌, ◌++◌, refl, ap, ap₂, ◌∙◌, subst}
 use Rattle.std.specs.Prelude.{if◌then◌else◌, not, Option, Some, None, option_map, is_some, is_none, drop, length}
-use Rattle.exchange_model.specs.Exchange.{Speech, outnumbers, plain}
-use Rattle.exchange_model.specs.Rows.{Row, begun, answer_after, ends_unheard, row_heard, row_told, left}
-use Rattle.link_model.specs.Frames.{all_accepted}
-use Rattle.link_model.specs.Mails.{LinkMail}
-use Rattle.segment_model.specs.Ends.{Passing, passing_after}
-use Rattle.segment_model.specs.Record.{News}
-use Rattle.segment_model.specs.Seats.{Side, Choice, is_over, is_none_left, side_begins, side_holds, side_next, side_back, first_left, next_mail}
-use Rattle.segment_model.specs.Slaves.{Datagram, Found, grams}
-use Rattle.state_model.specs.Stated.{Service}
-use Rattle.state_model.specs.Accounts.{Pick, Duty, Account, mails_begin, mails_choice, is_free, is_acknowledged, account_begins, account_next, starts, state_begins, Stage}
-use Rattle.life_model.specs.Lives.{Spot, Life, Era, Stand, granted, passing_begins, era_next, era_back, era_lost, life_next, life_back, life_lost, passes, reopens, reopens_at, reopening, returns_to_init, opens_state, clears, opens, steps_on, shows_clear, last_step, is_shown}
-use Rattle.life_model.specs.Own.{own}
+use Rattle.slave_server.specs.of_exchange_model.Exchange.{Speech, outnumbers, plain}
+use Rattle.slave_server.specs.of_exchange_model.Rows.{Row, begun, answer_after, ends_unheard, row_heard, row_told, left}
+use Rattle.whole_ring.specs.of_link_model.Frames.{all_accepted}
+use Rattle.whole_ring.specs.of_link_model.Mails.{LinkMail}
+use Rattle.slave_server.specs.of_segment_model.Ends.{Passing, passing_after}
+use Rattle.slave_server.specs.of_segment_model.Record.{News}
+use Rattle.slave_server.specs.of_segment_model.Seats.{Side, Choice, is_over, is_none_left, side_begins, side_holds, side_next, side_back, first_left, next_mail}
+use Rattle.slave_server.specs.of_segment_model.Slaves.{Datagram, Found, grams}
+use Rattle.slave_server.specs.of_state_model.Stated.{Service}
+use Rattle.slave_server.specs.of_state_model.Accounts.{Pick, Duty, Account, mails_begin, mails_choice, is_free, is_acknowledged, account_begins, account_next, starts, state_begins, Stage}
+use Rattle.whole_ring.specs.of_life_model.Lives.{Spot, Life, Era, Stand, granted, passing_begins, era_next, era_back, era_lost, life_next, life_back, life_lost, passes, reopens, reopens_at, reopening, returns_to_init, opens_state, clears, opens, steps_on, shows_clear, last_step, is_shown}
+use Rattle.whole_ring.specs.of_life_model.Own.{own}
 use Rattle.plan_ring.specs.Alike.{Alike, RowIs, WishIs, InHandIs}
 
 module _ {M P T : Type 0} (is : P → Bool) (y z : Speech M P T) (same : Alike is y z) where

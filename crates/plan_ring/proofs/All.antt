@@ -1,28 +1,28 @@
 -- All slaves of a plan's ring by a frame that came back.
 use Rattle.std.proofs.Common.{◌≡◌, ℕ, suc, Bool, All, List, [], ◌∷◌, ◌++◌, length, ◌∙◌}
 use Rattle.std.proofs.lemmas.List.Elements.{All-head, All-tail}
-use Rattle.run_frames.specs.of_life_runs.of_datagrams.Datagram as Raw
-use Rattle.run_frames.specs.of_life_runs.of_datagrams.Frame.{chained}
-use Rattle.run_frames.specs.of_life_runs.of_frame_view.Seen.{seen, datagrams_seen}
-use Rattle.run_frames.specs.of_life_runs.of_frame_view.View.{Lens}
-use Rattle.run_frames.proofs.of_life_runs.of_frame_view.Octets.{seen_is, seen_chained}
-use Rattle.slave_model.specs.Hears.{HearsFirst}
+use Rattle.run_frames.specs.of_datagrams.Datagram as Raw
+use Rattle.run_frames.specs.of_datagrams.Frame.{chained}
+use Rattle.whole_ring.specs.of_frame_view.Seen.{seen, datagrams_seen}
+use Rattle.whole_ring.specs.of_frame_view.View.{Lens}
+use Rattle.whole_ring.proofs.of_frame_view.Octets.{seen_is, seen_chained}
+use Rattle.slave_server.specs.of_slave_model.Hears.{HearsFirst}
 use Rattle.run_frames.specs.of_life_runs.First.{lens_of}
 use Rattle.run_frames.specs.of_life_runs.Led.{Exchanged, Leads, Turn, AllTurn, IsLedFrame}
-use Rattle.run_frames.specs.of_life_runs.of_link_mails.Body.{Body}
+use Rattle.slave_server.specs.of_link_mails.Body.{Body}
 use Rattle.plan_ring.specs.PlanMet.{AllOpenAt, AllMet}
 use Rattle.plan_ring.specs.Asked.{asked}
 use Rattle.plan_ring.specs.Lives.{IsKnown, AreLived}
 use Rattle.plan_ring.specs.Round.{ring_of, ring_after, WentRound}
-use Rattle.slave_parts.specs.of_segment_model.Slaves.{Datagram}
-use Rattle.run_frames.specs.of_life_runs.of_segment_plan.Sound.{IsPlan, IsSlave}
-use Rattle.run_frames.specs.of_life_runs.of_segment_plan.declared.plan.Scenario.{Scenario}
-use Rattle.run_frames.specs.of_life_runs.of_segment_plan.declared.slave.SlaveSpec.{SlaveSpec}
-use Rattle.run_frames.specs.of_life_runs.of_segment_ring.declared.wire.Fate.{Fate}
-use Rattle.slave_parts.specs.of_slave_model.Profile.{Profile, IsProfile}
+use Rattle.slave_server.specs.of_segment_model.Slaves.{Datagram}
+use Rattle.slave_server.specs.of_segment_plan.Sound.{IsPlan, IsSlave}
+use Rattle.slave_server.specs.of_segment_plan.declared.plan.Scenario.{Scenario}
+use Rattle.slave_server.specs.of_segment_plan.declared.slave.SlaveSpec.{SlaveSpec}
+use Rattle.run_frames.specs.of_segment_ring.declared.wire.Fate.{Fate}
+use Rattle.slave_server.specs.of_slave_model.Profile.{Profile, IsProfile}
 use Rattle.slave_server.specs.Serving.{Serving}
 use Rattle.slave_server.specs.Spec.{profile_of}
-use Rattle.whole_ring.specs.of_slave_node.Node.{Node}
+use Rattle.slave_server.specs.of_slave_node.Node.{Node}
 use Rattle.plan_ring.specs.Dues.{AllDue}
 use Rattle.plan_ring.proofs.Slaves.{is_due}
 

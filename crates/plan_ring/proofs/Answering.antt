@@ -1,30 +1,30 @@
 -- What a slave answers by a frame that came back.
 use Rattle.std.proofs.Common.{◌≡◌, ◌+◌, ◌%◌, ◌==◌, ◌&&◌, Bool, true, false, Option, Some, List, [], ◌∷◌, refl, sym, ap, ap₂, ◌∙◌, subst}
-use Rattle.frame_view.specs.Seen.{seen}
+use Rattle.whole_ring.specs.of_frame_view.Seen.{seen}
 use Rattle.whole_ring.specs.of_frames_seen.Own.{own_seen}
 use Rattle.whole_ring.specs.of_frames_seen.Slaves.{registers_seen, slave_of}
 use Rattle.plan_ring.specs.SlaveAsked.{AllAsk, AllMet, AllRead}
 use Rattle.plan_ring.proofs.Answers.{just_one}
-use Rattle.life_model.specs.Repairs.{awaits_at, awaited}
-use Rattle.life_model.specs.Eras.{Clearing}
-use Rattle.life_model.specs.Lives.{Spot, Era, Opening, AsksOpen, Stand, is_shown}
-use Rattle.life_model.specs.Own.{own}
-use Rattle.link_mails.specs.Body.{Body}
-use Rattle.link_model.specs.Frames.{grams_after, in_ask}
-use Rattle.link_model.specs.Link.{Halves}
-use Rattle.link_model.specs.Mails.{differs}
-use Rattle.link_model.specs.Master.{InHalf, InState}
-use Rattle.mailbox_slave.specs.Registers.{acknowledge_of}
+use Rattle.whole_ring.specs.of_life_model.Repairs.{awaits_at, awaited}
+use Rattle.whole_ring.specs.of_life_model.Eras.{Clearing}
+use Rattle.whole_ring.specs.of_life_model.Lives.{Spot, Era, Opening, AsksOpen, Stand, is_shown}
+use Rattle.whole_ring.specs.of_life_model.Own.{own}
+use Rattle.slave_server.specs.of_link_mails.Body.{Body}
+use Rattle.whole_ring.specs.of_link_model.Frames.{grams_after, in_ask}
+use Rattle.whole_ring.specs.of_link_model.Link.{Halves}
+use Rattle.whole_ring.specs.of_link_model.Mails.{differs}
+use Rattle.whole_ring.specs.of_link_model.Master.{InHalf, InState}
+use Rattle.whole_ring.specs.of_mailbox_slave.Registers.{acknowledge_of}
 use Rattle.run_frames.specs.Answers.{EachAsks, EachAnswers, OpeningAnswers}
-use Rattle.segment_model.specs.Record.{Frame, News}
-use Rattle.segment_model.specs.Slaves.{Datagram, Found, Slave, grams}
-use Rattle.segment_ring.specs.declared.wire.Fate.TheVariants.{Pass}
+use Rattle.slave_server.specs.of_segment_model.Record.{Frame, News}
+use Rattle.slave_server.specs.of_segment_model.Slaves.{Datagram, Found, Slave, grams}
+use Rattle.run_frames.specs.of_segment_ring.declared.wire.Fate.TheVariants.{Pass}
 use Rattle.whole_ring.specs.of_slave_lives.Lived.{Behind, RingFrame, LivesEra, fate_of, frame_of}
 use Rattle.whole_ring.specs.of_slave_lives.Opening.{Plan}
 use Rattle.whole_ring.specs.of_slave_lives.Stands.{Closing}
-use Rattle.slave_lives.specs.Shown.{StandsFor}
-use Rattle.slave_lives.proofs.Standing.{access_shows}
-use Rattle.state_model.specs.Accounts.{Pick}
+use Rattle.whole_ring.specs.of_slave_lives.Shown.{StandsFor}
+use Rattle.whole_ring.proofs.of_slave_lives.Standing.{access_shows}
+use Rattle.slave_server.specs.of_state_model.Accounts.{Pick}
 use Rattle.whole_ring.specs.Turns.{FrameComes, era_before}
 use Rattle.whole_ring.specs.Whole.{IsWhole, OpensAs, OpensBy, plan_to}
 use Rattle.plan_ring.specs.Stands.{Asked, CameFirst}

@@ -1,9 +1,9 @@
 -- What comes back of the inward half's own datagram.
 use Rattle.std.proofs.Common.{◌≡◌, ℕ, Bool, true, false, Option, Some, None, List, [], ◌∷◌, refl, sym, ap, ◌∙◌, subst}
-use Rattle.link_model.specs.Frames.{Ask, Gram, IsSent, grams_after, gram_meets}
-use Rattle.link_model.specs.Mails.{LinkMail}
-use Rattle.link_model.specs.Master.{InHalf}
-use Rattle.link_model.specs.Slave.{Node}
+use Rattle.whole_ring.specs.of_link_model.Frames.{Ask, Gram, IsSent, grams_after, gram_meets}
+use Rattle.whole_ring.specs.of_link_model.Mails.{LinkMail}
+use Rattle.whole_ring.specs.of_link_model.Master.{InHalf}
+use Rattle.whole_ring.specs.of_link_model.Slave.{Node}
 use Rattle.plan_ring.specs.SlaveAsked.{AllHere, AllAsk}
 use Rattle.plan_ring.proofs.Goes.{gram_is}
 

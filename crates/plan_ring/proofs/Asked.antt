@@ -1,21 +1,21 @@
 -- A SLAVE'S SERVICES BY THE MASTER'S NAMES are such as the laws of lives speak of.
 use Rattle.std.proofs.Common.{◌≡◌, ℕ, ◌&&◌, Bool, true, false, List, refl, ap, sym, ◌∙◌}
 use Rattle.std.specs.Prelude.{if◌then◌else◌, None, option_map}
-use Rattle.run_frames.specs.of_life_runs.of_frame_view.View.{Lens}
-use Rattle.run_frames.specs.of_life_runs.of_link_mails.Body.{Body}
-use Rattle.exchange_model.specs.Exchange.{Exchange, IsLawful}
+use Rattle.whole_ring.specs.of_frame_view.View.{Lens}
+use Rattle.slave_server.specs.of_link_mails.Body.{Body}
+use Rattle.slave_server.specs.of_exchange_model.Exchange.{Exchange, IsLawful}
 use Rattle.plan_ring.proofs.Named.{named_law}
-use Rattle.slave_parts.specs.of_exchange_model.Refusing.{Refusal, gated}
-use Rattle.slave_parts.specs.of_protocol_models.FoeMeaning as FoeMeaning
-use Rattle.slave_parts.specs.of_protocol_models.Network.{Station}
-use Rattle.run_frames.specs.of_life_runs.of_master_hand.Spoken.{Asked, sdo, file, drive, net, passed, hand_speech, acknowledged}
-use Rattle.slave_parts.specs.of_state_model.Families.{InState, states_of}
-use Rattle.slave_parts.specs.of_slave_model.Acknowledged as Slave
-use Rattle.slave_parts.specs.of_slave_model.Product.{product, served, refusal, side}
-use Rattle.slave_parts.specs.of_slave_model.Profile.{Protocol, Profile, IsProfile, areas_of, serves}
-use Rattle.slave_parts.specs.Parts.{Core, Server, parts}
+use Rattle.slave_server.specs.of_exchange_model.Refusing.{Refusal, gated}
+use Rattle.slave_server.specs.of_protocol_models.FoeMeaning as FoeMeaning
+use Rattle.slave_server.specs.of_protocol_models.Network.{Station}
+use Rattle.run_frames.specs.of_master_hand.Spoken.{Asked, sdo, file, drive, net, passed, hand_speech, acknowledged}
+use Rattle.slave_server.specs.of_state_model.Families.{InState, states_of}
+use Rattle.slave_server.specs.of_slave_model.Acknowledged as Slave
+use Rattle.slave_server.specs.of_slave_model.Product.{product, served, refusal, side}
+use Rattle.slave_server.specs.of_slave_model.Profile.{Protocol, Profile, IsProfile, areas_of, serves}
+use Rattle.slave_server.specs.of_slave_parts.Parts.{Core, Server, parts}
 use Rattle.plan_ring.specs.Named.{Agrees, AgreesLast}
-use Rattle.life_model.specs.Chain.{Same}
+use Rattle.whole_ring.specs.of_life_model.Chain.{Same}
 use Rattle.plan_ring.specs.KeptFirst.{Forgets}
 use Rattle.plan_ring.specs.Real.{real_clearing}
 use Rattle.plan_ring.specs.Alike.{Alike}

@@ -1,14 +1,14 @@
 -- WHAT A SERVER OF COE gives has room, and leaves what its tables are.
 use Rattle.std.proofs.Common.{◌≡◌, ℕ, suc, ◌+◌, ◌-◌, ◌≤◌, ◌==◌, ◌&&◌, ◌||◌, not, nat_le, nat_lt, Bool, true, false, List, [], ◌∷◌, ◌++◌, map, length, take, drop, Option, Some, None, Result, Ok, Err, refl, ap, sym, ◌∙◌, subst, leb-true}
 use Rattle.std.specs.Prelude.{if◌then◌else◌, zero, ⊤}
-use Rattle.slave_parts.specs.of_protocol_models.CoeMails.{Coe, Emergency, Expedited, First, Upload, DownloadAnswer, ExpeditedAnswer, FirstAnswer, Segment, SegmentAnswer, UploadSegment, UploadSegmentAnswer, Abort, ListRequest, ObjectRequest, EntryRequest, Information, InformationError, CoeFault, Short, Service, Command, Size, CoeMail, mail, unread, failed, fragment, other}
-use Rattle.slave_parts.specs.of_protocol_models.Tables.{Target, nowhere, Ask, Tables, list, object, entry}
-use Rattle.slave_parts.specs.of_protocol_models.CoeServer.{Transfer, idle, downloading, uploading, Emission, emergency, packet, Outcome, emission_of, stored, takes_whole, begins, takes_first, takes_segment, is_expedited, opened, takes_upload_segment, parts_of, information_parts, answer_opcode, informed, takes_ask, unknown_command, takes_unread, coe_takes, coe_outcome, issued, abort, download_answer, same, ended, goes_on}
-use Rattle.slave_parts.specs.of_protocol_models.CoeOctets.{coe_mail_written}
-use Rattle.slave_parts.specs.of_coe_server.Serving.{IsShort}
-use Rattle.slave_parts.proofs.of_coe_server.Fits.{short_fits}
+use Rattle.slave_server.specs.of_protocol_models.CoeMails.{Coe, Emergency, Expedited, First, Upload, DownloadAnswer, ExpeditedAnswer, FirstAnswer, Segment, SegmentAnswer, UploadSegment, UploadSegmentAnswer, Abort, ListRequest, ObjectRequest, EntryRequest, Information, InformationError, CoeFault, Short, Service, Command, Size, CoeMail, mail, unread, failed, fragment, other}
+use Rattle.slave_server.specs.of_protocol_models.Tables.{Target, nowhere, Ask, Tables, list, object, entry}
+use Rattle.slave_server.specs.of_protocol_models.CoeServer.{Transfer, idle, downloading, uploading, Emission, emergency, packet, Outcome, emission_of, stored, takes_whole, begins, takes_first, takes_segment, is_expedited, opened, takes_upload_segment, parts_of, information_parts, answer_opcode, informed, takes_ask, unknown_command, takes_unread, coe_takes, coe_outcome, issued, abort, download_answer, same, ended, goes_on}
+use Rattle.slave_server.specs.of_protocol_models.CoeOctets.{coe_mail_written}
+use Rattle.slave_server.specs.of_coe_server.Serving.{IsShort}
+use Rattle.slave_server.proofs.of_coe_server.Fits.{short_fits}
 use Rattle.whole_ring.specs.of_slave_lives.Nodes.{IsPlaced}
-use Rattle.slave_parts.proofs.of_slave_model.Stations.{right_of}
+use Rattle.slave_server.proofs.of_slave_model.Stations.{right_of}
 use Rattle.plan_ring.specs.Rooms.{AllPlaced}
 use Rattle.plan_ring.proofs.Rooms.{body_placed, error_placed, all_append, take_few}
 

@@ -1,12 +1,12 @@
 -- WHAT SERVERS OF SOE AND EOE give has room, and leaves what they act on.
 use Rattle.std.proofs.Common.{◌≡◌, ℕ, zero, suc, ◌+◌, ◌-◌, ◌*◌, ◌/◌, ◌%◌, ◌≤◌, ◌==◌, ◌&&◌, nat_le, Bool, true, false, List, [], ◌∷◌, map, length, take, drop, Option, Some, None, Result, Ok, Err, refl, ap, sym, subst, arith, leb-true}
 use Rattle.std.specs.Prelude.{if◌then◌else◌}
-use Rattle.slave_parts.specs.of_protocol_models.Elements as Elements
-use Rattle.slave_parts.specs.of_protocol_models.Elements.{Target, Elements}
-use Rattle.slave_parts.specs.of_protocol_models.SoeMails as SoeMails
-use Rattle.slave_parts.specs.of_protocol_models.SoeMails.{Soe, SoeMail, fragments, message}
-use Rattle.slave_parts.specs.of_protocol_models.SoeServer as Soe
-use Rattle.slave_parts.specs.of_protocol_models.SoeOctets.{soe_mail_written}
+use Rattle.slave_server.specs.of_protocol_models.Elements as Elements
+use Rattle.slave_server.specs.of_protocol_models.Elements.{Target, Elements}
+use Rattle.slave_server.specs.of_protocol_models.SoeMails as SoeMails
+use Rattle.slave_server.specs.of_protocol_models.SoeMails.{Soe, SoeMail, fragments, message}
+use Rattle.slave_server.specs.of_protocol_models.SoeServer as Soe
+use Rattle.slave_server.specs.of_protocol_models.SoeOctets.{soe_mail_written}
 use Rattle.slave_server.specs.of_eoe.declared.joining.Joined.{Joined}
 use Rattle.slave_server.specs.of_eoe.declared.joining.Joined.TheVariants.{More, Whole, Dropped}
 use Rattle.slave_server.specs.of_eoe.declared.joining.Unfinished.{Unfinished}
@@ -15,11 +15,11 @@ use Rattle.slave_server.specs.of_eoe.Address.{is_block}
 use Rattle.slave_server.specs.of_eoe.Cutting.{fragments_of}
 use Rattle.slave_server.specs.of_eoe.Joining.{taken}
 use Rattle.slave_server.specs.of_eoe.Message.{eoe_text}
-use Rattle.slave_parts.specs.of_protocol_models.EoeMails as EoeMails
-use Rattle.slave_parts.specs.of_protocol_models.EoeMails.{Eoe, EoeMail, Part}
-use Rattle.slave_parts.specs.of_protocol_models.Network.{Network, Station}
-use Rattle.slave_parts.specs.of_protocol_models.EoeServer as Eoe
-use Rattle.slave_parts.specs.of_protocol_models.EoeOctets.{eoe_mail_written}
+use Rattle.slave_server.specs.of_protocol_models.EoeMails as EoeMails
+use Rattle.slave_server.specs.of_protocol_models.EoeMails.{Eoe, EoeMail, Part}
+use Rattle.slave_server.specs.of_protocol_models.Network.{Network, Station}
+use Rattle.slave_server.specs.of_protocol_models.EoeServer as Eoe
+use Rattle.slave_server.specs.of_protocol_models.EoeOctets.{eoe_mail_written}
 use Rattle.whole_ring.specs.of_slave_lives.Nodes.{IsPlaced}
 use Rattle.plan_ring.specs.Rooms.{AllPlaced}
 use Rattle.plan_ring.proofs.Rooms.{body_placed, error_placed, take_few, fragments_placed}

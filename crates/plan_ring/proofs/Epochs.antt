@@ -1,22 +1,22 @@
 -- EACH EPOCH of a life that is lived keeps what the model's law of an epoch promises.
 use Rattle.std.proofs.Common.{◌≡◌, ℕ, ◌<◌, ◌≤◌, Bool, false, None, List, length, refl, ap, sym, ◌∙◌, subst, arith}
-use Rattle.link_mails.specs.Body.{Body}
-use Rattle.life_model.specs.Eras.{Clearing, EraIs, OpenEra, era_frames}
-use Rattle.life_model.specs.Lives.{Spot, Era, Life, Opening, Stand}
-use Rattle.life_model.proofs.Eras.{session_of, of_one}
-use Rattle.exchange_model.specs.Exchange.{emitted, plain}
-use Rattle.exchange_model.specs.Prefix.{IsPrefixOf}
-use Rattle.segment_model.specs.Record.{Frame, heard}
-use Rattle.segment_model.specs.Slaves.{Registers, Slave}
+use Rattle.slave_server.specs.of_link_mails.Body.{Body}
+use Rattle.whole_ring.specs.of_life_model.Eras.{Clearing, EraIs, OpenEra, era_frames}
+use Rattle.whole_ring.specs.of_life_model.Lives.{Spot, Era, Life, Opening, Stand}
+use Rattle.whole_ring.proofs.of_life_model.Eras.{session_of, of_one}
+use Rattle.slave_server.specs.of_exchange_model.Exchange.{emitted, plain}
+use Rattle.slave_server.specs.of_exchange_model.Prefix.{IsPrefixOf}
+use Rattle.slave_server.specs.of_segment_model.Record.{Frame, heard}
+use Rattle.slave_server.specs.of_segment_model.Slaves.{Registers, Slave}
 use Rattle.whole_ring.specs.of_slave_lives.Ends.{LeftEra, LeftEras}
 use Rattle.whole_ring.specs.of_slave_lives.Lived.{Behind, table_of, node_seen, LivesEra}
 use Rattle.whole_ring.specs.of_slave_lives.Opening.{Plan}
 use Rattle.whole_ring.specs.of_slave_lives.Stands.{opening_again}
 use Rattle.whole_ring.proofs.of_slave_lives.EraEnds as Ends
-use Rattle.whole_ring.specs.of_slave_node.Node.{Node}
-use Rattle.state_model.specs.Stated.{mails, with_states}
-use Rattle.state_model.specs.Promise.{TasksPromised, TasksAnswered, TasksRestIf, services_in}
-use Rattle.state_model.proofs.Sessions.{of_slaves, tasks_promised, tasks_rest, tasks_answered}
+use Rattle.slave_server.specs.of_slave_node.Node.{Node}
+use Rattle.slave_server.specs.of_state_model.Stated.{mails, with_states}
+use Rattle.slave_server.specs.of_state_model.Promise.{TasksPromised, TasksAnswered, TasksRestIf, services_in}
+use Rattle.run_frames.proofs.of_state_model.Sessions.{of_slaves, tasks_promised, tasks_rest, tasks_answered}
 use Rattle.whole_ring.specs.Whole.{OwesLaws, OpensAs, OpensBy, StandsAs, IsLived}
 use Rattle.plan_ring.proofs.Owns.{owned}
 use Rattle.plan_ring.proofs.Settled.{settled_seen}

@@ -1,27 +1,27 @@
 -- What comes next of an open epoch is due.
 use Rattle.std.proofs.Common.{◌≡◌, inl, inr, ℕ, Bool, true, false, List, [], ◌∷◌, ◌++◌, refl, sym, ap, ◌∙◌, append_assoc}
-use Rattle.exchange_model.specs.Exchange.{Exchange, IsLawful}
-use Rattle.exchange_model.specs.Prefix.{IsPrefixOf}
-use Rattle.slave_model.specs.Hears.{HearsFirst}
-use Rattle.life_model.specs.Eras.{EraIs, era_frames, planned}
-use Rattle.life_model.specs.Lives.{Spot, Era}
-use Rattle.link_model.specs.Frames.{IsFrameFor, all_accepted}
-use Rattle.link_model.specs.Segment.{RingFate}
-use Rattle.link_model.proofs.Law.{accepted_of_offered}
-use Rattle.master_tour.specs.of_master_side.Due.{IsDue, EachDue}
-use Rattle.segment_model.specs.Record.{Frame}
-use Rattle.segment_model.specs.Seats.{Seat, link_of, seat_next, seat_back}
-use Rattle.segment_model.specs.Slaves.{Datagram, Processor, Registers, Slave, grams, frame_after}
-use Rattle.segment_model.proofs.Sounds.{SeatAgrees, frame_agrees, next_agrees}
-use Rattle.state_model.specs.Stated.{Stated, IsStated}
-use Rattle.state_model.specs.Promises.{IsTable}
-use Rattle.state_model.specs.States.{Table}
-use Rattle.state_model.specs.Accounts.{Account, Pick, account_next, mails_choice}
-use Rattle.state_model.proofs.Begins.{carried_next}
-use Rattle.state_model.proofs.Ghosts.{Carried}
-use Rattle.state_model.proofs.Newest.{Holds}
-use Rattle.state_model.proofs.Sessions.{of_slaves}
-use Rattle.state_model.proofs.Stately.{state_over, free_state}
+use Rattle.slave_server.specs.of_exchange_model.Exchange.{Exchange, IsLawful}
+use Rattle.slave_server.specs.of_exchange_model.Prefix.{IsPrefixOf}
+use Rattle.slave_server.specs.of_slave_model.Hears.{HearsFirst}
+use Rattle.whole_ring.specs.of_life_model.Eras.{EraIs, era_frames, planned}
+use Rattle.whole_ring.specs.of_life_model.Lives.{Spot, Era}
+use Rattle.whole_ring.specs.of_link_model.Frames.{IsFrameFor, all_accepted}
+use Rattle.whole_ring.specs.of_link_model.Segment.{RingFate}
+use Rattle.slave_server.proofs.of_link_model.Law.{accepted_of_offered}
+use Rattle.run_frames.specs.of_master_side.Due.{IsDue, EachDue}
+use Rattle.slave_server.specs.of_segment_model.Record.{Frame}
+use Rattle.slave_server.specs.of_segment_model.Seats.{Seat, link_of, seat_next, seat_back}
+use Rattle.slave_server.specs.of_segment_model.Slaves.{Datagram, Processor, Registers, Slave, grams, frame_after}
+use Rattle.slave_server.proofs.of_segment_model.Sounds.{SeatAgrees, frame_agrees, next_agrees}
+use Rattle.slave_server.specs.of_state_model.Stated.{Stated, IsStated}
+use Rattle.slave_server.specs.of_state_model.Promises.{IsTable}
+use Rattle.slave_server.specs.of_state_model.States.{Table}
+use Rattle.slave_server.specs.of_state_model.Accounts.{Account, Pick, account_next, mails_choice}
+use Rattle.run_frames.proofs.of_state_model.Begins.{carried_next}
+use Rattle.run_frames.proofs.of_state_model.Ghosts.{Carried}
+use Rattle.run_frames.proofs.of_state_model.Newest.{Holds}
+use Rattle.run_frames.proofs.of_state_model.Sessions.{of_slaves}
+use Rattle.run_frames.proofs.of_state_model.Stately.{state_over, free_state}
 use Rattle.plan_ring.specs.Brings.{BringsDue}
 use Rattle.plan_ring.proofs.Seats.{awaited}
 

@@ -1,18 +1,18 @@
 -- A RUN IN WHICH EACH SLAVE STAYS IN ITS FIRST EPOCH.
 use Rattle.std.proofs.Common.{◌≡◌, ℕ, suc, Bool, List, [], ◌∷◌, length, refl, sym, subst}
-use Rattle.run_frames.specs.of_life_runs.of_datagrams.Datagram as Raw
-use Rattle.run_frames.specs.of_life_runs.of_frame_view.View.{Lens}
-use Rattle.run_frames.specs.of_life_runs.of_link_mails.Body.{Body}
-use Rattle.slave_parts.specs.of_segment_model.Record.{Frame}
-use Rattle.run_frames.specs.of_life_runs.of_segment_plan.declared.slave.SlaveSpec.{SlaveSpec}
-use Rattle.run_frames.specs.of_life_runs.of_segment_ring.declared.wire.Fate.{Fate}
-use Rattle.run_frames.specs.of_life_runs.of_segment_ring.declared.wire.Fate.TheVariants.{Pass, Lost}
-use Rattle.state_model.specs.Accounts.{Pick}
-use Rattle.life_model.specs.Lives.{Life, Stand, life_next, life_back, life_lost}
-use Rattle.run_frames.specs.of_life_runs.of_master_duty.Reply as Master
-use Rattle.run_frames.specs.of_life_runs.of_master_hand.Spoken.{Asked, acknowledged}
-use Rattle.run_frames.specs.of_life_runs.of_frame_view.Shares.{came_at, given_where}
-use Rattle.life_model.specs.Script.{Addressed, HaveBegun, AnyLive, EachLive, AllLive, RestsWhole, DoneWhole}
+use Rattle.run_frames.specs.of_datagrams.Datagram as Raw
+use Rattle.whole_ring.specs.of_frame_view.View.{Lens}
+use Rattle.slave_server.specs.of_link_mails.Body.{Body}
+use Rattle.slave_server.specs.of_segment_model.Record.{Frame}
+use Rattle.slave_server.specs.of_segment_plan.declared.slave.SlaveSpec.{SlaveSpec}
+use Rattle.run_frames.specs.of_segment_ring.declared.wire.Fate.{Fate}
+use Rattle.run_frames.specs.of_segment_ring.declared.wire.Fate.TheVariants.{Pass, Lost}
+use Rattle.slave_server.specs.of_state_model.Accounts.{Pick}
+use Rattle.whole_ring.specs.of_life_model.Lives.{Life, Stand, life_next, life_back, life_lost}
+use Rattle.run_frames.specs.of_master_duty.Reply as Master
+use Rattle.run_frames.specs.of_master_hand.Spoken.{Asked, acknowledged}
+use Rattle.whole_ring.specs.of_frame_view.Shares.{came_at, given_where}
+use Rattle.whole_ring.specs.of_life_model.Script.{Addressed, HaveBegun, AnyLive, EachLive, AllLive, RestsWhole, DoneWhole}
 use Rattle.plan_ring.specs.Rows.{IsFirst}
 use Rattle.plan_ring.proofs.Rows.{back_first, lost_first, new_first}
 use Rattle.plan_ring.proofs.KeptFirst.{first_book}

@@ -1,11 +1,11 @@
 -- WHAT A SERVER OF FOE gives has room, and leaves what its files are: a file is put in place only where its write was allowed, and it has room.
 use Rattle.std.proofs.Common.{◌≡◌, ℕ, ◌+◌, ◌-◌, ◌≤◌, ◌==◌, not, nat_lt, Bool, true, false, List, ◌++◌, map, length, take, drop, Option, Some, None, refl, arith}
 use Rattle.std.specs.Prelude.{if◌then◌else◌, ⊤}
-use Rattle.slave_parts.specs.of_foe_codec.Message.{foe_text}
-use Rattle.slave_parts.specs.of_protocol_models.Files.{Files}
-use Rattle.slave_parts.specs.of_protocol_models.FoeMails.{Foe, Read, Write, Data, Ack, Error, Busy, Short, Opcode, Name, FoeMail, mail, unread, failed, other}
-use Rattle.slave_parts.specs.of_protocol_models.FoeServer.{Transfer, idle, reading, writing, closing, Outcome, ended, goes_on, silent, refusal, ack, packet_room, packet_of, is_last, opened, takes_read, begun, takes_write, closes, stores, takes_data, takes_ack, foe_takes, foe_outcome}
-use Rattle.slave_parts.specs.of_protocol_models.FoeOctets.{foe_mail_written}
+use Rattle.slave_server.specs.of_foe_codec.Message.{foe_text}
+use Rattle.slave_server.specs.of_protocol_models.Files.{Files}
+use Rattle.slave_server.specs.of_protocol_models.FoeMails.{Foe, Read, Write, Data, Ack, Error, Busy, Short, Opcode, Name, FoeMail, mail, unread, failed, other}
+use Rattle.slave_server.specs.of_protocol_models.FoeServer.{Transfer, idle, reading, writing, closing, Outcome, ended, goes_on, silent, refusal, ack, packet_room, packet_of, is_last, opened, takes_read, begun, takes_write, closes, stores, takes_data, takes_ack, foe_takes, foe_outcome}
+use Rattle.slave_server.specs.of_protocol_models.FoeOctets.{foe_mail_written}
 use Rattle.whole_ring.specs.of_slave_lives.Nodes.{IsPlaced}
 use Rattle.plan_ring.specs.Rooms.{AllPlaced}
 use Rattle.plan_ring.proofs.Rooms.{body_placed, error_placed, take_few}

@@ -1,17 +1,17 @@
 -- One frame of the run, for the slaves as they are counted and those of the ring.
 use Rattle.std.proofs.Common.{◌≡◌, ℕ, suc, Bool, List, [], ◌∷◌, ◌++◌, map, length, refl, sym, ap, ◌∙◌, subst}
 use Rattle.std.proofs.lemmas.List.{length-map, map-append}
-use Rattle.datagrams.specs.Frame.{chained}
-use Rattle.frame_view.specs.Seen.{seen}
-use Rattle.frame_view.specs.View.{Lens}
-use Rattle.master_tour.specs.of_frame_view.Shares.{Lived}
-use Rattle.life_model.specs.Lives.{Stand}
-use Rattle.life_model.specs.Own.{own}
+use Rattle.run_frames.specs.of_datagrams.Frame.{chained}
+use Rattle.whole_ring.specs.of_frame_view.Seen.{seen}
+use Rattle.whole_ring.specs.of_frame_view.View.{Lens}
+use Rattle.whole_ring.specs.of_frame_view.Shares.{Lived}
+use Rattle.whole_ring.specs.of_life_model.Lives.{Stand}
+use Rattle.whole_ring.specs.of_life_model.Own.{own}
 use Rattle.run_frames.specs.of_life_runs.First.{lens_of}
 use Rattle.run_frames.specs.of_life_runs.Led as Led
 use Rattle.run_frames.specs.of_life_runs.Led.{Exchanged, Leads, Turn, IsLedFrame, AllTurn, is_passed, speech_at, gives_up_at}
-use Rattle.link_mails.specs.Body.{Body}
-use Rattle.master_duty.specs.Reply.{Reply}
+use Rattle.slave_server.specs.of_link_mails.Body.{Body}
+use Rattle.run_frames.specs.of_master_duty.Reply.{Reply}
 use Rattle.run_frames.specs.of_master_hand.Spoken.{Asked, acknowledged, is_followed}
 use Rattle.plan_ring.specs.Lives.{IsKnown, AreLived}
 use Rattle.plan_ring.specs.Master.{AllLed, AllUnder, AllSame, AllBehind}
@@ -26,17 +26,17 @@ use Rattle.plan_ring.proofs.Each.{each_stand, each_answers, meets}
 use Rattle.run_frames.specs.Answers.{EachAsks, AllAsk, AllAnswer, StandAnswers}
 use Rattle.run_frames.specs.Led.{AreLed, unders, behind_lost, behind_back}
 use Rattle.run_frames.proofs.Leading.{SeenIs, all_led_lost, all_led_back}
-use Rattle.segment_model.specs.Record.{Frame}
-use Rattle.segment_model.specs.Slaves.{Datagram}
-use Rattle.scenario.specs.of_segment_plan.Sound as Plan
-use Rattle.scenario.specs.of_segment_plan.declared.plan.Scenario.{Scenario}
-use Rattle.segment_ring.specs.Ring.{RingState, ring_behind}
-use Rattle.segment_ring.specs.Schedule.{fate_at}
-use Rattle.segment_ring.specs.declared.wire.Fate.{Fate}
-use Rattle.segment_ring.specs.declared.wire.Fate.TheVariants.{Pass, Lost}
+use Rattle.slave_server.specs.of_segment_model.Record.{Frame}
+use Rattle.slave_server.specs.of_segment_model.Slaves.{Datagram}
+use Rattle.slave_server.specs.of_segment_plan.Sound as Plan
+use Rattle.slave_server.specs.of_segment_plan.declared.plan.Scenario.{Scenario}
+use Rattle.run_frames.specs.of_segment_ring.Ring.{RingState, ring_behind}
+use Rattle.run_frames.specs.of_segment_ring.Schedule.{fate_at}
+use Rattle.run_frames.specs.of_segment_ring.declared.wire.Fate.{Fate}
+use Rattle.run_frames.specs.of_segment_ring.declared.wire.Fate.TheVariants.{Pass, Lost}
 use Rattle.whole_ring.specs.of_slave_lives.Rings.{fate_seen}
 use Rattle.slave_server.specs.Serving.{Serving}
-use Rattle.whole_ring.specs.of_slave_node.Node.{Node, node_passed}
+use Rattle.slave_server.specs.of_slave_node.Node.{Node, node_passed}
 use Rattle.whole_ring.specs.Members.{IsRing}
 use Rattle.whole_ring.specs.Turning as Whole
 use Rattle.whole_ring.specs.Turning.{frame_at, behind_frame, given_up, next_life}

@@ -1,11 +1,11 @@
 -- The request stands, datagram by datagram.
 use Rattle.std.proofs.Common.{◌≡◌, ℕ, ◌==◌, Bool, true, false, Option, Some, None, List, ◌∷◌, refl, sym, ap, ◌∙◌, subst, if◌then◌else◌}
 use Rattle.std.specs.Prelude.{⊤}
-use Rattle.link_model.specs.Frames.{Ask, Gram, IsSent, grams_after, node_after, halves_after, halves_without, halves_answered, halves_lost, node_meets, gram_meets, write_done, read_done, in_ask}
-use Rattle.link_model.specs.Link.{Halves}
-use Rattle.link_model.specs.Mails.{LinkMail, differs}
-use Rattle.link_model.specs.Master.{InHalf, InState}
-use Rattle.link_model.specs.Slave.{InSide, Node}
+use Rattle.whole_ring.specs.of_link_model.Frames.{Ask, Gram, IsSent, grams_after, node_after, halves_after, halves_without, halves_answered, halves_lost, node_meets, gram_meets, write_done, read_done, in_ask}
+use Rattle.whole_ring.specs.of_link_model.Link.{Halves}
+use Rattle.whole_ring.specs.of_link_model.Mails.{LinkMail, differs}
+use Rattle.whole_ring.specs.of_link_model.Master.{InHalf, InState}
+use Rattle.whole_ring.specs.of_link_model.Slave.{InSide, Node}
 use Rattle.plan_ring.specs.SlaveAsked.{AllHere, IsAsked, GoesOn}
 
 -- what a slave leaves of a datagram

@@ -1,14 +1,14 @@
 -- An open slave, by a frame: where the acknowledge of the repeat request is awaited, the request stands.
 use Rattle.std.proofs.Common.{◌≡◌, ℕ, ◌==◌, ◌&&◌, Bool, true, false, Some, List, [], ◌∷◌, refl, sym, ap, ◌∙◌, subst, if◌then◌else◌, length}
-use Rattle.datagrams.specs.Datagram as Raw
-use Rattle.datagrams.specs.declared.command.Command.{Command}
-use Rattle.datagrams.specs.declared.command.Command.TheVariants.{Aprd, Apwr, Aprw, Fprd, Fpwr, Fprw}
-use Rattle.esc_registers.specs.Access.{is_by_station}
-use Rattle.esc_registers.specs.declared.registers.Registers as Esc
-use Rattle.exchange_model.specs.Exchange.{Speech}
-use Rattle.slave_node.specs.Passing.{registers_after, datagrams_after}
-use Rattle.frame_view.specs.Seen.{seen, datagrams_seen}
-use Rattle.frame_view.specs.View.{Lens, station_of}
+use Rattle.run_frames.specs.of_datagrams.Datagram as Raw
+use Rattle.run_frames.specs.of_datagrams.declared.command.Command.{Command}
+use Rattle.run_frames.specs.of_datagrams.declared.command.Command.TheVariants.{Aprd, Apwr, Aprw, Fprd, Fpwr, Fprw}
+use Rattle.whole_ring.specs.of_esc_registers.Access.{is_by_station}
+use Rattle.whole_ring.specs.of_esc_registers.declared.registers.Registers as Esc
+use Rattle.slave_server.specs.of_exchange_model.Exchange.{Speech}
+use Rattle.slave_server.specs.of_slave_node.Passing.{registers_after, datagrams_after}
+use Rattle.whole_ring.specs.of_frame_view.Seen.{seen, datagrams_seen}
+use Rattle.whole_ring.specs.of_frame_view.View.{Lens, station_of}
 use Rattle.whole_ring.specs.of_frames_seen.Own.{own_of, own_seen, is_to, IsAlone}
 use Rattle.whole_ring.specs.of_frames_seen.Ring.{AllApart, IsRingMet}
 use Rattle.whole_ring.specs.of_frames_seen.Slaves.{registers_seen, slave_of}
@@ -16,22 +16,22 @@ use Rattle.whole_ring.specs.of_frames_seen.Spoken.{AllSpoken}
 use Rattle.whole_ring.proofs.of_frames_seen.Rings as FrameRings
 use Rattle.plan_ring.specs.SlaveAsked.{AllHere, IsAsked, GoesOn}
 use Rattle.plan_ring.proofs.Goes.{all_back, all_lost, all_unmet, first}
-use Rattle.life_model.specs.Eras.{Clearing}
-use Rattle.life_model.specs.Lives.{Spot, Era, AsksOpen, Stand, granted}
-use Rattle.life_model.specs.Own.{own}
-use Rattle.link_mails.specs.Body.{Body}
-use Rattle.link_model.specs.Frames as Link
-use Rattle.link_model.specs.Frames.{Gram, IsSent, node_after, grams_after, gram_meets, halves_after, halves_without}
-use Rattle.link_model.specs.Link.{Halves}
-use Rattle.link_model.specs.Master.{InHalf, InState}
-use Rattle.link_model.specs.Slave.{Node}
-use Rattle.mailbox_slave.specs.Node.{node_of, in_side}
-use Rattle.segment_model.specs.Record.{Frame, News}
-use Rattle.segment_model.specs.Seats.{Side, side_begins, side_next, Choice, next_mail}
-use Rattle.segment_model.specs.Slaves.{Datagram, Serving, Slave, grams, slave_after, slave_meets, frame_after}
-use Rattle.segment_ring.specs.Ring.{is_in_pace}
-use Rattle.segment_ring.specs.declared.wire.Fate.{Fate}
-use Rattle.segment_ring.specs.declared.wire.Fate.TheVariants.{Pass, Lost}
+use Rattle.whole_ring.specs.of_life_model.Eras.{Clearing}
+use Rattle.whole_ring.specs.of_life_model.Lives.{Spot, Era, AsksOpen, Stand, granted}
+use Rattle.whole_ring.specs.of_life_model.Own.{own}
+use Rattle.slave_server.specs.of_link_mails.Body.{Body}
+use Rattle.whole_ring.specs.of_link_model.Frames as Link
+use Rattle.whole_ring.specs.of_link_model.Frames.{Gram, IsSent, node_after, grams_after, gram_meets, halves_after, halves_without}
+use Rattle.whole_ring.specs.of_link_model.Link.{Halves}
+use Rattle.whole_ring.specs.of_link_model.Master.{InHalf, InState}
+use Rattle.whole_ring.specs.of_link_model.Slave.{Node}
+use Rattle.whole_ring.specs.of_mailbox_slave.Node.{node_of, in_side}
+use Rattle.slave_server.specs.of_segment_model.Record.{Frame, News}
+use Rattle.slave_server.specs.of_segment_model.Seats.{Side, side_begins, side_next, Choice, next_mail}
+use Rattle.slave_server.specs.of_segment_model.Slaves.{Datagram, Serving, Slave, grams, slave_after, slave_meets, frame_after}
+use Rattle.run_frames.specs.of_segment_ring.Ring.{is_in_pace}
+use Rattle.run_frames.specs.of_segment_ring.declared.wire.Fate.{Fate}
+use Rattle.run_frames.specs.of_segment_ring.declared.wire.Fate.TheVariants.{Pass, Lost}
 use Rattle.run_frames.specs.Goes.{stepped_behind}
 use Rattle.run_frames.proofs.Access.{begins_same, holds_same}
 use Rattle.whole_ring.specs.of_slave_lives.Lived.{Behind, RingFrame, LivesEra, fate_of, is_reached, node_met, node_behind, frame_of, returned, IsForOpen}
@@ -41,8 +41,8 @@ use Rattle.whole_ring.specs.of_slave_lives.Rings.{registers_of, come_to, come_ba
 use Rattle.whole_ring.proofs.of_slave_lives.Owned.{own_is}
 use Rattle.whole_ring.proofs.of_slave_lives.RingFrames.{met_runs}
 use Rattle.whole_ring.proofs.of_slave_lives.RingLives.{sent_is, back_is}
-use Rattle.slave_lives.proofs.Asking.{acknowledges}
-use Rattle.state_model.specs.Accounts.{Pick, mails_choice}
+use Rattle.whole_ring.proofs.of_slave_lives.Asking.{acknowledges}
+use Rattle.slave_server.specs.of_state_model.Accounts.{Pick, mails_choice}
 use Rattle.whole_ring.specs.Turns.{FrameComes, era_before, era_behind}
 use Rattle.whole_ring.specs.Whole.{IsWhole}
 use Rattle.whole_ring.proofs.Still.{own_comes}

@@ -2,14 +2,14 @@
 use Rattle.std.proofs.Common.{◌≡◌, ◌≤◌, ℕ, zero, suc, ◌==◌, Bool, true, false, Option, Some, None, List, [], ◌∷◌, length, refl, sym, ap, ◌∙◌, subst, arith, if◌then◌else◌}
 use Rattle.std.specs.Prelude.{◌&&◌, nat_lt}
 use Rattle.std.proofs.lemmas.Bool.{eqb-true}
-use Rattle.exchange_model.specs.Exchange.{Speech}
-use Rattle.life_model.specs.Lives.{Life, Opening, Spot, Stand, life_next, life_back, life_lost, era_back, opening_back, steps_on, clears, opens, shows_clear, last_step, is_shown, reopens, reopens_at, reopening, opens_state, returns_to_init, gives_up, granted}
+use Rattle.slave_server.specs.of_exchange_model.Exchange.{Speech}
+use Rattle.whole_ring.specs.of_life_model.Lives.{Life, Opening, Spot, Stand, life_next, life_back, life_lost, era_back, opening_back, steps_on, clears, opens, shows_clear, last_step, is_shown, reopens, reopens_at, reopening, opens_state, returns_to_init, gives_up, granted}
 use Rattle.run_frames.specs.Clocks.{Clocked, duty_reopens, goes_to_init}
 use Rattle.run_frames.specs.Goes.{Under, HandAt, IsUnder, AllUnder, given_if, all_back, all_lost}
-use Rattle.segment_model.specs.Record.{News}
-use Rattle.segment_model.specs.Slaves.{Datagram, Found}
-use Rattle.state_model.specs.Stated.{Service}
-use Rattle.state_model.specs.Accounts.{Duty, Stage, Pick, account_begins, starts, state_begins, is_free, is_acknowledged}
+use Rattle.slave_server.specs.of_segment_model.Record.{News}
+use Rattle.slave_server.specs.of_segment_model.Slaves.{Datagram, Found}
+use Rattle.slave_server.specs.of_state_model.Stated.{Service}
+use Rattle.slave_server.specs.of_state_model.Accounts.{Duty, Stage, Pick, account_begins, starts, state_begins, is_free, is_acknowledged}
 use Rattle.plan_ring.specs.Hands.{AllHand}
 
 module _ {M Q R : Type 0} (x : Speech M Q R) (acknowledged : Q → Bool) (more : M → Bool) (passed : Q → Bool) (frame : ℕ) where

@@ -1,22 +1,22 @@
 -- A SLAVE IN ITS FIRST EPOCH: its life is an open one of the book.
 use Rattle.std.proofs.Common.{◌≡◌, ℕ, ◌-◌, Bool, List, [], ◌∷◌, ◌++◌, take, drop, length, refl, ap, sym, ◌∙◌, subst, arith, append-nil}
 use Rattle.std.specs.Prelude.{Option, Some, None, is_some, if◌then◌else◌}
-use Rattle.link_mails.specs.Body.{Body}
-use Rattle.segment_model.specs.Record.{Frame}
-use Rattle.whole_ring.specs.of_slave_node.Node.{Node}
-use Rattle.life_model.specs.Book.{SlaveBook}
-use Rattle.life_model.specs.Eras.{Clearing}
-use Rattle.life_model.specs.Lives.{Spot, Life, Era, Stand}
-use Rattle.life_model.specs.Chain.{Epoch, booked, behind_clear, Written, Chained, AreLeft, AllBegin}
-use Rattle.life_model.specs.Answers.{between}
-use Rattle.life_model.specs.Open.{Setting, Begun, IsOpenLife, IsIdle}
+use Rattle.slave_server.specs.of_link_mails.Body.{Body}
+use Rattle.slave_server.specs.of_segment_model.Record.{Frame}
+use Rattle.slave_server.specs.of_slave_node.Node.{Node}
+use Rattle.whole_ring.specs.of_life_model.Book.{SlaveBook}
+use Rattle.whole_ring.specs.of_life_model.Eras.{Clearing}
+use Rattle.whole_ring.specs.of_life_model.Lives.{Spot, Life, Era, Stand}
+use Rattle.whole_ring.specs.of_life_model.Chain.{Epoch, booked, behind_clear, Written, Chained, AreLeft, AllBegin}
+use Rattle.whole_ring.specs.of_life_model.Answers.{between}
+use Rattle.whole_ring.specs.of_life_model.Open.{Setting, Begun, IsOpenLife, IsIdle}
 use Rattle.whole_ring.specs.of_slave_lives.Ends.{LeftEras}
 use Rattle.whole_ring.specs.of_slave_lives.Lived.{Behind, LivesEra, node_seen}
 use Rattle.whole_ring.specs.of_slave_lives.Opening.{Plan}
 use Rattle.whole_ring.specs.Whole.{OwesLaws, LivesOpen, StandsAs, IsLived}
-use Rattle.segment_model.specs.Laws.{IsSettled, WantsNothing}
-use Rattle.life_model.proofs.Opens.{open_answers, open_epochs, open_state, open_rests, open_each}
-use Rattle.life_model.proofs.Scripts.{open_rows}
+use Rattle.slave_server.specs.of_segment_model.Laws.{IsSettled, WantsNothing}
+use Rattle.whole_ring.proofs.of_life_model.Opens.{open_answers, open_epochs, open_state, open_rests, open_each}
+use Rattle.whole_ring.proofs.of_life_model.Scripts.{open_rows}
 use Rattle.plan_ring.specs.KeptFirst.{Forgets, setting_of, FirstBook}
 use Rattle.plan_ring.specs.Rows.{IsFirst, StandsFirst}
 

@@ -7,9 +7,9 @@ use Rattle.std.proofs.lemmas.Option.{slice_get_read, slice_get_within, get_or_fr
 use Rattle.std.proofs.Math.Seq.{get_or-append_seam}
 use Rattle.run_frames.specs.of_life_runs.First.{script_for}
 use Rattle.plan_ring.specs.Plan.{AllMacs}
-use Rattle.run_frames.specs.of_life_runs.of_segment_plan.Sound.{IsAddressed, IsService, is_target}
-use Rattle.run_frames.specs.of_life_runs.of_segment_plan.declared.service.Service as Plan
-use Rattle.run_frames.specs.of_life_runs.of_segment_plan.declared.slave.SlaveSpec.{SlaveSpec}
+use Rattle.slave_server.specs.of_segment_plan.Sound.{IsAddressed, IsService, is_target}
+use Rattle.slave_server.specs.of_segment_plan.declared.service.Service as Plan
+use Rattle.slave_server.specs.of_segment_plan.declared.slave.SlaveSpec.{SlaveSpec}
 use Rattle.plan_ring.specs.Lives.{StateFits, RowFits}
 
 -- a state service of a script asks for Bootstrap, as AL control has it, only where the slave has that

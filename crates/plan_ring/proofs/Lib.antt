@@ -1,6 +1,15 @@
+pub use Rattle.slave_server.proofs.of_exchange_model as of_exchange_model
+pub use Rattle.whole_ring.proofs.of_frame_view as of_frame_view
+pub use Rattle.whole_ring.proofs.of_frames_seen as of_frames_seen
+pub use Rattle.whole_ring.proofs.of_life_model as of_life_model
+pub use Rattle.slave_server.proofs.of_link_model as of_link_model
+pub use Rattle.run_frames.proofs.of_master_tour as of_master_tour
 pub use Rattle.run_frames.proofs as of_run_frames
+pub use Rattle.whole_ring.proofs.of_slave_lives as of_slave_lives
+pub use Rattle.slave_server.proofs.of_slave_model as of_slave_model
+pub use Rattle.slave_server.proofs.of_slave_parts as of_slave_parts
+pub use Rattle.run_frames.proofs.of_state_model as of_state_model
 pub use Rattle.whole_ring.proofs as of_whole_ring
-pub use Rattle.slave_server.proofs as of_slave_server
 pub mod Alike
 pub mod All
 pub mod Answering

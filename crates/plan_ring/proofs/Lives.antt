@@ -1,26 +1,26 @@
 -- FRAME BY FRAME, from the switch on.
 use Rattle.std.proofs.Common.{◌≡◌, ℕ, suc, Bool, List, [], ◌∷◌, ◌++◌, map, length, refl, sym, ◌∙◌, subst}
 use Rattle.std.proofs.lemmas.List.{length-map, map-append}
-use Rattle.run_frames.specs.of_life_runs.of_datagrams.Datagram as Raw
-use Rattle.run_frames.specs.of_life_runs.of_datagrams.Frame.{IsFrame, chained}
-use Rattle.run_frames.specs.of_life_runs.of_frame_view.View.{Lens}
-use Rattle.run_frames.specs.of_life_runs.of_frame_view.Seen.{seen}
+use Rattle.run_frames.specs.of_datagrams.Datagram as Raw
+use Rattle.run_frames.specs.of_datagrams.Frame.{IsFrame, chained}
+use Rattle.whole_ring.specs.of_frame_view.View.{Lens}
+use Rattle.whole_ring.specs.of_frame_view.Seen.{seen}
 use Rattle.run_frames.specs.of_life_runs.First.{lens_of, first_leads, leads_from}
 use Rattle.run_frames.specs.of_life_runs.Led as Led
 use Rattle.run_frames.specs.of_life_runs.Led.{Exchanged, Leads, Turn, IsLed, IsLedFrame, is_passed, gives_up_at}
-use Rattle.run_frames.specs.of_life_runs.of_link_mails.Body.{Body}
-use Rattle.run_frames.specs.of_life_runs.of_master_hand.Spoken.{Asked, is_followed}
+use Rattle.slave_server.specs.of_link_mails.Body.{Body}
+use Rattle.run_frames.specs.of_master_hand.Spoken.{Asked, is_followed}
 use Rattle.plan_ring.specs.Master.{AllLed, AllUnder, Under, AllBehind, GoesOn}
 use Rattle.plan_ring.specs.Plan.{PlanMember, FitsPlan, AllMacs, members_of, new_members, step}
-use Rattle.slave_parts.specs.of_segment_model.Record.{Frame}
-use Rattle.run_frames.specs.of_life_runs.of_segment_plan.Sound as Plan
-use Rattle.run_frames.specs.of_life_runs.of_segment_plan.declared.plan.Scenario.{Scenario}
-use Rattle.run_frames.specs.of_life_runs.of_segment_plan.declared.slave.SlaveSpec.{SlaveSpec}
-use Rattle.run_frames.specs.of_life_runs.of_segment_ring.Ring.{RingState}
-use Rattle.run_frames.specs.of_life_runs.of_segment_ring.Schedule.{fate_at}
+use Rattle.slave_server.specs.of_segment_model.Record.{Frame}
+use Rattle.slave_server.specs.of_segment_plan.Sound as Plan
+use Rattle.slave_server.specs.of_segment_plan.declared.plan.Scenario.{Scenario}
+use Rattle.slave_server.specs.of_segment_plan.declared.slave.SlaveSpec.{SlaveSpec}
+use Rattle.run_frames.specs.of_segment_ring.Ring.{RingState}
+use Rattle.run_frames.specs.of_segment_ring.Schedule.{fate_at}
 use Rattle.whole_ring.specs.of_slave_lives.Rings.{fate_seen}
 use Rattle.slave_server.specs.Serving.{Serving}
-use Rattle.whole_ring.specs.of_slave_node.Node.{Node}
+use Rattle.slave_server.specs.of_slave_node.Node.{Node}
 use Rattle.whole_ring.specs.Members.{IsRing, first_ring}
 use Rattle.whole_ring.specs.Turning.{frame_at}
 use Rattle.plan_ring.specs.Lives.{IsKnown, AllShown, AreLived}

@@ -2,27 +2,27 @@
 use Rattle.std.proofs.Common.{◌≡◌, ℕ, suc, ◌&&◌, All, Bool, true, false, List, [], ◌∷◌, ◌++◌, length, refl, ap, sym, ◌∙◌, subst}
 use Rattle.std.specs.Prelude.{if◌then◌else◌}
 use Rattle.std.proofs.lemmas.List.Elements.{All-head, All-tail}
-use Rattle.run_frames.specs.of_life_runs.of_datagrams.Datagram as Raw
-use Rattle.run_frames.specs.of_life_runs.of_datagrams.Frame.{IsFrame, chained}
-use Rattle.slave_node.specs.Passing.{datagrams_after}
-use Rattle.run_frames.specs.of_life_runs.of_frame_view.View.{Lens}
-use Rattle.run_frames.specs.of_life_runs.of_link_mails.Body.{Body}
-use Rattle.slave_parts.specs.of_segment_model.Record.{Frame}
-use Rattle.run_frames.specs.of_life_runs.of_segment_plan.Sound.{IsSlave}
-use Rattle.run_frames.specs.of_life_runs.of_segment_plan.declared.slave.SlaveSpec.{SlaveSpec}
-use Rattle.exchange_model.specs.Exchange.{IsLawful}
-use Rattle.slave_parts.specs.of_slave_model.Profile.{Profile, IsProfile}
-use Rattle.run_frames.specs.of_life_runs.of_segment_ring.declared.wire.Fate.{Fate}
-use Rattle.run_frames.specs.of_life_runs.of_segment_ring.declared.wire.Fate.TheVariants.{Pass, Lost}
-use Rattle.run_frames.specs.of_life_runs.of_segment_ring.Ring.{RingState, ring_behind}
-use Rattle.run_frames.specs.of_life_runs.of_segment_ring.Schedule.{fate_at}
+use Rattle.run_frames.specs.of_datagrams.Datagram as Raw
+use Rattle.run_frames.specs.of_datagrams.Frame.{IsFrame, chained}
+use Rattle.slave_server.specs.of_slave_node.Passing.{datagrams_after}
+use Rattle.whole_ring.specs.of_frame_view.View.{Lens}
+use Rattle.slave_server.specs.of_link_mails.Body.{Body}
+use Rattle.slave_server.specs.of_segment_model.Record.{Frame}
+use Rattle.slave_server.specs.of_segment_plan.Sound.{IsSlave}
+use Rattle.slave_server.specs.of_segment_plan.declared.slave.SlaveSpec.{SlaveSpec}
+use Rattle.slave_server.specs.of_exchange_model.Exchange.{IsLawful}
+use Rattle.slave_server.specs.of_slave_model.Profile.{Profile, IsProfile}
+use Rattle.run_frames.specs.of_segment_ring.declared.wire.Fate.{Fate}
+use Rattle.run_frames.specs.of_segment_ring.declared.wire.Fate.TheVariants.{Pass, Lost}
+use Rattle.run_frames.specs.of_segment_ring.Ring.{RingState, ring_behind}
+use Rattle.run_frames.specs.of_segment_ring.Schedule.{fate_at}
 use Rattle.slave_server.specs.Serving.{Serving}
-use Rattle.whole_ring.specs.of_slave_node.Node.{Node, node_passed}
-use Rattle.run_frames.specs.of_life_runs.of_master_duty.Reply as Master
-use Rattle.run_frames.specs.of_life_runs.of_master_hand.Spoken.{Asked, acknowledged}
-use Rattle.life_model.specs.Lives.{Spot, Life, life_next, life_back, life_lost, gives_up}
-use Rattle.run_frames.specs.of_life_runs.of_frame_view.Shares as Shares
-use Rattle.run_frames.specs.of_life_runs.of_frame_view.Shares.{Lived, came_at, given_where}
+use Rattle.slave_server.specs.of_slave_node.Node.{Node, node_passed}
+use Rattle.run_frames.specs.of_master_duty.Reply as Master
+use Rattle.run_frames.specs.of_master_hand.Spoken.{Asked, acknowledged}
+use Rattle.whole_ring.specs.of_life_model.Lives.{Spot, Life, life_next, life_back, life_lost, gives_up}
+use Rattle.whole_ring.specs.of_frame_view.Shares as Shares
+use Rattle.whole_ring.specs.of_frame_view.Shares.{Lived, came_at, given_where}
 use Rattle.plan_ring.specs.Alike.{InHandIs}
 use Rattle.plan_ring.proofs.Alike as Alike
 use Rattle.whole_ring.specs.of_slave_lives.Rings.{fate_seen, is_met_at, met, turned}

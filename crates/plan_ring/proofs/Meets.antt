@@ -1,16 +1,16 @@
 -- What a frame that came back was for each of them.
 use Rattle.std.proofs.Common.{◌≡◌, ℕ, suc, List, [], ◌∷◌, ◌++◌, map, length, refl, sym, ap, ◌∙◌, subst, if◌then◌else◌}
 use Rattle.std.proofs.lemmas.List.{length-map}
-use Rattle.datagrams.specs.Frame.{chained}
-use Rattle.frame_view.specs.Seen.{seen}
-use Rattle.frame_view.specs.View.{Lens}
-use Rattle.master_tour.specs.of_frame_view.Shares.{Lived}
-use Rattle.life_model.specs.Lives.{Spot}
-use Rattle.life_model.specs.Own.{own}
+use Rattle.run_frames.specs.of_datagrams.Frame.{chained}
+use Rattle.whole_ring.specs.of_frame_view.Seen.{seen}
+use Rattle.whole_ring.specs.of_frame_view.View.{Lens}
+use Rattle.whole_ring.specs.of_frame_view.Shares.{Lived}
+use Rattle.whole_ring.specs.of_life_model.Lives.{Spot}
+use Rattle.whole_ring.specs.of_life_model.Own.{own}
 use Rattle.run_frames.specs.of_life_runs.First.{lens_of}
 use Rattle.run_frames.specs.of_life_runs.Led.{Exchanged, Leads, Turn, IsLedFrame, is_passed}
-use Rattle.link_mails.specs.Body.{Body}
-use Rattle.master_duty.specs.Reply.{Reply}
+use Rattle.slave_server.specs.of_link_mails.Body.{Body}
+use Rattle.run_frames.specs.of_master_duty.Reply.{Reply}
 use Rattle.run_frames.specs.of_master_hand.Spoken.{Asked, is_followed}
 use Rattle.plan_ring.specs.Met.{OpenMet, AllOpenMet}
 use Rattle.plan_ring.proofs.OpenEach.{each_met}
@@ -24,21 +24,21 @@ use Rattle.plan_ring.proofs.Lives.{one_after}
 use Rattle.plan_ring.proofs.Master as Ring
 use Rattle.plan_ring.proofs.Turns.{under_of, all_under}
 use Rattle.plan_ring.proofs.Each.{meets}
-use Rattle.segment_model.specs.Record.{Frame}
-use Rattle.segment_model.specs.Slaves.{Datagram, slave_after, slave_steps, frame_after}
-use Rattle.scenario.specs.of_segment_plan.Sound as Plan
-use Rattle.scenario.specs.of_segment_plan.declared.plan.Scenario.{Scenario}
-use Rattle.scenario.specs.of_segment_plan.declared.slave.SlaveSpec.{SlaveSpec}
-use Rattle.segment_ring.specs.Ring.{RingState, ring_returned, is_in_pace}
-use Rattle.segment_ring.specs.Schedule.{fate_at}
-use Rattle.segment_ring.specs.declared.wire.Fate.TheVariants.{Pass}
+use Rattle.slave_server.specs.of_segment_model.Record.{Frame}
+use Rattle.slave_server.specs.of_segment_model.Slaves.{Datagram, slave_after, slave_steps, frame_after}
+use Rattle.slave_server.specs.of_segment_plan.Sound as Plan
+use Rattle.slave_server.specs.of_segment_plan.declared.plan.Scenario.{Scenario}
+use Rattle.slave_server.specs.of_segment_plan.declared.slave.SlaveSpec.{SlaveSpec}
+use Rattle.run_frames.specs.of_segment_ring.Ring.{RingState, ring_returned, is_in_pace}
+use Rattle.run_frames.specs.of_segment_ring.Schedule.{fate_at}
+use Rattle.run_frames.specs.of_segment_ring.declared.wire.Fate.TheVariants.{Pass}
 use Rattle.whole_ring.specs.of_slave_lives.Lived.{Behind, node_seen}
-use Rattle.slave_parts.specs.Parts.{Core, Server}
-use Rattle.slave_parts.specs.of_protocol_models.Network.{Station}
+use Rattle.slave_server.specs.of_slave_parts.Parts.{Core, Server}
+use Rattle.slave_server.specs.of_protocol_models.Network.{Station}
 use Rattle.slave_server.specs.Serving.{Serving}
 use Rattle.slave_server.specs.Spec.{profile_of}
-use Rattle.whole_ring.specs.of_slave_node.Node.{Node, node_passed}
-use Rattle.state_model.specs.Families.{InState}
+use Rattle.slave_server.specs.of_slave_node.Node.{Node, node_passed}
+use Rattle.slave_server.specs.of_state_model.Families.{InState}
 use Rattle.whole_ring.specs.Turning as Whole
 use Rattle.whole_ring.specs.Turning.{frame_at, behind_frame}
 use Rattle.whole_ring.proofs.Members as Members

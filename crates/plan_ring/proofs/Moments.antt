@@ -1,16 +1,16 @@
 -- A reply that comes next at a moment of rows is that of the newest, which has nothing left to tell and no answer yet.
 use Rattle.std.proofs.Common.{◌≡◌, inl, inr, ℕ, Bool, true, false, not, cond, Option, None, Some, List, [], ◌∷◌, ◌++◌, refl, sym, ap, ◌∙◌, append_assoc}
 use Rattle.std.specs.Prelude.{drop, length}
-use Rattle.exchange_model.specs.Exchange.{Exchange, IsLawful, after, given, plain}
-use Rattle.exchange_model.specs.Prefix.{IsPrefixOf}
-use Rattle.exchange_model.specs.Rows.{Row, left, told_all, heard_all}
-use Rattle.exchange_model.specs.Laws.{Moment}
-use Rattle.exchange_model.proofs.Nows.{Reached, reached_or_waits}
-use Rattle.exchange_model.proofs.Settles.{settled_ready}
-use Rattle.exchange_model.proofs.Words.{plain-append, plain_given-append}
-use Rattle.slave_model.specs.Hears.{HearsFirst}
-use Rattle.slave_model.proofs.HearsDialogues.{drop_none, not_none}
-use Rattle.master_tour.specs.of_master_side.Due.{IsReply}
+use Rattle.slave_server.specs.of_exchange_model.Exchange.{Exchange, IsLawful, after, given, plain}
+use Rattle.slave_server.specs.of_exchange_model.Prefix.{IsPrefixOf}
+use Rattle.slave_server.specs.of_exchange_model.Rows.{Row, left, told_all, heard_all}
+use Rattle.slave_server.specs.of_exchange_model.Laws.{Moment}
+use Rattle.slave_server.proofs.of_exchange_model.Nows.{Reached, reached_or_waits}
+use Rattle.slave_server.proofs.of_exchange_model.Settles.{settled_ready}
+use Rattle.slave_server.proofs.of_exchange_model.Words.{plain-append, plain_given-append}
+use Rattle.slave_server.specs.of_slave_model.Hears.{HearsFirst}
+use Rattle.slave_server.proofs.of_slave_model.HearsDialogues.{drop_none, not_none}
+use Rattle.run_frames.specs.of_master_side.Due.{IsReply}
 
 -- nothing is left further on either
 drop_further : {X : Type 0} (xs ys l : List X) → drop (length xs) l ≡ [] → drop (length (xs ++ ys)) l ≡ []

@@ -1,9 +1,9 @@
 -- THE LAWS OF AN EXCHANGE hold by its client's names.
 use Rattle.std.proofs.Common.{◌≡◌, ◌⊎◌, inl, inr, ◌&&◌, Bool, true, false, List, [], ◌∷◌, ◌++◌, refl, ap, sym, ◌∙◌, subst}
 use Rattle.std.specs.Prelude.{if◌then◌else◌, Option, Some, None, option_map}
-use Rattle.exchange_model.specs.Exchange.{Exchange, Speech, IsLawful, Before, Behind}
-use Rattle.exchange_model.specs.Prefix.{IsPrefixOf}
-use Rattle.state_model.specs.Stated.{Stated, IsStated}
+use Rattle.slave_server.specs.of_exchange_model.Exchange.{Exchange, Speech, IsLawful, Before, Behind}
+use Rattle.slave_server.specs.of_exchange_model.Prefix.{IsPrefixOf}
+use Rattle.slave_server.specs.of_state_model.Stated.{Stated, IsStated}
 use Rattle.plan_ring.specs.Named.{Naming, named, named_states, Agrees, AgreesLast}
 
 left_of : (a b : Bool) → (a && b) ≡ true → a ≡ true

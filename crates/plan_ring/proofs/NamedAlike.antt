@@ -1,11 +1,11 @@
 -- Two clients that speak alike of the service in hand: it is over for both, or for none.
 use Rattle.std.proofs.Common.{◌≡◌, Bool, true, Option, Some, None, List, refl, sym, ap, ◌∙◌, subst}
 use Rattle.std.specs.Prelude.{drop, length}
-use Rattle.slave_model.specs.Moments.{IsFree, NoneLeft, NowAnswered}
-use Rattle.exchange_model.specs.Exchange.{Speech, plain}
-use Rattle.exchange_model.specs.Rows.{Row, answer_after, left}
-use Rattle.segment_model.specs.Seats.{Side}
-use Rattle.state_model.specs.Accounts.{is_free}
+use Rattle.slave_server.specs.of_slave_model.Moments.{IsFree, NoneLeft, NowAnswered}
+use Rattle.slave_server.specs.of_exchange_model.Exchange.{Speech, plain}
+use Rattle.slave_server.specs.of_exchange_model.Rows.{Row, answer_after, left}
+use Rattle.slave_server.specs.of_segment_model.Seats.{Side}
+use Rattle.slave_server.specs.of_state_model.Accounts.{is_free}
 use Rattle.plan_ring.specs.Alike.{Alike, RowIs}
 use Rattle.plan_ring.proofs.Alike.{over_same}
 

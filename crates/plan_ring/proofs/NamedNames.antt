@@ -1,9 +1,9 @@
 -- A client by other names of its services.
 use Rattle.std.proofs.Common.{◌≡◌, ◌&&◌, Bool, true, false, refl, sym, ap, ◌∙◌}
 use Rattle.std.specs.Prelude.{drop, length}
-use Rattle.exchange_model.specs.Exchange.{Exchange, Speech, given, plain}
+use Rattle.slave_server.specs.of_exchange_model.Exchange.{Exchange, Speech, given, plain}
 use Rattle.plan_ring.specs.Named.{Naming, Agrees, named}
-use Rattle.slave_model.specs.Waits.{NeverWaits}
+use Rattle.slave_server.specs.of_slave_model.Waits.{NeverWaits}
 
 both_parts : (a b : Bool) → (a && b) ≡ true → (a ≡ true) × (b ≡ true)
 both_parts true b e = (refl, e)

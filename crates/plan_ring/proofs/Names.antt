@@ -1,10 +1,10 @@
 -- A client by other names of its services hears first too; and what is due to it is so to one that speaks alike of the service in hand.
 use Rattle.std.proofs.Common.{◌≡◌, ◌&&◌, Bool, true, false, Option, Some, None, List, [], ◌∷◌, ◌++◌, refl, ap, ◌∙◌, inl, inr}
 use Rattle.std.specs.Prelude.{drop, length}
-use Rattle.exchange_model.specs.Exchange.{Exchange, Speech, plain}
-use Rattle.exchange_model.specs.Rows.{Row}
-use Rattle.slave_model.specs.Hears.{HearsFirst}
-use Rattle.run_frames.specs.of_life_runs.of_master_side.Due.{IsReply, IsAwaited, IsDue, EachDue}
+use Rattle.slave_server.specs.of_exchange_model.Exchange.{Exchange, Speech, plain}
+use Rattle.slave_server.specs.of_exchange_model.Rows.{Row}
+use Rattle.slave_server.specs.of_slave_model.Hears.{HearsFirst}
+use Rattle.run_frames.specs.of_master_side.Due.{IsReply, IsAwaited, IsDue, EachDue}
 use Rattle.plan_ring.specs.Alike.{Alike, RowIs}
 use Rattle.plan_ring.specs.Named.{Naming, Agrees, named}
 

@@ -1,25 +1,25 @@
 -- One open slave by a frame that came back.
 use Rattle.std.proofs.Common.{◌≡◌, ℕ, zero, suc, Bool, true, false, List, [], length, refl, sym, ap, ap₂, ◌∙◌, subst, if◌then◌else◌}
-use Rattle.datagrams.specs.Datagram as Raw
-use Rattle.ec_fields.specs.Fields.{bits_of}
-use Rattle.esc_registers.specs.declared.registers.Registers as Esc
-use Rattle.slave_node.specs.Passing.{registers_after, datagrams_after}
-use Rattle.frame_view.specs.Seen.{seen}
+use Rattle.run_frames.specs.of_datagrams.Datagram as Raw
+use Rattle.whole_ring.specs.of_ec_fields.Fields.{bits_of}
+use Rattle.whole_ring.specs.of_esc_registers.declared.registers.Registers as Esc
+use Rattle.slave_server.specs.of_slave_node.Passing.{registers_after, datagrams_after}
+use Rattle.whole_ring.specs.of_frame_view.Seen.{seen}
 use Rattle.whole_ring.specs.of_frames_seen.Kept.{FrameKeeps}
 use Rattle.whole_ring.specs.of_frames_seen.Own.{own_of, own_seen, IsAlone}
 use Rattle.whole_ring.specs.of_frames_seen.Ring.{AllApart, IsRingMet}
 use Rattle.whole_ring.specs.of_frames_seen.Slaves.{registers_seen, slave_of}
 use Rattle.whole_ring.specs.of_frames_seen.Spoken.{AllSpoken}
-use Rattle.life_model.specs.Eras.{Clearing}
-use Rattle.life_model.specs.Lives.{Spot, Era, AsksOpen, Stand, granted}
-use Rattle.life_model.specs.Own.{own}
-use Rattle.link_mails.specs.Body.{Body}
-use Rattle.mailbox_slave.specs.Registers.{in_len}
-use Rattle.segment_model.specs.Record.{Frame}
-use Rattle.segment_model.specs.Slaves.{Datagram, Slave, slave_after, slave_steps, frame_after}
-use Rattle.segment_ring.specs.Ring.{is_in_pace}
-use Rattle.segment_ring.specs.declared.wire.Fate.{Fate}
-use Rattle.segment_ring.specs.declared.wire.Fate.TheVariants.{Pass, Lost}
+use Rattle.whole_ring.specs.of_life_model.Eras.{Clearing}
+use Rattle.whole_ring.specs.of_life_model.Lives.{Spot, Era, AsksOpen, Stand, granted}
+use Rattle.whole_ring.specs.of_life_model.Own.{own}
+use Rattle.slave_server.specs.of_link_mails.Body.{Body}
+use Rattle.whole_ring.specs.of_mailbox_slave.Registers.{in_len}
+use Rattle.slave_server.specs.of_segment_model.Record.{Frame}
+use Rattle.slave_server.specs.of_segment_model.Slaves.{Datagram, Slave, slave_after, slave_steps, frame_after}
+use Rattle.run_frames.specs.of_segment_ring.Ring.{is_in_pace}
+use Rattle.run_frames.specs.of_segment_ring.declared.wire.Fate.{Fate}
+use Rattle.run_frames.specs.of_segment_ring.declared.wire.Fate.TheVariants.{Pass, Lost}
 use Rattle.plan_ring.proofs.Halves.{mine_is, back_mine, ring_met}
 use Rattle.whole_ring.specs.of_slave_lives.Lived.{Behind, RingFrame, LivesEra, IsForOpen, fate_of, is_reached, node_behind, frame_of, node_seen}
 use Rattle.whole_ring.specs.of_slave_lives.Nodes.{IsRoomy, stepped}
@@ -31,10 +31,10 @@ use Rattle.whole_ring.proofs.of_slave_lives.NodeSteps.{steps_on}
 use Rattle.whole_ring.proofs.of_slave_lives.RingFrames.{after_keeps, met_runs}
 use Rattle.whole_ring.proofs.of_slave_lives.RingLives.{sent_is}
 use Rattle.whole_ring.proofs.of_slave_lives.Stepping.{step_view}
-use Rattle.whole_ring.specs.of_slave_node.Node.{Node}
-use Rattle.frames_seen.specs.Shows.{slave_table}
-use Rattle.state_model.specs.States as States
-use Rattle.state_model.specs.Accounts.{Pick}
+use Rattle.slave_server.specs.of_slave_node.Node.{Node}
+use Rattle.whole_ring.specs.of_frames_seen.Shows.{slave_table}
+use Rattle.slave_server.specs.of_state_model.States as States
+use Rattle.slave_server.specs.of_state_model.Accounts.{Pick}
 use Rattle.whole_ring.specs.Turns.{FrameComes, era_before}
 use Rattle.whole_ring.specs.Whole.{IsWhole, LivesOpen}
 use Rattle.whole_ring.proofs.Open.{steady_of, over_begins, hand_begins}

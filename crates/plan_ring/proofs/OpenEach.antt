@@ -1,21 +1,21 @@
 -- One slave of the ring, and all of them.
 use Rattle.std.proofs.Common.{◌≡◌, ℕ, suc, Bool, Option, List, [], ◌∷◌, ◌++◌, map, length, refl, sym, ◌∙◌, subst, if◌then◌else◌}
-use Rattle.datagrams.specs.Datagram as Raw
-use Rattle.datagrams.specs.Frame.{IsFrame, chained}
-use Rattle.frame_view.specs.Seen.{seen}
-use Rattle.frame_view.specs.View.{Lens}
-use Rattle.master_tour.specs.of_frame_view.Shares.{came_at, Asked as FrameHas}
-use Rattle.life_model.specs.Lives.{Spot, Stand}
-use Rattle.life_model.specs.Own.{own}
-use Rattle.link_mails.specs.Body.{Body}
-use Rattle.segment_model.specs.Record.{Frame}
-use Rattle.segment_model.specs.Slaves.{Datagram, Found, slave_after, slave_steps, frame_after}
-use Rattle.segment_ring.specs.Ring.{RingState, ring_returned, is_in_pace}
-use Rattle.segment_ring.specs.declared.wire.Fate.TheVariants.{Pass}
+use Rattle.run_frames.specs.of_datagrams.Datagram as Raw
+use Rattle.run_frames.specs.of_datagrams.Frame.{IsFrame, chained}
+use Rattle.whole_ring.specs.of_frame_view.Seen.{seen}
+use Rattle.whole_ring.specs.of_frame_view.View.{Lens}
+use Rattle.whole_ring.specs.of_frame_view.Shares.{came_at, Asked as FrameHas}
+use Rattle.whole_ring.specs.of_life_model.Lives.{Spot, Stand}
+use Rattle.whole_ring.specs.of_life_model.Own.{own}
+use Rattle.slave_server.specs.of_link_mails.Body.{Body}
+use Rattle.slave_server.specs.of_segment_model.Record.{Frame}
+use Rattle.slave_server.specs.of_segment_model.Slaves.{Datagram, Found, slave_after, slave_steps, frame_after}
+use Rattle.run_frames.specs.of_segment_ring.Ring.{RingState, ring_returned, is_in_pace}
+use Rattle.run_frames.specs.of_segment_ring.declared.wire.Fate.TheVariants.{Pass}
 use Rattle.whole_ring.specs.of_slave_lives.Lived.{Behind, RingFrame, node_behind, frame_of}
 use Rattle.whole_ring.specs.of_slave_lives.Rings.{come_to, is_met_at, met, turned}
 use Rattle.whole_ring.specs.of_slave_lives.Seats.{AllMeet}
-use Rattle.whole_ring.specs.of_slave_node.Node.{Node, node_passed}
+use Rattle.slave_server.specs.of_slave_node.Node.{Node, node_passed}
 use Rattle.whole_ring.specs.Turns as Whole
 use Rattle.whole_ring.specs.Whole.{StandsAs}
 use Rattle.whole_ring.specs.Members.{Member, MemberIs, AllLived, IsRing}

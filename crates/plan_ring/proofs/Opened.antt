@@ -2,18 +2,18 @@
 use Rattle.std.proofs.Common.{◌≡◌, inr, ℕ, suc, ◌==◌, ◌&&◌, Bool, true, false, Option, List, refl, sym, ap, ap₂, ◌∙◌, subst, length}
 use Rattle.std.specs.Prelude.{◌||◌}
 use Rattle.std.proofs.lemmas.Bool.{ne_eqb}
-use Rattle.ec_fields.specs.Fields.{bits_of}
-use Rattle.esc_registers.specs.declared.registers.Registers as Esc
-use Rattle.al_state.specs.Request.{is_state}
+use Rattle.whole_ring.specs.of_ec_fields.Fields.{bits_of}
+use Rattle.whole_ring.specs.of_esc_registers.declared.registers.Registers as Esc
+use Rattle.whole_ring.specs.of_al_state.Request.{is_state}
 use Rattle.whole_ring.specs.of_frames_seen.Slaves.{registers_seen}
-use Rattle.life_model.specs.Repairs.{awaits_at}
-use Rattle.life_model.specs.Eras.{Clearing}
-use Rattle.life_model.specs.Lives.{Spot, Era, Opening, Stand, shows_clear, last_step}
-use Rattle.link_mails.specs.Body.{Body}
-use Rattle.segment_model.specs.Record.{Frame}
-use Rattle.segment_model.specs.Slaves.{Found}
-use Rattle.segment_ring.specs.Ring.{is_in_pace}
-use Rattle.segment_ring.specs.declared.wire.Fate.{Fate}
+use Rattle.whole_ring.specs.of_life_model.Repairs.{awaits_at}
+use Rattle.whole_ring.specs.of_life_model.Eras.{Clearing}
+use Rattle.whole_ring.specs.of_life_model.Lives.{Spot, Era, Opening, Stand, shows_clear, last_step}
+use Rattle.slave_server.specs.of_link_mails.Body.{Body}
+use Rattle.slave_server.specs.of_segment_model.Record.{Frame}
+use Rattle.slave_server.specs.of_segment_model.Slaves.{Found}
+use Rattle.run_frames.specs.of_segment_ring.Ring.{is_in_pace}
+use Rattle.run_frames.specs.of_segment_ring.declared.wire.Fate.{Fate}
 use Rattle.run_frames.specs.Goes.{stepped_behind}
 use Rattle.whole_ring.specs.of_slave_lives.Lived.{Behind, RingFrame, ClosedFrame, is_reached, node_met, node_behind}
 use Rattle.whole_ring.specs.of_slave_lives.Nodes.{IsRunning}
@@ -24,9 +24,9 @@ use Rattle.whole_ring.proofs.of_slave_lives.Arrives as Arrived
 use Rattle.whole_ring.proofs.of_slave_lives.Closing as Closed
 use Rattle.whole_ring.proofs.of_slave_lives.RingFrames.{met_runs}
 use Rattle.whole_ring.proofs.of_slave_lives.Words.{state_in}
-use Rattle.slave_lives.specs.Shown.{StandsFor}
-use Rattle.slave_lives.proofs.Going.{stays_on, goes_on, step_on}
-use Rattle.slave_lives.proofs.Standing.{watch_stands}
+use Rattle.whole_ring.specs.of_slave_lives.Shown.{StandsFor}
+use Rattle.whole_ring.proofs.of_slave_lives.Going.{stays_on, goes_on, step_on}
+use Rattle.whole_ring.proofs.of_slave_lives.Standing.{watch_stands}
 use Rattle.whole_ring.specs.Turns.{FrameComes, Came}
 use Rattle.whole_ring.specs.Whole.{IsWhole, LivesStill, OpensAs, OpensBy, plan_to}
 use Rattle.whole_ring.proofs.Kept.{met_boot}

@@ -1,19 +1,19 @@
 -- An open slave, by a frame: it is open yet, or its reopening begins.
 use Rattle.std.proofs.Common.{◌≡◌, ℕ, Bool, true, false, Option, Some, None, List, refl, sym, ap, ap₂, ◌∙◌, subst, if◌then◌else◌}
 use Rattle.plan_ring.specs.SlaveAsked.{IsAsked, GoesOn}
-use Rattle.life_model.specs.Repairs.{way_of, stand_way}
-use Rattle.life_model.specs.Eras.{Clearing}
-use Rattle.life_model.specs.Lives.{Spot, Era, Life, Stand, reopens, reopens_at, reopening, returns_to_init, opens_state}
-use Rattle.link_mails.specs.Body.{Body}
-use Rattle.link_model.specs.Master.{InHalf, InState}
-use Rattle.link_model.specs.Segment.{RingFate}
-use Rattle.mailbox_slave.specs.Node.{in_side}
+use Rattle.whole_ring.specs.of_life_model.Repairs.{way_of, stand_way}
+use Rattle.whole_ring.specs.of_life_model.Eras.{Clearing}
+use Rattle.whole_ring.specs.of_life_model.Lives.{Spot, Era, Life, Stand, reopens, reopens_at, reopening, returns_to_init, opens_state}
+use Rattle.slave_server.specs.of_link_mails.Body.{Body}
+use Rattle.whole_ring.specs.of_link_model.Master.{InHalf, InState}
+use Rattle.whole_ring.specs.of_link_model.Segment.{RingFate}
+use Rattle.whole_ring.specs.of_mailbox_slave.Node.{in_side}
 use Rattle.run_frames.specs.Goes.{is_same, stepped_behind}
-use Rattle.segment_model.specs.Record.{Frame, News}
-use Rattle.segment_model.specs.Slaves.{Found}
+use Rattle.slave_server.specs.of_segment_model.Record.{Frame, News}
+use Rattle.slave_server.specs.of_segment_model.Slaves.{Found}
 use Rattle.whole_ring.specs.of_slave_lives.Lived.{Behind, RingFrame, LivesEra, fate_of, node_met, node_behind, frame_of}
 use Rattle.whole_ring.specs.of_slave_lives.Opening.{Plan}
-use Rattle.state_model.specs.Accounts.{Pick, Duty, Stage}
+use Rattle.slave_server.specs.of_state_model.Accounts.{Pick, Duty, Stage}
 use Rattle.whole_ring.specs.Turns.{FrameComes, AsksFor, era_before, era_behind, life_by}
 use Rattle.whole_ring.specs.Whole.{IsWhole}
 use Rattle.plan_ring.specs.Stands.{Asked, StandsTo}

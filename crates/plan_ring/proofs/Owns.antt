@@ -1,28 +1,28 @@
 -- WHAT WAS HEARD of a slave is what it sends of itself, and the first of what its server replies to the services that came into hand.
 use Rattle.std.proofs.Common.{◌≡◌, inl, inr, ℕ, Bool, List, [], ◌∷◌, ◌++◌, ap, sym, ◌∙◌, subst, append_assoc, append-nil}
 use Rattle.std.specs.Prelude.{not}
-use Rattle.exchange_model.specs.Prefix.{IsPrefixOf}
-use Rattle.exchange_model.specs.Exchange.{Exchange, IsLawful, after, given, plain}
-use Rattle.exchange_model.specs.Laws.{Moment}
-use Rattle.exchange_model.specs.Rows.{Row, Settled, told_all, services}
-use Rattle.exchange_model.proofs.Lifting.{map_append}
-use Rattle.exchange_model.proofs.Lists.{filter_both, prefix_nil, prefix_trans}
-use Rattle.exchange_model.proofs.Words.{after-append, plain_given-append, given_part}
-use Rattle.link_model.proofs.Law.{accepted_of_offered}
-use Rattle.segment_model.specs.Ends.{Outcome}
-use Rattle.segment_model.specs.Record.{Frame, heard}
-use Rattle.segment_model.specs.Seats.{Seat, link_of}
-use Rattle.state_model.specs.Promises.{IsTable}
-use Rattle.state_model.specs.States.{Table}
-use Rattle.state_model.specs.Stated.{Stated, IsStated, Act, Service, Counting, acts, mails, with_states}
-use Rattle.state_model.proofs.Acts.{acts_same, mails_acts, mails_append, plain_acts}
-use Rattle.state_model.specs.Accounts.{Account}
-use Rattle.state_model.specs.Promise.{services_in}
-use Rattle.state_model.proofs.Begins.{accepted_begin}
-use Rattle.state_model.proofs.Dones.{services_same}
-use Rattle.state_model.proofs.Ghosts.{counting, Rowed, Untouched}
-use Rattle.state_model.proofs.Newest.{Holds}
-use Rattle.state_model.proofs.Stately.{state_over}
+use Rattle.slave_server.specs.of_exchange_model.Prefix.{IsPrefixOf}
+use Rattle.slave_server.specs.of_exchange_model.Exchange.{Exchange, IsLawful, after, given, plain}
+use Rattle.slave_server.specs.of_exchange_model.Laws.{Moment}
+use Rattle.slave_server.specs.of_exchange_model.Rows.{Row, Settled, told_all, services}
+use Rattle.slave_server.proofs.of_exchange_model.Lifting.{map_append}
+use Rattle.slave_server.proofs.of_exchange_model.Lists.{filter_both, prefix_nil, prefix_trans}
+use Rattle.slave_server.proofs.of_exchange_model.Words.{after-append, plain_given-append, given_part}
+use Rattle.slave_server.proofs.of_link_model.Law.{accepted_of_offered}
+use Rattle.slave_server.specs.of_segment_model.Ends.{Outcome}
+use Rattle.slave_server.specs.of_segment_model.Record.{Frame, heard}
+use Rattle.slave_server.specs.of_segment_model.Seats.{Seat, link_of}
+use Rattle.slave_server.specs.of_state_model.Promises.{IsTable}
+use Rattle.slave_server.specs.of_state_model.States.{Table}
+use Rattle.slave_server.specs.of_state_model.Stated.{Stated, IsStated, Act, Service, Counting, acts, mails, with_states}
+use Rattle.run_frames.proofs.of_state_model.Acts.{acts_same, mails_acts, mails_append, plain_acts}
+use Rattle.slave_server.specs.of_state_model.Accounts.{Account}
+use Rattle.slave_server.specs.of_state_model.Promise.{services_in}
+use Rattle.run_frames.proofs.of_state_model.Begins.{accepted_begin}
+use Rattle.run_frames.proofs.of_state_model.Dones.{services_same}
+use Rattle.run_frames.proofs.of_state_model.Ghosts.{counting, Rowed, Untouched}
+use Rattle.run_frames.proofs.of_state_model.Newest.{Holds}
+use Rattle.run_frames.proofs.of_state_model.Stately.{state_over}
 use Rattle.plan_ring.specs.Epochs.{replies_all}
 
 -- ---- rows of one exchange

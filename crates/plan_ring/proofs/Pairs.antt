@@ -1,14 +1,14 @@
 -- The slaves as they are counted, and those of the ring: the same lives, and clocks that are right.
 use Rattle.std.proofs.Common.{◌≡◌, ℕ, suc, Bool, true, false, List, [], ◌∷◌, map, length, refl, sym, ap, ◌∙◌, subst, if◌then◌else◌}
 use Rattle.std.specs.Prelude.{⊤}
-use Rattle.exchange_model.specs.Exchange.{Speech}
-use Rattle.master_tour.specs.of_frame_view.Shares.{Lived}
-use Rattle.life_model.specs.Repairs.{way_of}
-use Rattle.life_model.specs.Lives.{Spot, Life, gives_up}
+use Rattle.slave_server.specs.of_exchange_model.Exchange.{Speech}
+use Rattle.whole_ring.specs.of_frame_view.Shares.{Lived}
+use Rattle.whole_ring.specs.of_life_model.Repairs.{way_of}
+use Rattle.whole_ring.specs.of_life_model.Lives.{Spot, Life, gives_up}
 use Rattle.run_frames.specs.of_life_runs.First.{leads_from}
 use Rattle.run_frames.specs.of_life_runs.Led.{Leads}
-use Rattle.link_mails.specs.Body.{Body}
-use Rattle.master_duty.specs.Reply.{Reply}
+use Rattle.slave_server.specs.of_link_mails.Body.{Body}
+use Rattle.run_frames.specs.of_master_duty.Reply.{Reply}
 use Rattle.run_frames.specs.of_master_hand.Spoken.{Asked}
 use Rattle.plan_ring.specs.Lives.{AllShown}
 use Rattle.plan_ring.specs.Master.{AllSame}
@@ -17,10 +17,10 @@ use Rattle.plan_ring.specs.Clocks.{AllStand, clocks_on}
 use Rattle.run_frames.specs.Clocks.{Clocked}
 use Rattle.run_frames.specs.Goes.{Under, is_same, stepped_behind, clocked_behind, all_lost, all_back}
 use Rattle.run_frames.specs.Led.{AreLed, first_clocked}
-use Rattle.segment_model.specs.Slaves.{Datagram}
-use Rattle.scenario.specs.of_segment_plan.declared.plan.Scenario.{Scenario}
-use Rattle.scenario.specs.of_segment_plan.declared.service.Service as Plan
-use Rattle.scenario.specs.of_segment_plan.declared.slave.SlaveSpec.{SlaveSpec}
+use Rattle.slave_server.specs.of_segment_model.Slaves.{Datagram}
+use Rattle.slave_server.specs.of_segment_plan.declared.plan.Scenario.{Scenario}
+use Rattle.slave_server.specs.of_segment_plan.declared.service.Service as Plan
+use Rattle.slave_server.specs.of_segment_plan.declared.slave.SlaveSpec.{SlaveSpec}
 use Rattle.plan_ring.specs.Stands.{StandsTo}
 use Rattle.plan_ring.proofs.Opened.{nothing_awaited}
 use Rattle.plan_ring.proofs.SlaveTurns.{given}

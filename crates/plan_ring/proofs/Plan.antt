@@ -2,20 +2,20 @@
 use Rattle.std.proofs.Common.{◌≡◌, ◌⊎◌, inl, inr, ℕ, suc, ◌+◌, ◌<◌, ◌≤◌, ◌==◌, ◌&&◌, ◌||◌, All, Bool, true, false, List, [], ◌∷◌, ◌++◌, map, length, refl, ap, sym, ◌∙◌, subst, arith}
 use Rattle.std.specs.Prelude.{Some, if◌then◌else◌}
 use Rattle.std.proofs.lemmas.Bool.{ne_eqb, eqb-true, eq-eqb}
-use Rattle.run_frames.specs.of_life_runs.of_frame_view.View.{Lens}
-use Rattle.run_frames.specs.of_life_runs.of_link_mails.Body.{Body}
-use Rattle.life_model.specs.Lives.{Spot}
-use Rattle.life_model.specs.Tours.{item_at}
+use Rattle.whole_ring.specs.of_frame_view.View.{Lens}
+use Rattle.slave_server.specs.of_link_mails.Body.{Body}
+use Rattle.whole_ring.specs.of_life_model.Lives.{Spot}
+use Rattle.whole_ring.specs.of_life_model.Tours.{item_at}
 use Rattle.std.proofs.lemmas.List.Elements.{All-head, All-tail}
-use Rattle.run_frames.specs.of_life_runs.of_segment_plan.Sound.{is_start, IsSlave}
-use Rattle.run_frames.specs.of_life_runs.of_segment_plan.Sound as Plan
-use Rattle.run_frames.specs.of_life_runs.of_segment_plan.declared.plan.Scenario.{Scenario}
-use Rattle.run_frames.specs.of_life_runs.of_segment_plan.declared.slave.SlaveSpec.{SlaveSpec}
-use Rattle.slave_parts.specs.of_slave_model.Profile.{Profile, IsProfile}
+use Rattle.slave_server.specs.of_segment_plan.Sound.{is_start, IsSlave}
+use Rattle.slave_server.specs.of_segment_plan.Sound as Plan
+use Rattle.slave_server.specs.of_segment_plan.declared.plan.Scenario.{Scenario}
+use Rattle.slave_server.specs.of_segment_plan.declared.slave.SlaveSpec.{SlaveSpec}
+use Rattle.slave_server.specs.of_slave_model.Profile.{Profile, IsProfile}
 use Rattle.whole_ring.specs.of_slave_lives.Opening.{Plan, IsPlan}
 use Rattle.slave_server.specs.Serving.{Serving}
 use Rattle.slave_server.specs.Spec.{profile_of, server_of, node_of}
-use Rattle.whole_ring.specs.of_slave_node.Node.{Node}
+use Rattle.slave_server.specs.of_slave_node.Node.{Node}
 use Rattle.plan_ring.specs.Real.{real, running_as, real_clearing, StepsAs}
 use Rattle.plan_ring.specs.Rooms.{IsSound}
 use Rattle.whole_ring.specs.of_slave_lives.Nodes.{GivesPlaced}

@@ -1,13 +1,13 @@
 -- The slaves that are open.
 use Rattle.std.proofs.Common.{◌≡◌, ℕ, suc, List, [], ◌∷◌, map, sym, ap, ◌∙◌, subst}
-use Rattle.exchange_model.specs.Exchange.{Speech, IsLawful}
-use Rattle.frame_view.specs.View.{Lens}
-use Rattle.master_tour.specs.of_frame_view.Shares.{Lived}
-use Rattle.life_model.specs.Lives.{Spot, Stand, Life}
+use Rattle.slave_server.specs.of_exchange_model.Exchange.{Speech, IsLawful}
+use Rattle.whole_ring.specs.of_frame_view.View.{Lens}
+use Rattle.whole_ring.specs.of_frame_view.Shares.{Lived}
+use Rattle.whole_ring.specs.of_life_model.Lives.{Spot, Stand, Life}
 use Rattle.run_frames.specs.of_life_runs.First.{lens_of, spot_of}
 use Rattle.run_frames.specs.of_life_runs.Led.{Exchanged, Leads, speech_at}
-use Rattle.link_mails.specs.Body.{Body}
-use Rattle.master_duty.specs.Reply.{Reply}
+use Rattle.slave_server.specs.of_link_mails.Body.{Body}
+use Rattle.run_frames.specs.of_master_duty.Reply.{Reply}
 use Rattle.run_frames.specs.of_master_hand.Spoken.{Asked, hand_speech}
 use Rattle.plan_ring.specs.Alike.{Alike, InHandIs}
 use Rattle.plan_ring.specs.Asked.{asked, is_service}
@@ -15,16 +15,16 @@ use Rattle.plan_ring.specs.Lives.{IsShown, AllShown, AreLived}
 use Rattle.plan_ring.specs.Master.{IsLed, AllLed, speech_of}
 use Rattle.plan_ring.specs.Plan.{PlanMember, FitsPlan, step}
 use Rattle.plan_ring.specs.Round.{ring_of, ring_after, all_seen}
-use Rattle.segment_model.specs.Record.{Frame}
-use Rattle.scenario.specs.of_segment_plan.declared.plan.Scenario.{Scenario}
-use Rattle.scenario.specs.of_segment_plan.declared.slave.SlaveSpec.{SlaveSpec}
+use Rattle.slave_server.specs.of_segment_model.Record.{Frame}
+use Rattle.slave_server.specs.of_segment_plan.declared.plan.Scenario.{Scenario}
+use Rattle.slave_server.specs.of_segment_plan.declared.slave.SlaveSpec.{SlaveSpec}
 use Rattle.whole_ring.specs.of_slave_lives.Lived.{Behind, IsBehind}
-use Rattle.slave_parts.specs.Parts.{Core, Server}
-use Rattle.slave_parts.specs.of_protocol_models.Network.{Station}
+use Rattle.slave_server.specs.of_slave_parts.Parts.{Core, Server}
+use Rattle.slave_server.specs.of_protocol_models.Network.{Station}
 use Rattle.slave_server.specs.Serving.{Serving}
 use Rattle.slave_server.specs.Spec.{profile_of}
-use Rattle.state_model.specs.Families.{InState}
-use Rattle.state_model.specs.Stated.{IsStated}
+use Rattle.slave_server.specs.of_state_model.Families.{InState}
+use Rattle.slave_server.specs.of_state_model.Stated.{IsStated}
 use Rattle.whole_ring.specs.Whole.{StandsAs, LivesOpen}
 use Rattle.whole_ring.specs.Members.{MemberIs, AllLived}
 use Rattle.plan_ring.specs.PlanMet.{IsOpenAt, IsAt, AllOpenAt}

@@ -1,11 +1,11 @@
 -- The real server is one of those of which lives speak.
 use Rattle.std.proofs.Common.{◌≡◌, ℕ, Bool, refl, ap}
 use Rattle.whole_ring.specs.of_frame_view.View.{Lens}
-use Rattle.slave_parts.specs.of_slave_model.Profile.{Profile}
+use Rattle.slave_server.specs.of_slave_model.Profile.{Profile}
 use Rattle.slave_server.specs.Seen.{IsExchange}
 use Rattle.slave_server.specs.Serving.{Serving, takes, next_mail, rest, cleared}
-use Rattle.whole_ring.specs.of_slave_node.Node.{Node}
-use Rattle.whole_ring.specs.of_slave_node.Step.{pdi_step}
+use Rattle.slave_server.specs.of_slave_node.Node.{Node}
+use Rattle.slave_server.specs.of_slave_node.Step.{pdi_step}
 use Rattle.whole_ring.specs.of_slave_lives.Lived.{IsBehind}
 use Rattle.whole_ring.specs.of_slave_lives.Nodes.{stepped}
 use Rattle.whole_ring.proofs.of_slave_lives.Servers.{step_holds}

@@ -2,10 +2,10 @@
 use Rattle.std.proofs.Common.{◌≡◌, ◌≤◌, ℕ, suc, ◌+◌, Bool, true, false, Option, Some, None, List, [], ◌∷◌, length, refl, sym, ap, ◌∙◌, arith, if◌then◌else◌}
 use Rattle.std.specs.Prelude.{nat_le, nat_lt, map}
 use Rattle.std.proofs.lemmas.Bool.{le-leb, leb-true, le-ltb}
-use Rattle.life_model.specs.Deadlines.{Standing, deadline, deadline_of, is_vain, repair}
-use Rattle.life_model.specs.Repairs.{Way, way_of, stand_way}
-use Rattle.life_model.specs.Lives.{Stand}
-use Rattle.link_model.specs.Master.{InState}
+use Rattle.whole_ring.specs.of_life_model.Deadlines.{Standing, deadline, deadline_of, is_vain, repair}
+use Rattle.whole_ring.specs.of_life_model.Repairs.{Way, way_of, stand_way}
+use Rattle.whole_ring.specs.of_life_model.Lives.{Stand}
+use Rattle.whole_ring.specs.of_link_model.Master.{InState}
 use Rattle.run_frames.specs.Clocks.{Clocked, standing, in_round, ahead_at, repair_of, alone, one_by_one}
 use Rattle.run_frames.specs.Orders.{AllRepaired}
 

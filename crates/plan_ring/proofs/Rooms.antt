@@ -8,8 +8,8 @@ use Rattle.slave_server.specs.of_eoe.declared.message.Eoe.TheVariants.{Fragment 
 use Rattle.slave_server.specs.of_eoe.declared.message.Fragment.{Fragment}
 use Rattle.slave_server.specs.of_eoe.Cutting.{fragment_at, fragments_from}
 use Rattle.slave_server.specs.of_eoe.Message.{eoe_text}
-use Rattle.slave_parts.specs.of_protocol_models.CoeOctets.{mail_with}
-use Rattle.slave_parts.specs.of_slave_model.Server.{told_by}
+use Rattle.slave_server.specs.of_protocol_models.CoeOctets.{mail_with}
+use Rattle.slave_server.specs.of_slave_model.Server.{told_by}
 use Rattle.slave_server.specs.Serving.{written}
 use Rattle.whole_ring.specs.of_slave_lives.Nodes.{IsPlaced}
 use Rattle.plan_ring.specs.Rooms.{AllPlaced}

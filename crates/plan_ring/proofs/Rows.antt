@@ -1,18 +1,18 @@
 -- A LIFE STAYS IN ITS FIRST EPOCH by choices that return it nowhere and by frames, as long as it isn't given up.
 use Rattle.std.proofs.Common.{◌≡◌, ℕ, suc, ◌<◌, ◌==◌, Bool, true, false, List, [], ◌∷◌, ◌++◌, refl, ap, sym, ◌∙◌, subst, arith}
 use Rattle.std.specs.Prelude.{Option, Some, None, if◌then◌else◌, not, ◌&&◌}
-use Rattle.exchange_model.specs.Exchange.{Speech}
-use Rattle.segment_model.specs.Ends.{Passing}
-use Rattle.segment_model.specs.Record.{News, is_for}
-use Rattle.segment_model.specs.Seats.{Side}
-use Rattle.segment_model.specs.Slaves.{Datagram, Found}
-use Rattle.state_model.specs.Stated.{Service}
-use Rattle.state_model.specs.Accounts.{Pick, Duty, Account, Started, Stage, Progress, starts, is_free, is_acknowledged, state_begins, account_begins, account_met, account_by, account_back, access_done}
-use Rattle.state_model.specs.Promise.{services_in}
-use Rattle.life_model.specs.Book.{NoInits}
-use Rattle.life_model.specs.Lives.{Spot, Life, Era, Opening, Stand, granted, era_next, era_back, returns_to_init, reopens, reopens_at, reopening, opens_state, life_next, life_back, life_lost, opening_back, clears, opens, steps_on, shows_clear, last_step, is_shown, new_life}
-use Rattle.life_model.specs.Own.{own}
-use Rattle.life_model.specs.Chain.{AllBegin}
+use Rattle.slave_server.specs.of_exchange_model.Exchange.{Speech}
+use Rattle.slave_server.specs.of_segment_model.Ends.{Passing}
+use Rattle.slave_server.specs.of_segment_model.Record.{News, is_for}
+use Rattle.slave_server.specs.of_segment_model.Seats.{Side}
+use Rattle.slave_server.specs.of_segment_model.Slaves.{Datagram, Found}
+use Rattle.slave_server.specs.of_state_model.Stated.{Service}
+use Rattle.slave_server.specs.of_state_model.Accounts.{Pick, Duty, Account, Started, Stage, Progress, starts, is_free, is_acknowledged, state_begins, account_begins, account_met, account_by, account_back, access_done}
+use Rattle.slave_server.specs.of_state_model.Promise.{services_in}
+use Rattle.whole_ring.specs.of_life_model.Book.{NoInits}
+use Rattle.whole_ring.specs.of_life_model.Lives.{Spot, Life, Era, Opening, Stand, granted, era_next, era_back, returns_to_init, reopens, reopens_at, reopening, opens_state, life_next, life_back, life_lost, opening_back, clears, opens, steps_on, shows_clear, last_step, is_shown, new_life}
+use Rattle.whole_ring.specs.of_life_model.Own.{own}
+use Rattle.whole_ring.specs.of_life_model.Chain.{AllBegin}
 use Rattle.plan_ring.specs.Rows.{HandStays, WishStays, StandsFirst, IsFirst}
 
 -- one row more

@@ -1,6 +1,6 @@
 -- Frame by frame.
 use Rattle.std.proofs.Common.{◌≡◌, ℕ, suc, ◌+◌, Option, List, [], ◌∷◌, ◌++◌, length, refl, sym, ap, ◌∙◌, subst, arith, length-append}
-use Rattle.frame_view.specs.View.{Lens}
+use Rattle.whole_ring.specs.of_frame_view.View.{Lens}
 use Rattle.run_frames.specs.of_life_runs.First.{lens_of, first_leads}
 use Rattle.run_frames.specs.of_life_runs.Led.{Exchanged, Leads, gives_up_at}
 use Rattle.plan_ring.specs.Lives.{IsKnown, AreLived}
@@ -10,8 +10,8 @@ use Rattle.run_frames.specs.Led.{AreLed, first_clocked, leads_behind, behind_bac
 use Rattle.run_frames.specs.Runs.{Progress}
 use Rattle.run_frames.specs.Toured.{IsToured, AskIn, AnswerIn}
 use Rattle.run_frames.proofs.Leading.{SeenIs, all_led_lost, all_led_back}
-use Rattle.scenario.specs.of_segment_plan.Sound as Plan
-use Rattle.scenario.specs.of_segment_plan.declared.plan.Scenario.{Scenario}
+use Rattle.slave_server.specs.of_segment_plan.Sound as Plan
+use Rattle.slave_server.specs.of_segment_plan.declared.plan.Scenario.{Scenario}
 use Rattle.plan_ring.proofs.Frames.{back_on, lost_on, answers}
 use Rattle.plan_ring.proofs.Pairs.{Slave, AllPair, first_pairs}
 

@@ -1,20 +1,20 @@
 -- What comes next of a slave's seat is due, with state services beside its services by mails.
 use Rattle.std.proofs.Common.{◌≡◌, inl, inr, ℕ, true, false, Option, Some, None, option_map, List, [], ◌∷◌, ◌++◌, refl, sym, ap, ◌∙◌, subst}
-use Rattle.exchange_model.specs.Exchange.{Exchange, IsLawful, given, plain}
-use Rattle.exchange_model.specs.Prefix.{IsPrefixOf}
-use Rattle.exchange_model.specs.Rows.{Row, left}
-use Rattle.slave_model.specs.Hears.{HearsFirst}
-use Rattle.slave_model.proofs.HearsStates.{states_hears}
-use Rattle.master_tour.specs.of_master_side.Due.{IsReply, IsAwaited}
-use Rattle.segment_model.specs.Ends.{Outcome}
-use Rattle.segment_model.specs.Laws.{as_outcome}
-use Rattle.segment_model.specs.Seats.{Seat}
-use Rattle.state_model.specs.Stated.{Stated, IsStated, Act, Service, Counting, acts, mails, all_mails, ends_by, service_ends, with_states}
-use Rattle.state_model.proofs.Acts.{acts_append, acts_same, acts_all, cut_mails, left_mails, plain_acts, mails_acts}
-use Rattle.state_model.proofs.StatedLaw.{stated_law}
-use Rattle.state_model.specs.States.{Table}
-use Rattle.state_model.specs.Accounts.{Account}
-use Rattle.state_model.proofs.Ghosts.{Carried, GhostRow, Rowed, Shows, counting}
+use Rattle.slave_server.specs.of_exchange_model.Exchange.{Exchange, IsLawful, given, plain}
+use Rattle.slave_server.specs.of_exchange_model.Prefix.{IsPrefixOf}
+use Rattle.slave_server.specs.of_exchange_model.Rows.{Row, left}
+use Rattle.slave_server.specs.of_slave_model.Hears.{HearsFirst}
+use Rattle.slave_server.proofs.of_slave_model.HearsStates.{states_hears}
+use Rattle.run_frames.specs.of_master_side.Due.{IsReply, IsAwaited}
+use Rattle.slave_server.specs.of_segment_model.Ends.{Outcome}
+use Rattle.slave_server.specs.of_segment_model.Laws.{as_outcome}
+use Rattle.slave_server.specs.of_segment_model.Seats.{Seat}
+use Rattle.slave_server.specs.of_state_model.Stated.{Stated, IsStated, Act, Service, Counting, acts, mails, all_mails, ends_by, service_ends, with_states}
+use Rattle.run_frames.proofs.of_state_model.Acts.{acts_append, acts_same, acts_all, cut_mails, left_mails, plain_acts, mails_acts}
+use Rattle.run_frames.proofs.of_state_model.StatedLaw.{stated_law}
+use Rattle.slave_server.specs.of_state_model.States.{Table}
+use Rattle.slave_server.specs.of_state_model.Accounts.{Account}
+use Rattle.run_frames.proofs.of_state_model.Ghosts.{Carried, GhostRow, Rowed, Shows, counting}
 use Rattle.plan_ring.proofs.Moments.{next_due}
 
 -- no answer as an outcome is none

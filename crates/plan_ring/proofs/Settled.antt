@@ -2,18 +2,18 @@
 use Rattle.std.proofs.Common.{◌≡◌, ◌&&◌, Bool, true, false, Option, Some, None, List, [], ◌∷◌, refl, ap, sym, ◌∙◌}
 use Rattle.std.specs.Prelude.{not, is_none, option_map, if◌then◌else◌, Ok}
 use Rattle.whole_ring.specs.of_frames_seen.Slaves.{registers_seen}
-use Rattle.link_mails.specs.Body.{Body, link_read, link_mail, uncounted}
-use Rattle.link_model.specs.Mails.{LinkMail}
-use Rattle.mailbox_mail.specs.Mail.{mail_read}
-use Rattle.mailbox_mail.specs.declared.mail.Mail.{Mail}
-use Rattle.mailbox_slave.specs.Kept.{offered, is_at_rest}
-use Rattle.mailbox_slave.specs.Node.{in_side}
-use Rattle.mailbox_slave.specs.Registers.{in_box}
-use Rattle.segment_model.specs.Laws.{IsSettled}
-use Rattle.segment_model.specs.Slaves.{first_waiting}
+use Rattle.slave_server.specs.of_link_mails.Body.{Body, link_read, link_mail, uncounted}
+use Rattle.whole_ring.specs.of_link_model.Mails.{LinkMail}
+use Rattle.slave_server.specs.of_mailbox_mail.Mail.{mail_read}
+use Rattle.slave_server.specs.of_mailbox_mail.declared.mail.Mail.{Mail}
+use Rattle.whole_ring.specs.of_mailbox_slave.Kept.{offered, is_at_rest}
+use Rattle.whole_ring.specs.of_mailbox_slave.Node.{in_side}
+use Rattle.whole_ring.specs.of_mailbox_slave.Registers.{in_box}
+use Rattle.slave_server.specs.of_segment_model.Laws.{IsSettled}
+use Rattle.slave_server.specs.of_segment_model.Slaves.{first_waiting}
 use Rattle.whole_ring.specs.of_slave_lives.Lived.{Behind, IsBehind, node_seen}
 use Rattle.whole_ring.specs.of_slave_lives.Steps.{Stands}
-use Rattle.whole_ring.specs.of_slave_node.Node.{Node, is_settled}
+use Rattle.slave_server.specs.of_slave_node.Node.{Node, is_settled}
 
 first_of : (a b : Bool) → (a && b) ≡ true → a ≡ true
 first_of true b e = refl

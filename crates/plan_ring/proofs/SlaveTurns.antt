@@ -1,20 +1,20 @@
 -- By how the master stands to the slave.
 use Rattle.std.proofs.Common.{◌≡◌, ◌⊎◌, inl, inr, ℕ, suc, ◌==◌, ◌&&◌, Bool, true, false, Option, Some, None, List, [], ◌∷◌, ◌++◌, refl, sym, ap, ap₂, ◌∙◌, subst, if◌then◌else◌, length}
 use Rattle.std.specs.Prelude.{nat_lt}
-use Rattle.esc_registers.specs.declared.registers.Registers as Esc
-use Rattle.life_model.specs.Repairs.{way_of, stand_way, opening_way, awaits_at}
-use Rattle.life_model.specs.Eras.{Clearing}
-use Rattle.life_model.specs.Lives.{Spot, Era, Life, Opening, Stand, shows_clear, last_step, is_shown, clears, opens, steps_on, opening_back, gives_up, reopening}
-use Rattle.link_mails.specs.Body.{Body}
-use Rattle.link_model.specs.Master.{InState}
-use Rattle.link_model.specs.Segment.{RingFate}
+use Rattle.whole_ring.specs.of_esc_registers.declared.registers.Registers as Esc
+use Rattle.whole_ring.specs.of_life_model.Repairs.{way_of, stand_way, opening_way, awaits_at}
+use Rattle.whole_ring.specs.of_life_model.Eras.{Clearing}
+use Rattle.whole_ring.specs.of_life_model.Lives.{Spot, Era, Life, Opening, Stand, shows_clear, last_step, is_shown, clears, opens, steps_on, opening_back, gives_up, reopening}
+use Rattle.slave_server.specs.of_link_mails.Body.{Body}
+use Rattle.whole_ring.specs.of_link_model.Master.{InState}
+use Rattle.whole_ring.specs.of_link_model.Segment.{RingFate}
 use Rattle.run_frames.specs.Goes.{is_same, stepped_behind}
-use Rattle.segment_model.specs.Record.{Frame, News}
-use Rattle.segment_model.specs.Slaves.{Found}
+use Rattle.slave_server.specs.of_segment_model.Record.{Frame, News}
+use Rattle.slave_server.specs.of_segment_model.Slaves.{Found}
 use Rattle.whole_ring.specs.of_slave_lives.Lived.{Behind, RingFrame, node_behind, frame_of}
 use Rattle.whole_ring.specs.of_slave_lives.Opening.{Plan}
-use Rattle.slave_lives.specs.Shown.{StandsFor}
-use Rattle.state_model.specs.Accounts.{Pick}
+use Rattle.whole_ring.specs.of_slave_lives.Shown.{StandsFor}
+use Rattle.slave_server.specs.of_state_model.Accounts.{Pick}
 use Rattle.whole_ring.specs.Turns.{FrameComes, TurnsAs, CameAs, Came, life_by}
 use Rattle.whole_ring.specs.Whole.{IsWhole, IsLived, OpensAs, OpensBy, StandsAs}
 use Rattle.plan_ring.specs.Stands.{StandsTo}

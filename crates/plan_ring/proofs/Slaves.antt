@@ -1,39 +1,39 @@
 -- One slave of a plan's ring by a frame that came back.
 use Rattle.std.proofs.Common.{◌≡◌, ℕ, Option, List, length, refl, sym, ap, ◌∙◌, subst}
-use Rattle.run_frames.specs.of_life_runs.of_datagrams.Datagram as Raw
+use Rattle.run_frames.specs.of_datagrams.Datagram as Raw
 use Rattle.plan_ring.proofs.Eras.{era_due}
-use Rattle.exchange_model.specs.Exchange.{Exchange, Speech}
-use Rattle.run_frames.specs.of_life_runs.of_frame_view.Seen.{datagrams_seen}
-use Rattle.run_frames.specs.of_life_runs.of_frame_view.View.{Lens}
-use Rattle.slave_model.specs.Hears.{HearsFirst}
-use Rattle.run_frames.specs.of_life_runs.of_frame_view.of_life_model.Lives.{Life, Spot, Stand, AsksOpen, life_next, granted}
-use Rattle.run_frames.specs.of_life_runs.of_frame_view.of_life_model.Own.{own}
+use Rattle.slave_server.specs.of_exchange_model.Exchange.{Exchange, Speech}
+use Rattle.whole_ring.specs.of_frame_view.Seen.{datagrams_seen}
+use Rattle.whole_ring.specs.of_frame_view.View.{Lens}
+use Rattle.slave_server.specs.of_slave_model.Hears.{HearsFirst}
+use Rattle.whole_ring.specs.of_life_model.Lives.{Life, Spot, Stand, AsksOpen, life_next, granted}
+use Rattle.whole_ring.specs.of_life_model.Own.{own}
 use Rattle.run_frames.specs.of_life_runs.First.{lens_of, spot_of}
 use Rattle.run_frames.specs.of_life_runs.Led.{Exchanged, Leads, Turn, IsTurn, speech_at, is_passed}
-use Rattle.run_frames.specs.of_life_runs.of_link_mails.Body.{Body}
-use Rattle.run_frames.specs.of_life_runs.of_frame_view.of_link_model.Frames.{IsFrameFor, all_accepted}
-use Rattle.run_frames.specs.of_life_runs.of_master_duty.Reply.{Reply}
-use Rattle.run_frames.specs.of_life_runs.of_master_hand.Spoken.{Asked, acknowledged, is_followed}
-use Rattle.run_frames.specs.of_life_runs.of_master_side.Due.{EachDue}
-use Rattle.master_tour.specs.Brings.{accepted_at}
+use Rattle.slave_server.specs.of_link_mails.Body.{Body}
+use Rattle.whole_ring.specs.of_link_model.Frames.{IsFrameFor, all_accepted}
+use Rattle.run_frames.specs.of_master_duty.Reply.{Reply}
+use Rattle.run_frames.specs.of_master_hand.Spoken.{Asked, acknowledged, is_followed}
+use Rattle.run_frames.specs.of_master_side.Due.{EachDue}
+use Rattle.run_frames.specs.of_master_tour.Brings.{accepted_at}
 use Rattle.plan_ring.specs.Alike.{RowIs, WishIs}
 use Rattle.plan_ring.proofs.Alike.{next_same, next_is}
 use Rattle.plan_ring.specs.PlanMet.{slave_at, IsOpenAt, IsAt, IsMet}
 use Rattle.plan_ring.specs.Asked.{asked, is_service}
 use Rattle.plan_ring.specs.Round.{all_seen}
 use Rattle.plan_ring.proofs.Turns.{wish_is}
-use Rattle.slave_parts.specs.of_segment_model.Slaves.{Datagram, Slave, grams}
-use Rattle.run_frames.specs.of_life_runs.of_segment_plan.declared.plan.Scenario.{Scenario}
-use Rattle.run_frames.specs.of_life_runs.of_segment_plan.declared.slave.SlaveSpec.{SlaveSpec}
+use Rattle.slave_server.specs.of_segment_model.Slaves.{Datagram, Slave, grams}
+use Rattle.slave_server.specs.of_segment_plan.declared.plan.Scenario.{Scenario}
+use Rattle.slave_server.specs.of_segment_plan.declared.slave.SlaveSpec.{SlaveSpec}
 use Rattle.whole_ring.specs.of_slave_lives.Lived.{table_of}
-use Rattle.slave_parts.specs.Parts.{Core, Server}
-use Rattle.slave_parts.specs.of_protocol_models.Network.{Station}
+use Rattle.slave_server.specs.of_slave_parts.Parts.{Core, Server}
+use Rattle.slave_server.specs.of_protocol_models.Network.{Station}
 use Rattle.slave_server.specs.Serving.{Serving}
 use Rattle.slave_server.specs.Spec.{profile_of}
-use Rattle.whole_ring.specs.of_slave_node.Node.{Node}
-use Rattle.slave_parts.specs.of_state_model.Families.{InState}
-use Rattle.slave_parts.specs.of_state_model.Stated.{Service}
-use Rattle.state_model.specs.Accounts.{Pick}
+use Rattle.slave_server.specs.of_slave_node.Node.{Node}
+use Rattle.slave_server.specs.of_state_model.Families.{InState}
+use Rattle.slave_server.specs.of_state_model.Stated.{Service}
+use Rattle.slave_server.specs.of_state_model.Accounts.{Pick}
 use Rattle.plan_ring.proofs.Names.{due_alike}
 
 -- a choice leaves how the master stands to a slave

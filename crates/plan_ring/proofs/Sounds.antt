@@ -4,35 +4,35 @@ use Rattle.std.specs.Prelude.{if◌then◌else◌, is_none}
 use Rattle.slave_server.specs.of_mailbox_mail.declared.mail.Mail.{Mail}
 use Rattle.slave_server.specs.of_mailbox_mail.declared.mail.Kind.{Kind}
 use Rattle.slave_server.specs.of_mailbox_mail.declared.mail.MailFault.TheVariants.{Short, LengthPastArea, UnknownKind}
-use Rattle.whole_ring.specs.of_link_mails.Body.{Body}
+use Rattle.slave_server.specs.of_link_mails.Body.{Body}
 use Rattle.slave_server.specs.of_eoe.declared.message.Eoe.TheVariants.{Fragment as Part}
 use Rattle.slave_server.specs.of_eoe.declared.message.Fragment.{Fragment}
 use Rattle.slave_server.specs.of_eoe.Cutting.{fragments_of}
 use Rattle.slave_server.specs.of_eoe.Message.{eoe_text}
-use Rattle.slave_parts.specs.of_exchange_model.Refusing.{gated}
-use Rattle.slave_parts.specs.of_protocol_models.CoeMails.{fragment}
-use Rattle.slave_parts.specs.of_protocol_models.CoeMails as CoeMails
-use Rattle.slave_parts.specs.of_protocol_models.CoeOctets as CoeOctets
-use Rattle.slave_parts.specs.of_protocol_models.CoeOctets.{coe_mail_written}
-use Rattle.slave_parts.specs.of_protocol_models.CoeServer as Coe
-use Rattle.slave_parts.specs.of_protocol_models.FoeMails as FoeMails
-use Rattle.slave_parts.specs.of_protocol_models.FoeOctets as FoeOctets
-use Rattle.slave_parts.specs.of_protocol_models.FoeServer as Foe
-use Rattle.slave_parts.specs.of_protocol_models.SoeMails as SoeMails
-use Rattle.slave_parts.specs.of_protocol_models.SoeOctets as SoeOctets
-use Rattle.slave_parts.specs.of_protocol_models.EoeMails as EoeMails
-use Rattle.slave_parts.specs.of_protocol_models.EoeOctets as EoeOctets
-use Rattle.slave_parts.specs.of_protocol_models.Network.{Station}
+use Rattle.slave_server.specs.of_exchange_model.Refusing.{gated}
+use Rattle.slave_server.specs.of_protocol_models.CoeMails.{fragment}
+use Rattle.slave_server.specs.of_protocol_models.CoeMails as CoeMails
+use Rattle.slave_server.specs.of_protocol_models.CoeOctets as CoeOctets
+use Rattle.slave_server.specs.of_protocol_models.CoeOctets.{coe_mail_written}
+use Rattle.slave_server.specs.of_protocol_models.CoeServer as Coe
+use Rattle.slave_server.specs.of_protocol_models.FoeMails as FoeMails
+use Rattle.slave_server.specs.of_protocol_models.FoeOctets as FoeOctets
+use Rattle.slave_server.specs.of_protocol_models.FoeServer as Foe
+use Rattle.slave_server.specs.of_protocol_models.SoeMails as SoeMails
+use Rattle.slave_server.specs.of_protocol_models.SoeOctets as SoeOctets
+use Rattle.slave_server.specs.of_protocol_models.EoeMails as EoeMails
+use Rattle.slave_server.specs.of_protocol_models.EoeOctets as EoeOctets
+use Rattle.slave_server.specs.of_protocol_models.Network.{Station}
 use Rattle.slave_server.specs.of_object_dictionary.Dictionary as Objects
 use Rattle.slave_server.specs.of_file_store.Files as Store
-use Rattle.slave_parts.specs.of_idn_table.Idns as Idns
-use Rattle.slave_parts.specs.of_slave_model.Application.{Core, ArePartsLawful, core_valid, station_valid, with_objects, stored, written, station_tables, station_files, station_elements, network}
-use Rattle.slave_parts.specs.of_slave_model.Profile.{Protocol, Profile, IsProfile, serves}
-use Rattle.slave_parts.specs.of_slave_model.Server.{seat, reseated, one_more, heard_by, failure, refused_counts, refused_gives, soe_quiet, eoe_quiet}
-use Rattle.slave_parts.specs.of_slave_model.Product.{protocol_of, served, refusal, serve_by, serve_other, serve}
-use Rattle.slave_parts.proofs.of_slave_model.Stations.{both, left_of, right_of, tables_law, tables_spelled, files_law, elements_law}
-use Rattle.slave_parts.specs.Parts as The
-use Rattle.slave_parts.specs.Parts.{Server, parts}
+use Rattle.slave_server.specs.of_idn_table.Idns as Idns
+use Rattle.slave_server.specs.of_slave_model.Application.{Core, ArePartsLawful, core_valid, station_valid, with_objects, stored, written, station_tables, station_files, station_elements, network}
+use Rattle.slave_server.specs.of_slave_model.Profile.{Protocol, Profile, IsProfile, serves}
+use Rattle.slave_server.specs.of_slave_model.Server.{seat, reseated, one_more, heard_by, failure, refused_counts, refused_gives, soe_quiet, eoe_quiet}
+use Rattle.slave_server.specs.of_slave_model.Product.{protocol_of, served, refusal, serve_by, serve_other, serve}
+use Rattle.slave_server.proofs.of_slave_model.Stations.{both, left_of, right_of, tables_law, tables_spelled, files_law, elements_law}
+use Rattle.slave_server.specs.of_slave_parts.Parts as The
+use Rattle.slave_server.specs.of_slave_parts.Parts.{Server, parts}
 use Rattle.slave_server.specs.Serving as Serving
 use Rattle.whole_ring.specs.of_slave_lives.Nodes.{IsPlaced}
 use Rattle.plan_ring.specs.Rooms.{AllPlaced, MayWrite, IsUnderWay, IsSound}

@@ -3,16 +3,16 @@ use Rattle.std.proofs.Common.{◌≡◌, ℕ, zero, suc, ◌+◌, ◌≤◌, ◌
 use Rattle.std.specs.Prelude.{IfSome, slice_get, nat_lt}
 use Rattle.std.proofs.lemmas.Bool.{eqb-true}
 use Rattle.std.proofs.lemmas.List.Elements.{All-nil, All-cons, All-head, All-tail}
-use Rattle.protocol_models.specs.EoeClient as EoeClient
+use Rattle.slave_server.specs.of_protocol_models.EoeClient as EoeClient
 use Rattle.run_frames.specs.of_life_runs.First.{script_for}
 use Rattle.run_frames.specs.of_master_hand.Spoken.{net}
 use Rattle.scenario.specs.of_scenario_services.Suited.{Suits}
 use Rattle.scenario.specs.of_scenario_services.Reading.{FitsSlave}
-use Rattle.scenario.specs.of_segment_plan.Bound.{smaller}
-use Rattle.scenario.specs.of_segment_plan.Sound.{IsService, IsAddressed}
-use Rattle.scenario.specs.of_segment_plan.declared.plan.Scenario.{Scenario}
-use Rattle.scenario.specs.of_segment_plan.declared.service.Service as Plan
-use Rattle.scenario.specs.of_segment_plan.declared.slave.SlaveSpec.{SlaveSpec}
+use Rattle.slave_server.specs.of_segment_plan.Bound.{smaller}
+use Rattle.slave_server.specs.of_segment_plan.Sound.{IsService, IsAddressed}
+use Rattle.slave_server.specs.of_segment_plan.declared.plan.Scenario.{Scenario}
+use Rattle.slave_server.specs.of_segment_plan.declared.service.Service as Plan
+use Rattle.slave_server.specs.of_segment_plan.declared.slave.SlaveSpec.{SlaveSpec}
 use Rattle.plan_ring.specs.PlanRooms.{MayBegin, RowMayBegin, HasRoom}
 
 some_none : {X : Type 0} (x : X) → Some x ≡ None → ⊥

@@ -1,34 +1,34 @@
 -- WHAT THE MASTER MADE OF A FRAME, slave by slave, is what the law of its ring asks for; and the lives behind it are those that it leads.
 use Rattle.std.proofs.Common.{◌≡◌, ℕ, suc, ◌+◌, Bool, true, false, Option, Some, None, List, [], ◌∷◌, map, length, refl, ap, sym, ◌∙◌, subst}
 use Rattle.std.specs.Prelude.{if◌then◌else◌, nat_lt, All}
-use Rattle.run_frames.specs.of_life_runs.of_datagrams.Datagram as Raw
-use Rattle.run_frames.specs.of_life_runs.of_frame_view.View.{Lens}
-use Rattle.run_frames.specs.of_life_runs.of_frame_view.Seen.{seen}
-use Rattle.run_frames.specs.of_life_runs.of_frame_view.Shares.{Lived, lived_back, lived_lost}
-use Rattle.life_model.specs.Lives.{Spot, life_next}
+use Rattle.run_frames.specs.of_datagrams.Datagram as Raw
+use Rattle.whole_ring.specs.of_frame_view.View.{Lens}
+use Rattle.whole_ring.specs.of_frame_view.Seen.{seen}
+use Rattle.whole_ring.specs.of_frame_view.Shares.{Lived, lived_back, lived_lost}
+use Rattle.whole_ring.specs.of_life_model.Lives.{Spot, life_next}
 use Rattle.run_frames.specs.of_life_runs.First.{lens_of}
 use Rattle.run_frames.specs.of_life_runs.Led as Led
 use Rattle.run_frames.specs.of_life_runs.Led.{Exchanged, Leads, Turn, Comes, IsTurn, AllTurn, is_passed, speech_at, life_behind}
-use Rattle.run_frames.specs.of_life_runs.of_link_mails.Body.{Body}
-use Rattle.run_frames.specs.of_life_runs.of_master_duty.Reply.{Reply}
-use Rattle.run_frames.specs.of_life_runs.of_master_hand.Spoken.{Asked, net, hand_speech, acknowledged, is_followed}
-use Rattle.run_frames.specs.of_life_runs.of_master_hand.Talk.{asked_of}
+use Rattle.slave_server.specs.of_link_mails.Body.{Body}
+use Rattle.run_frames.specs.of_master_duty.Reply.{Reply}
+use Rattle.run_frames.specs.of_master_hand.Spoken.{Asked, net, hand_speech, acknowledged, is_followed}
+use Rattle.run_frames.specs.of_master_hand.Talk.{asked_of}
 use Rattle.plan_ring.specs.Alike.{WishIs}
 use Rattle.plan_ring.specs.Asked.{is_service}
 use Rattle.plan_ring.specs.Master as Master
 use Rattle.plan_ring.specs.Master.{speech_of, lived_of, Under, IsUnder, AllUnder, IsSame, AllSame, AllBehind}
 use Rattle.plan_ring.specs.Plan.{PlanMember, FitsPlan, step}
-use Rattle.slave_parts.specs.of_segment_model.Record.{Frame}
-use Rattle.run_frames.specs.of_life_runs.of_segment_plan.declared.plan.Scenario.{Scenario}
-use Rattle.run_frames.specs.of_life_runs.of_segment_plan.declared.service.Service as Plan
-use Rattle.run_frames.specs.of_life_runs.of_segment_plan.declared.slave.SlaveSpec.{SlaveSpec}
-use Rattle.run_frames.specs.of_life_runs.of_segment_ring.declared.wire.Fate.{Fate}
-use Rattle.run_frames.specs.of_life_runs.of_segment_ring.declared.wire.Fate.TheVariants.{Pass, Lost}
-use Rattle.run_frames.specs.of_life_runs.of_segment_ring.Ring.{RingState}
-use Rattle.run_frames.specs.of_life_runs.of_segment_ring.Schedule.{fate_at}
+use Rattle.slave_server.specs.of_segment_model.Record.{Frame}
+use Rattle.slave_server.specs.of_segment_plan.declared.plan.Scenario.{Scenario}
+use Rattle.slave_server.specs.of_segment_plan.declared.service.Service as Plan
+use Rattle.slave_server.specs.of_segment_plan.declared.slave.SlaveSpec.{SlaveSpec}
+use Rattle.run_frames.specs.of_segment_ring.declared.wire.Fate.{Fate}
+use Rattle.run_frames.specs.of_segment_ring.declared.wire.Fate.TheVariants.{Pass, Lost}
+use Rattle.run_frames.specs.of_segment_ring.Ring.{RingState}
+use Rattle.run_frames.specs.of_segment_ring.Schedule.{fate_at}
 use Rattle.slave_server.specs.Serving.{Serving}
-use Rattle.whole_ring.specs.of_slave_node.Node.{Node}
-use Rattle.slave_parts.specs.of_state_model.Stated.{Service}
+use Rattle.slave_server.specs.of_slave_node.Node.{Node}
+use Rattle.slave_server.specs.of_state_model.Stated.{Service}
 use Rattle.whole_ring.specs.Members.{MemberIs, AllLived}
 use Rattle.whole_ring.specs.Turning.{BeginBoots, frame_at}
 use Rattle.plan_ring.specs.Lives.{IsShown, AllShown}
@@ -40,7 +40,7 @@ abbrev served : Option Asked → Bool
 served None = true
 served (Some q) = is_service q
 
-room_served : (b : Bool) (block : List ℕ) → served (if b then None else Some (net (Rattle.slave_parts.specs.of_protocol_models.EoeClient.set_ip block))) ≡ true
+room_served : (b : Bool) (block : List ℕ) → served (if b then None else Some (net (Rattle.slave_server.specs.of_protocol_models.EoeClient.set_ip block))) ≡ true
 room_served true block = refl
 room_served false block = refl
 

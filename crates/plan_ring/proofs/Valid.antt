@@ -5,22 +5,22 @@ use Rattle.std.specs.List.{list_all}
 use Rattle.std.proofs.lemmas.Bool.{ne_eqb}
 use Rattle.std.proofs.lemmas.List.Elements.{All-head, All-tail}
 use Rattle.std.proofs.lemmas.List.Sums.{sum_by_push, sum_by-cons}
-use Rattle.slave_parts.specs.of_block_pool.Region.{blocks_for}
-use Rattle.slave_parts.specs.of_file_store.declared.file.FileSpec.{FileSpec}
-use Rattle.slave_parts.specs.of_file_store.Files as Store
-use Rattle.slave_parts.specs.of_idn_table.Idns as Idns
-use Rattle.slave_parts.proofs.of_idn_table.Placed.{idns_placed}
-use Rattle.slave_parts.specs.of_object_dictionary.Dictionary.{Table}
-use Rattle.slave_parts.specs.of_object_dictionary.Sound.{placed, own_table, is_table, is_rising, is_row, is_object, is_emitter, are_sized}
-use Rattle.slave_parts.proofs.of_object_dictionary.Placed.{table_placed}
-use Rattle.run_frames.specs.of_life_runs.of_segment_plan.declared.slave.ObjectSpec.{ObjectSpec}
-use Rattle.slave_parts.specs.of_idn_table.declared.spec.IdnSpec.{IdnSpec}
-use Rattle.run_frames.specs.of_life_runs.of_segment_plan.declared.slave.SlaveSpec.{SlaveSpec}
-use Rattle.run_frames.specs.of_life_runs.of_segment_plan.Sound as Plan
-use Rattle.run_frames.specs.of_life_runs.of_segment_plan.Sound.{kept, IsObject, IsFile, IsIdn, IsSlave, indexes, taken}
-use Rattle.slave_parts.specs.of_slave_model.Application.{station_valid}
-use Rattle.slave_parts.proofs.of_slave_model.Stations.{both}
-use Rattle.slave_parts.specs.Parts.{parts}
+use Rattle.slave_server.specs.of_block_pool.Region.{blocks_for}
+use Rattle.slave_server.specs.of_file_store.declared.file.FileSpec.{FileSpec}
+use Rattle.slave_server.specs.of_file_store.Files as Store
+use Rattle.slave_server.specs.of_idn_table.Idns as Idns
+use Rattle.slave_server.proofs.of_idn_table.Placed.{idns_placed}
+use Rattle.slave_server.specs.of_object_dictionary.Dictionary.{Table}
+use Rattle.slave_server.specs.of_object_dictionary.Sound.{placed, own_table, is_table, is_rising, is_row, is_object, is_emitter, are_sized}
+use Rattle.slave_server.proofs.of_object_dictionary.Placed.{table_placed}
+use Rattle.slave_server.specs.of_segment_plan.declared.slave.ObjectSpec.{ObjectSpec}
+use Rattle.slave_server.specs.of_idn_table.declared.spec.IdnSpec.{IdnSpec}
+use Rattle.slave_server.specs.of_segment_plan.declared.slave.SlaveSpec.{SlaveSpec}
+use Rattle.slave_server.specs.of_segment_plan.Sound as Plan
+use Rattle.slave_server.specs.of_segment_plan.Sound.{kept, IsObject, IsFile, IsIdn, IsSlave, indexes, taken}
+use Rattle.slave_server.specs.of_slave_model.Application.{station_valid}
+use Rattle.slave_server.proofs.of_slave_model.Stations.{both}
+use Rattle.slave_server.specs.of_slave_parts.Parts.{parts}
 use Rattle.slave_server.specs.Spec.{with_objects, objects_of, with_files, files_of, with_idn, with_idns, idns_of, core_of}
 use Rattle.slave_server.proofs.Objects as Taken
 

@@ -1,11 +1,11 @@
 -- Whether the access in hand is the same, behind a frame.
 use Rattle.std.proofs.Common.{◌≡◌, inl, inr, ℕ, suc, ◌==◌, ◌&&◌, not, Bool, true, false, Option, Some, None, refl, ap, subst, if◌then◌else◌, arith, eq-eqb}
 use Rattle.std.proofs.lemmas.Bool.{eqb-true, or_cases}
-use Rattle.life_model.specs.Repairs.{Way, awaits_at, opening_way, half_way}
-use Rattle.life_model.specs.Lives.{Opening}
-use Rattle.link_model.specs.Master.{InState}
+use Rattle.whole_ring.specs.of_life_model.Repairs.{Way, awaits_at, opening_way, half_way}
+use Rattle.whole_ring.specs.of_life_model.Lives.{Opening}
+use Rattle.whole_ring.specs.of_link_model.Master.{InState}
 use Rattle.run_frames.specs.Goes.{is_same, stepped_behind}
-use Rattle.segment_ring.specs.Ring.{is_in_pace}
+use Rattle.run_frames.specs.of_segment_ring.Ring.{is_in_pace}
 
 -- a way is the same as itself
 pub itself : (w : Option Way) → is_same w w ≡ true

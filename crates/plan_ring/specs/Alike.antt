@@ -1,9 +1,9 @@
 -- TWO CLIENTS THAT SPEAK ALIKE of some services lead a life alike, as long as no other came into hand.
 use Rattle.std.specs.Prelude.{◌≡◌, Bool, true, List, Option, Some, None, ⊤}
-use Rattle.exchange_model.specs.Exchange.{Speech}
-use Rattle.exchange_model.specs.Rows.{Row}
-use Rattle.state_model.specs.Stated.{Service}
-use Rattle.life_model.specs.Lives.{Life}
+use Rattle.slave_server.specs.of_exchange_model.Exchange.{Speech}
+use Rattle.slave_server.specs.of_exchange_model.Rows.{Row}
+use Rattle.slave_server.specs.of_state_model.Stated.{Service}
+use Rattle.whole_ring.specs.of_life_model.Lives.{Life}
 
 -- of the services that the test picks, both say the same: which are valid, their mails, and how they end
 pub record Alike {M P T : Type 0} (is : P → Bool) (y z : Speech M P T) : Type 0 where

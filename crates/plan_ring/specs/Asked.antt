@@ -1,19 +1,19 @@
 -- THE SERVICES OF A SLAVE AS A MASTER ASKS FOR THEM: by the names that the master has for them, and with its replies.
 use Rattle.std.specs.Prelude.{ℕ, Bool, true, false, Some}
-use Rattle.run_frames.specs.of_life_runs.of_frame_view.View.{Lens}
-use Rattle.slave_parts.specs.of_protocol_models.CoeMeaning as CoeMeaning
-use Rattle.slave_parts.specs.of_protocol_models.Tables.{nowhere}
-use Rattle.slave_parts.specs.of_protocol_models.Network.{Station}
-use Rattle.slave_parts.specs.of_state_model.Families.{InState, states_of}
-use Rattle.run_frames.specs.of_life_runs.of_master_duty.Reply as Master
-use Rattle.run_frames.specs.of_life_runs.of_master_hand.Spoken.{Asked, sdo, file, drive, net, passed, hand_speech, acknowledged}
+use Rattle.whole_ring.specs.of_frame_view.View.{Lens}
+use Rattle.slave_server.specs.of_protocol_models.CoeMeaning as CoeMeaning
+use Rattle.slave_server.specs.of_protocol_models.Tables.{nowhere}
+use Rattle.slave_server.specs.of_protocol_models.Network.{Station}
+use Rattle.slave_server.specs.of_state_model.Families.{InState, states_of}
+use Rattle.run_frames.specs.of_master_duty.Reply as Master
+use Rattle.run_frames.specs.of_master_hand.Spoken.{Asked, sdo, file, drive, net, passed, hand_speech, acknowledged}
 use Rattle.plan_ring.specs.Named.{Naming, named, named_states}
 use Rattle.whole_ring.specs.of_slave_lives.Lived.{Behind}
-use Rattle.slave_parts.specs.of_slave_model.Acknowledged as Slave
-use Rattle.slave_parts.specs.of_slave_model.Product.{product}
-use Rattle.slave_parts.specs.of_slave_model.Profile.{Protocol, Profile, areas_of}
-use Rattle.slave_parts.specs.of_slave_model.Server.{ServiceOf, Reply}
-use Rattle.slave_parts.specs.Parts.{Core, Server, parts}
+use Rattle.slave_server.specs.of_slave_model.Acknowledged as Slave
+use Rattle.slave_server.specs.of_slave_model.Product.{product}
+use Rattle.slave_server.specs.of_slave_model.Profile.{Protocol, Profile, areas_of}
+use Rattle.slave_server.specs.of_slave_model.Server.{ServiceOf, Reply}
+use Rattle.slave_server.specs.of_slave_parts.Parts.{Core, Server, parts}
 use Rattle.slave_server.specs.Serving.{Serving}
 use Rattle.plan_ring.specs.Real.{real}
 

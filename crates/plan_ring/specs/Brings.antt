@@ -1,11 +1,11 @@
 -- What one frame more brings of a slave.
 use Rattle.std.specs.Prelude.{ℕ, List}
-use Rattle.exchange_model.specs.Exchange.{Speech}
-use Rattle.link_model.specs.Frames.{IsFrameFor, all_accepted}
-use Rattle.master_tour.specs.of_master_side.Due.{EachDue}
-use Rattle.segment_model.specs.Seats.{Side, side_next}
-use Rattle.segment_model.specs.Slaves.{Datagram, Slave, grams, frame_after}
-use Rattle.state_model.specs.Accounts.{Account, Pick, mails_choice}
+use Rattle.slave_server.specs.of_exchange_model.Exchange.{Speech}
+use Rattle.whole_ring.specs.of_link_model.Frames.{IsFrameFor, all_accepted}
+use Rattle.run_frames.specs.of_master_side.Due.{EachDue}
+use Rattle.slave_server.specs.of_segment_model.Seats.{Side, side_next}
+use Rattle.slave_server.specs.of_segment_model.Slaves.{Datagram, Slave, grams, frame_after}
+use Rattle.slave_server.specs.of_state_model.Accounts.{Account, Pick, mails_choice}
 
 -- WHAT A FRAME BRINGS IS DUE, by the row of the service in hand as the frame finds it: whatever the master chooses before, where the frame has each half's
 -- datagram at most once

@@ -1,14 +1,14 @@
 -- THE CLOCKS OF ALL SLAVES OF A RING, and what each answers by a frame that came back.
 use Rattle.std.specs.Prelude.{◌≡◌, ℕ, Bool, List, [], ◌∷◌, ⊤}
-use Rattle.master_tour.specs.of_frame_view.Frames.{Share}
-use Rattle.master_tour.specs.of_frame_view.Shares.{came_at}
-use Rattle.life_model.specs.Repairs.{way_of}
-use Rattle.life_model.specs.Lives.{Spot, Life, Stand}
-use Rattle.life_model.specs.Own.{own}
-use Rattle.link_mails.specs.Body.{Body}
+use Rattle.whole_ring.specs.of_frame_view.Frames.{Share}
+use Rattle.whole_ring.specs.of_frame_view.Shares.{came_at}
+use Rattle.whole_ring.specs.of_life_model.Repairs.{way_of}
+use Rattle.whole_ring.specs.of_life_model.Lives.{Spot, Life, Stand}
+use Rattle.whole_ring.specs.of_life_model.Own.{own}
+use Rattle.slave_server.specs.of_link_mails.Body.{Body}
 use Rattle.run_frames.specs.Answers.{EachAsks, EachAnswers, OpeningAnswers}
 use Rattle.run_frames.specs.Goes.{is_same, stepped_behind}
-use Rattle.segment_model.specs.Slaves.{Datagram}
+use Rattle.slave_server.specs.of_segment_model.Slaves.{Datagram}
 use Rattle.plan_ring.specs.Stands.{StandsTo}
 use Rattle.whole_ring.specs.Members.{Member}
 use Rattle.whole_ring.specs.Turning.{Turn, next_life}

@@ -2,16 +2,16 @@
 use Rattle.std.specs.Prelude.{◌≡◌, ℕ, List, [], ◌∷◌, ◌++◌, length, ⊤}
 use Rattle.run_frames.specs.of_life_runs.First.{lens_of, first_leads}
 use Rattle.run_frames.specs.of_life_runs.Led.{Exchanged, Leads, Turn, IsLed, IsLedFrame, speech_at}
-use Rattle.run_frames.specs.of_life_runs.of_frame_view.Seen.{seen}
-use Rattle.run_frames.specs.of_life_runs.of_frame_view.View.{Lens}
-use Rattle.run_frames.specs.of_life_runs.of_frame_view.of_life_model.Lives.{Stand}
-use Rattle.run_frames.specs.of_life_runs.of_link_mails.Body.{Body}
-use Rattle.run_frames.specs.of_life_runs.of_master_side.Due.{EachDue}
-use Rattle.run_frames.specs.of_life_runs.of_segment_plan.declared.plan.Scenario.{Scenario}
-use Rattle.run_frames.specs.of_life_runs.of_segment_ring.declared.wire.Fate.TheVariants.{Pass}
-use Rattle.master_tour.specs.Brings.{accepted_in}
+use Rattle.whole_ring.specs.of_frame_view.Seen.{seen}
+use Rattle.whole_ring.specs.of_frame_view.View.{Lens}
+use Rattle.whole_ring.specs.of_life_model.Lives.{Stand}
+use Rattle.slave_server.specs.of_link_mails.Body.{Body}
+use Rattle.run_frames.specs.of_master_side.Due.{EachDue}
+use Rattle.slave_server.specs.of_segment_plan.declared.plan.Scenario.{Scenario}
+use Rattle.run_frames.specs.of_segment_ring.declared.wire.Fate.TheVariants.{Pass}
+use Rattle.run_frames.specs.of_master_tour.Brings.{accepted_in}
 use Rattle.plan_ring.specs.Round.{ring_of, AllRound}
-use Rattle.slave_parts.specs.of_segment_model.Slaves.{Datagram}
+use Rattle.slave_server.specs.of_segment_model.Slaves.{Datagram}
 
 -- of a slave that is open as the frame finds it, by the row of the service in hand
 abbrev pub IsDueOf : (ℕ → Lens) → List (Datagram Body) → Turn → Type 0

@@ -1,19 +1,19 @@
 -- WHAT A SLAVE DID, epoch by epoch, of the services that came into hand of it.
 use Rattle.std.specs.Prelude.{◌≡◌, ℕ, ◌+◌, ◌<◌, ◌≤◌, Bool, true, Some, None, List, [], ◌∷◌, ◌++◌, take, length}
-use Rattle.exchange_model.specs.Exchange.{Exchange, after, given, plain, emitted}
-use Rattle.exchange_model.specs.Prefix.{IsPrefixOf}
-use Rattle.exchange_model.specs.Rows.{exec_all, emits_all}
-use Rattle.life_model.specs.Eras.{era_frames}
-use Rattle.life_model.specs.Lives.{Spot, Era, Life}
-use Rattle.link_mails.specs.Body.{Body}
-use Rattle.segment_model.specs.Laws.{AllAnswered, WantsNothing}
-use Rattle.segment_model.specs.Record.{Frame, heard}
-use Rattle.segment_model.specs.Seats.{rows_of}
+use Rattle.slave_server.specs.of_exchange_model.Exchange.{Exchange, after, given, plain, emitted}
+use Rattle.slave_server.specs.of_exchange_model.Prefix.{IsPrefixOf}
+use Rattle.slave_server.specs.of_exchange_model.Rows.{exec_all, emits_all}
+use Rattle.whole_ring.specs.of_life_model.Eras.{era_frames}
+use Rattle.whole_ring.specs.of_life_model.Lives.{Spot, Era, Life}
+use Rattle.slave_server.specs.of_link_mails.Body.{Body}
+use Rattle.slave_server.specs.of_segment_model.Laws.{AllAnswered, WantsNothing}
+use Rattle.slave_server.specs.of_segment_model.Record.{Frame, heard}
+use Rattle.slave_server.specs.of_segment_model.Seats.{rows_of}
 use Rattle.whole_ring.specs.of_slave_lives.Lived.{Behind, table_of, node_seen}
-use Rattle.whole_ring.specs.of_slave_node.Node.{Node, is_settled}
-use Rattle.state_model.specs.Stated.{Service, with_states, mails}
-use Rattle.state_model.specs.Accounts.{Started}
-use Rattle.state_model.specs.Promise.{services_in, mails_started, rows_started, states_started, changes_in, duty_in, AllReplied, AllDone, AllFound, IsOpenYet, AllEnded, but_last}
+use Rattle.slave_server.specs.of_slave_node.Node.{Node, is_settled}
+use Rattle.slave_server.specs.of_state_model.Stated.{Service, with_states, mails}
+use Rattle.slave_server.specs.of_state_model.Accounts.{Started}
+use Rattle.slave_server.specs.of_state_model.Promise.{services_in, mails_started, rows_started, states_started, changes_in, duty_in, AllReplied, AllDone, AllFound, IsOpenYet, AllEnded, but_last}
 
 -- ALL THAT A SERVER REPLIES to these services, one after the other, each by all its mails; what it sends of itself isn't among it
 abbrev pub replies_all : {V A M Q R : Type 0} → Exchange V A M Q R → V → List Q → List M

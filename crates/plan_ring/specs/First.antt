@@ -1,24 +1,24 @@
 -- A RUN IN WHICH NO SLAVE IS GIVEN UP OR RETURNED TO INIT: each slave stays in its first epoch, and the books of all of them.
 use Rattle.std.specs.Prelude.{◌≡◌, ℕ, suc, ◌&&◌, Bool, false, None, List, [], ◌∷◌, ⊤}
-use Rattle.run_frames.specs.of_life_runs.of_datagrams.Datagram as Raw
-use Rattle.slave_parts.specs.of_protocol_models.Network.{Station}
-use Rattle.run_frames.specs.of_life_runs.of_frame_view.View.{Lens}
-use Rattle.run_frames.specs.of_life_runs.of_link_mails.Body.{Body}
-use Rattle.slave_parts.specs.of_segment_model.Laws.{IsSettled, WantsNothing}
-use Rattle.slave_parts.specs.of_segment_model.Record.{Frame}
-use Rattle.run_frames.specs.of_life_runs.of_segment_plan.declared.slave.SlaveSpec.{SlaveSpec}
-use Rattle.run_frames.specs.of_life_runs.of_segment_ring.declared.wire.Fate.{Fate}
-use Rattle.run_frames.specs.of_life_runs.of_segment_ring.declared.wire.Fate.TheVariants.{Pass, Lost}
-use Rattle.slave_parts.specs.of_state_model.Families.{InState}
-use Rattle.state_model.specs.Promise.{services_in}
-use Rattle.life_model.specs.Lives.{Stand}
-use Rattle.run_frames.specs.of_life_runs.of_master_duty.Reply as Master
-use Rattle.run_frames.specs.of_life_runs.of_master_hand.Spoken as Spoken
-use Rattle.life_model.specs.Script.{Addressed, HaveBegun, SlaveRun, RunRests, RunDone}
+use Rattle.run_frames.specs.of_datagrams.Datagram as Raw
+use Rattle.slave_server.specs.of_protocol_models.Network.{Station}
+use Rattle.whole_ring.specs.of_frame_view.View.{Lens}
+use Rattle.slave_server.specs.of_link_mails.Body.{Body}
+use Rattle.slave_server.specs.of_segment_model.Laws.{IsSettled, WantsNothing}
+use Rattle.slave_server.specs.of_segment_model.Record.{Frame}
+use Rattle.slave_server.specs.of_segment_plan.declared.slave.SlaveSpec.{SlaveSpec}
+use Rattle.run_frames.specs.of_segment_ring.declared.wire.Fate.{Fate}
+use Rattle.run_frames.specs.of_segment_ring.declared.wire.Fate.TheVariants.{Pass, Lost}
+use Rattle.slave_server.specs.of_state_model.Families.{InState}
+use Rattle.slave_server.specs.of_state_model.Promise.{services_in}
+use Rattle.whole_ring.specs.of_life_model.Lives.{Stand}
+use Rattle.run_frames.specs.of_master_duty.Reply as Master
+use Rattle.run_frames.specs.of_master_hand.Spoken as Spoken
+use Rattle.whole_ring.specs.of_life_model.Script.{Addressed, HaveBegun, SlaveRun, RunRests, RunDone}
 use Rattle.plan_ring.specs.Rows.{WishStays, IsFirst}
 use Rattle.plan_ring.specs.KeptFirst.{setting_of, FirstBook}
 use Rattle.whole_ring.specs.of_slave_lives.Lived.{node_seen}
-use Rattle.slave_parts.specs.Parts.{Core, Server}
+use Rattle.slave_server.specs.of_slave_parts.Parts.{Core, Server}
 use Rattle.whole_ring.specs.Members.{AllLived}
 use Rattle.plan_ring.specs.Plan.{PlanMember, FitsPlan, step}
 use Rattle.plan_ring.specs.Master.{owed, AllLed, Under, IsUnder, AllUnder}

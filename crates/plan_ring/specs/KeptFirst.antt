@@ -1,16 +1,16 @@
 -- THE BOOK OF A SLAVE IN ITS FIRST EPOCH, of the node as it is seen.
 use Rattle.std.specs.Prelude.{◌≡◌, ℕ, Bool, None, List, [], length}
-use Rattle.link_mails.specs.Body.{Body}
-use Rattle.segment_model.specs.Laws.{IsSettled, WantsNothing}
-use Rattle.segment_model.specs.Record.{Frame}
-use Rattle.whole_ring.specs.of_slave_node.Node.{Node}
-use Rattle.state_model.specs.Promise.{services_in}
-use Rattle.life_model.specs.Book.{SlaveBook, IsForgetful}
-use Rattle.life_model.specs.Eras.{Clearing}
-use Rattle.life_model.specs.Lives.{Spot, Life}
-use Rattle.life_model.specs.Chain.{KeepsSame}
-use Rattle.life_model.specs.Open.{Setting, IsOpenLife, BookAnswers, BookFits, BookRests, BookDone}
-use Rattle.life_model.specs.Script.{services_of}
+use Rattle.slave_server.specs.of_link_mails.Body.{Body}
+use Rattle.slave_server.specs.of_segment_model.Laws.{IsSettled, WantsNothing}
+use Rattle.slave_server.specs.of_segment_model.Record.{Frame}
+use Rattle.slave_server.specs.of_slave_node.Node.{Node}
+use Rattle.slave_server.specs.of_state_model.Promise.{services_in}
+use Rattle.whole_ring.specs.of_life_model.Book.{SlaveBook, IsForgetful}
+use Rattle.whole_ring.specs.of_life_model.Eras.{Clearing}
+use Rattle.whole_ring.specs.of_life_model.Lives.{Spot, Life}
+use Rattle.whole_ring.specs.of_life_model.Chain.{KeepsSame}
+use Rattle.whole_ring.specs.of_life_model.Open.{Setting, IsOpenLife, BookAnswers, BookFits, BookRests, BookDone}
+use Rattle.whole_ring.specs.of_life_model.Script.{services_of}
 use Rattle.whole_ring.specs.of_slave_lives.Lived.{Behind, table_of, node_seen}
 use Rattle.whole_ring.specs.of_slave_lives.Opening.{Plan}
 use Rattle.whole_ring.specs.Whole.{OwesLaws}

@@ -1,14 +1,14 @@
 -- A MASTER THAT LEADS THE LIVES OF A PLAN'S SLAVES, and the ring in which their nodes live them.
 use Rattle.std.specs.Prelude.{◌≡◌, ℕ, suc, true, List, [], ◌∷◌, length, slice_get, IfSome, All, ⊤}
-use Rattle.run_frames.specs.of_life_runs.of_frame_view.View.{Lens}
+use Rattle.whole_ring.specs.of_frame_view.View.{Lens}
 use Rattle.run_frames.specs.of_life_runs.First.{lens_of, spot_of, script_for}
 use Rattle.run_frames.specs.of_life_runs.Led.{Exchanged, Leads}
 use Rattle.plan_ring.specs.Asked.{asked}
 use Rattle.plan_ring.specs.Master.{AllLed, lived_of}
 use Rattle.plan_ring.specs.Plan.{PlanMember, FitsPlan, plan_of, first_app, step}
-use Rattle.run_frames.specs.of_life_runs.of_segment_plan.declared.plan.Scenario.{Scenario}
-use Rattle.run_frames.specs.of_life_runs.of_segment_plan.declared.service.Service as Plan
-use Rattle.run_frames.specs.of_life_runs.of_segment_plan.declared.slave.SlaveSpec.{SlaveSpec}
+use Rattle.slave_server.specs.of_segment_plan.declared.plan.Scenario.{Scenario}
+use Rattle.slave_server.specs.of_segment_plan.declared.service.Service as Plan
+use Rattle.slave_server.specs.of_segment_plan.declared.slave.SlaveSpec.{SlaveSpec}
 use Rattle.plan_ring.specs.Real.{real_clearing}
 use Rattle.slave_server.specs.Spec.{profile_of}
 use Rattle.whole_ring.specs.Members.{IsRing}

@@ -1,22 +1,22 @@
 -- A MASTER AND THE RING OF ITS PLAN: its lives of the slaves are those that the ring's law speaks of.
 use Rattle.std.specs.Prelude.{◌≡◌, ℕ, Bool, List, [], ◌∷◌, ◌++◌, length, ⊤}
-use Rattle.run_frames.specs.of_life_runs.of_datagrams.Datagram as Raw
-use Rattle.exchange_model.specs.Exchange.{Speech, IsLawful}
-use Rattle.run_frames.specs.of_life_runs.of_frame_view.View.{Lens}
-use Rattle.run_frames.specs.of_life_runs.of_link_mails.Body.{Body}
-use Rattle.slave_parts.specs.of_segment_model.Record.{Frame, News}
-use Rattle.run_frames.specs.of_life_runs.of_segment_plan.declared.slave.SlaveSpec.{SlaveSpec}
-use Rattle.run_frames.specs.of_life_runs.of_segment_ring.declared.wire.Fate.{Fate}
-use Rattle.run_frames.specs.of_life_runs.of_segment_ring.declared.wire.Fate.TheVariants.{Pass, Lost}
-use Rattle.run_frames.specs.of_life_runs.of_segment_ring.Ring.{RingState, ring_behind}
-use Rattle.run_frames.specs.of_life_runs.of_segment_ring.Schedule.{fate_at}
+use Rattle.run_frames.specs.of_datagrams.Datagram as Raw
+use Rattle.slave_server.specs.of_exchange_model.Exchange.{Speech, IsLawful}
+use Rattle.whole_ring.specs.of_frame_view.View.{Lens}
+use Rattle.slave_server.specs.of_link_mails.Body.{Body}
+use Rattle.slave_server.specs.of_segment_model.Record.{Frame, News}
+use Rattle.slave_server.specs.of_segment_plan.declared.slave.SlaveSpec.{SlaveSpec}
+use Rattle.run_frames.specs.of_segment_ring.declared.wire.Fate.{Fate}
+use Rattle.run_frames.specs.of_segment_ring.declared.wire.Fate.TheVariants.{Pass, Lost}
+use Rattle.run_frames.specs.of_segment_ring.Ring.{RingState, ring_behind}
+use Rattle.run_frames.specs.of_segment_ring.Schedule.{fate_at}
 use Rattle.slave_server.specs.Serving.{Serving}
-use Rattle.whole_ring.specs.of_slave_node.Node.{Node, node_passed}
-use Rattle.run_frames.specs.of_life_runs.of_master_duty.Reply as Master
-use Rattle.run_frames.specs.of_life_runs.of_master_hand.Spoken.{Asked, hand_speech, acknowledged}
-use Rattle.run_frames.specs.of_life_runs.of_frame_view.Frames.{Share}
-use Rattle.run_frames.specs.of_life_runs.of_frame_view.Shares as Shares
-use Rattle.run_frames.specs.of_life_runs.of_frame_view.Shares.{Lived, IsNext, lived_back, lived_lost}
+use Rattle.slave_server.specs.of_slave_node.Node.{Node, node_passed}
+use Rattle.run_frames.specs.of_master_duty.Reply as Master
+use Rattle.run_frames.specs.of_master_hand.Spoken.{Asked, hand_speech, acknowledged}
+use Rattle.whole_ring.specs.of_frame_view.Frames.{Share}
+use Rattle.whole_ring.specs.of_frame_view.Shares as Shares
+use Rattle.whole_ring.specs.of_frame_view.Shares.{Lived, IsNext, lived_back, lived_lost}
 use Rattle.plan_ring.specs.KeptFirst.{Forgets}
 use Rattle.plan_ring.specs.Alike.{Alike, WishIs, InHandIs}
 use Rattle.whole_ring.specs.Whole.{IsWhole, OwesLaws}

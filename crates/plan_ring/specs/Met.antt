@@ -1,12 +1,12 @@
 -- AN OPEN SLAVE OF A RING by a frame that came back.
 use Rattle.std.specs.Prelude.{◌≡◌, ℕ, if◌then◌else◌, List, [], ◌∷◌, ⊤}
-use Rattle.life_model.specs.Lives.{Stand}
-use Rattle.life_model.specs.Own.{own}
-use Rattle.link_mails.specs.Body.{Body}
-use Rattle.segment_model.specs.Slaves.{Datagram, Slave, slave_after, slave_steps, frame_after}
-use Rattle.segment_ring.specs.Ring.{is_in_pace}
+use Rattle.whole_ring.specs.of_life_model.Lives.{Stand}
+use Rattle.whole_ring.specs.of_life_model.Own.{own}
+use Rattle.slave_server.specs.of_link_mails.Body.{Body}
+use Rattle.slave_server.specs.of_segment_model.Slaves.{Datagram, Slave, slave_after, slave_steps, frame_after}
+use Rattle.run_frames.specs.of_segment_ring.Ring.{is_in_pace}
 use Rattle.whole_ring.specs.of_slave_lives.Lived.{node_seen}
-use Rattle.whole_ring.specs.of_slave_node.Node.{Node}
+use Rattle.slave_server.specs.of_slave_node.Node.{Node}
 use Rattle.whole_ring.specs.Members.{Member}
 
 -- the slave as its session has it

@@ -1,7 +1,7 @@
 -- AN EXCHANGE WHOSE CLIENT HAS OTHER NAMES for its services, and another form of their replies.
 use Rattle.std.specs.Prelude.{◌≡◌, ◌&&◌, Bool, true, if◌then◌else◌, List, None, option_map}
-use Rattle.exchange_model.specs.Exchange.{Exchange, Speech}
-use Rattle.state_model.specs.Stated.{Stated}
+use Rattle.slave_server.specs.of_exchange_model.Exchange.{Exchange, Speech}
+use Rattle.slave_server.specs.of_state_model.Stated.{Stated}
 
 -- whether a service of the client is one of the exchange, and which; and a reply as the client has it
 pub record Naming (Q R P T : Type 0) : Type 0 where

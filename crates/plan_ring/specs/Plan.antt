@@ -1,22 +1,22 @@
 -- THE RING OF A PLAN: its slaves as they are switched on, with their lives before the first frame.
 use Rattle.std.specs.Prelude.{◌≡◌, ℕ, suc, Some, List, [], ◌∷◌, length, ⊤}
-use Rattle.run_frames.specs.of_life_runs.of_frame_view.View.{Lens}
-use Rattle.slave_parts.specs.of_protocol_models.Network.{Station}
-use Rattle.slave_parts.specs.of_state_model.Families.{InState}
-use Rattle.run_frames.specs.of_life_runs.of_master_duty.Reply as Master
-use Rattle.run_frames.specs.of_life_runs.of_master_hand.Spoken.{Asked}
-use Rattle.life_model.specs.Lives.{Spot, new_life}
+use Rattle.whole_ring.specs.of_frame_view.View.{Lens}
+use Rattle.slave_server.specs.of_protocol_models.Network.{Station}
+use Rattle.slave_server.specs.of_state_model.Families.{InState}
+use Rattle.run_frames.specs.of_master_duty.Reply as Master
+use Rattle.run_frames.specs.of_master_hand.Spoken.{Asked}
+use Rattle.whole_ring.specs.of_life_model.Lives.{Spot, new_life}
 pub use Rattle.run_frames.specs.of_life_runs.First.{lens_of, spot_of, IsElsewhere, AreApart}
-use Rattle.life_model.specs.Tours.{item_at}
-use Rattle.run_frames.specs.of_life_runs.of_segment_plan.Sound.{IsSlave}
-use Rattle.run_frames.specs.of_life_runs.of_segment_plan.declared.plan.Scenario.{Scenario}
-use Rattle.run_frames.specs.of_life_runs.of_segment_plan.declared.slave.SlaveSpec.{SlaveSpec}
+use Rattle.whole_ring.specs.of_life_model.Tours.{item_at}
+use Rattle.slave_server.specs.of_segment_plan.Sound.{IsSlave}
+use Rattle.slave_server.specs.of_segment_plan.declared.plan.Scenario.{Scenario}
+use Rattle.slave_server.specs.of_segment_plan.declared.slave.SlaveSpec.{SlaveSpec}
 use Rattle.whole_ring.specs.of_slave_lives.Opening as Opening
-use Rattle.slave_parts.specs.Parts.{Core, Server}
+use Rattle.slave_server.specs.of_slave_parts.Parts.{Core, Server}
 use Rattle.slave_server.specs.Serving.{Serving, takes, next_mail, rest, cleared}
 use Rattle.slave_server.specs.Spec.{profile_of, server_of, node_of}
-use Rattle.whole_ring.specs.of_slave_node.Node.{Node}
-use Rattle.whole_ring.specs.of_slave_node.Step.{pdi_step}
+use Rattle.slave_server.specs.of_slave_node.Node.{Node}
+use Rattle.slave_server.specs.of_slave_node.Step.{pdi_step}
 use Rattle.plan_ring.specs.Real.{real_clearing}
 use Rattle.plan_ring.specs.Rooms.{IsSound}
 use Rattle.whole_ring.specs.Members.{Member}

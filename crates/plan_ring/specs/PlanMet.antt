@@ -1,28 +1,28 @@
 -- THE SLAVES OF A PLAN'S RUN, as the sessions of their lives have them.
 use Rattle.std.specs.Prelude.{◌≡◌, ℕ, suc, if◌then◌else◌, List, [], ◌∷◌, ⊤}
-use Rattle.exchange_model.specs.Exchange.{IsLawful}
-use Rattle.frame_view.specs.View.{Lens}
-use Rattle.life_model.specs.Lives.{Stand}
-use Rattle.life_model.specs.Own.{own}
+use Rattle.slave_server.specs.of_exchange_model.Exchange.{IsLawful}
+use Rattle.whole_ring.specs.of_frame_view.View.{Lens}
+use Rattle.whole_ring.specs.of_life_model.Lives.{Stand}
+use Rattle.whole_ring.specs.of_life_model.Own.{own}
 use Rattle.run_frames.specs.of_life_runs.First.{lens_of, spot_of}
 use Rattle.run_frames.specs.of_life_runs.Led.{Exchanged, Leads, speech_at}
-use Rattle.link_mails.specs.Body.{Body}
+use Rattle.slave_server.specs.of_link_mails.Body.{Body}
 use Rattle.run_frames.specs.of_master_hand.Spoken.{acknowledged}
 use Rattle.plan_ring.specs.Alike.{Alike, InHandIs}
 use Rattle.plan_ring.specs.Asked.{asked, is_service}
 use Rattle.plan_ring.specs.Round.{all_seen}
-use Rattle.segment_model.specs.Slaves.{Datagram, Slave, slave_after, slave_steps, frame_after}
-use Rattle.scenario.specs.of_segment_plan.declared.plan.Scenario.{Scenario}
-use Rattle.scenario.specs.of_segment_plan.declared.slave.SlaveSpec.{SlaveSpec}
-use Rattle.segment_ring.specs.Ring.{is_in_pace}
+use Rattle.slave_server.specs.of_segment_model.Slaves.{Datagram, Slave, slave_after, slave_steps, frame_after}
+use Rattle.slave_server.specs.of_segment_plan.declared.plan.Scenario.{Scenario}
+use Rattle.slave_server.specs.of_segment_plan.declared.slave.SlaveSpec.{SlaveSpec}
+use Rattle.run_frames.specs.of_segment_ring.Ring.{is_in_pace}
 use Rattle.whole_ring.specs.of_slave_lives.Lived.{IsBehind, node_seen}
-use Rattle.slave_parts.specs.Parts.{Core, Server}
-use Rattle.slave_parts.specs.of_protocol_models.Network.{Station}
+use Rattle.slave_server.specs.of_slave_parts.Parts.{Core, Server}
+use Rattle.slave_server.specs.of_protocol_models.Network.{Station}
 use Rattle.slave_server.specs.Serving.{Serving}
 use Rattle.slave_server.specs.Spec.{profile_of}
-use Rattle.whole_ring.specs.of_slave_node.Node.{Node}
-use Rattle.state_model.specs.Families.{InState}
-use Rattle.state_model.specs.Stated.{IsStated}
+use Rattle.slave_server.specs.of_slave_node.Node.{Node}
+use Rattle.slave_server.specs.of_state_model.Families.{InState}
+use Rattle.slave_server.specs.of_state_model.Stated.{IsStated}
 use Rattle.whole_ring.specs.Whole.{LivesOpen}
 
 -- a slave's node as its session has it

@@ -1,10 +1,10 @@
 -- SERVICES THAT MAY BEGIN: an address block needs room in the mailbox of its slave, or it never comes into hand.
 use Rattle.std.specs.Prelude.{◌≢◌, ℕ, IfSome, None, List, slice_get, All, ⊤}
 use Rattle.run_frames.specs.of_master_hand.Talk.{asked_of}
-use Rattle.scenario.specs.of_segment_plan.declared.plan.Scenario.{Scenario}
-use Rattle.scenario.specs.of_segment_plan.declared.service.Service.{Service}
-use Rattle.scenario.specs.of_segment_plan.declared.service.Service.TheVariants.{State}
-use Rattle.scenario.specs.of_segment_plan.declared.slave.SlaveSpec.{SlaveSpec}
+use Rattle.slave_server.specs.of_segment_plan.declared.plan.Scenario.{Scenario}
+use Rattle.slave_server.specs.of_segment_plan.declared.service.Service.{Service}
+use Rattle.slave_server.specs.of_segment_plan.declared.service.Service.TheVariants.{State}
+use Rattle.slave_server.specs.of_segment_plan.declared.slave.SlaveSpec.{SlaveSpec}
 
 -- a change of state, or a service by mails that a slave with this mailbox 0 is asked for
 abbrev pub MayBegin : ℕ → Service → Type 0

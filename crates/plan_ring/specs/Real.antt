@@ -1,20 +1,20 @@
 -- The services of a slave of a plan, as its life has them: the exchange of its four protocols behind its mailboxes.
 use Rattle.std.specs.Prelude.{◌≡◌, ℕ, Bool, true}
 use Rattle.whole_ring.specs.of_frame_view.View.{Lens}
-use Rattle.slave_parts.specs.of_protocol_models.Network.{Station}
-use Rattle.slave_parts.specs.of_state_model.Families.{InState, states_of}
+use Rattle.slave_server.specs.of_protocol_models.Network.{Station}
+use Rattle.slave_server.specs.of_state_model.Families.{InState, states_of}
 use Rattle.whole_ring.specs.of_frames_seen.Shows.{slave_table}
-use Rattle.whole_ring.specs.of_state_model.States.{carry}
-use Rattle.slave_parts.specs.of_slave_model.Acknowledged.{acknowledged}
-use Rattle.slave_parts.specs.of_slave_model.Product.{product}
-use Rattle.slave_parts.specs.of_slave_model.Profile.{Protocol, Profile}
-use Rattle.slave_parts.specs.of_slave_model.Server.{ServiceOf, Reply}
-use Rattle.slave_parts.specs.Parts.{Core, Server, parts}
+use Rattle.slave_server.specs.of_state_model.States.{carry}
+use Rattle.slave_server.specs.of_slave_model.Acknowledged.{acknowledged}
+use Rattle.slave_server.specs.of_slave_model.Product.{product}
+use Rattle.slave_server.specs.of_slave_model.Profile.{Protocol, Profile}
+use Rattle.slave_server.specs.of_slave_model.Server.{ServiceOf, Reply}
+use Rattle.slave_server.specs.of_slave_parts.Parts.{Core, Server, parts}
 use Rattle.slave_server.specs.Seen.{seen_in}
 use Rattle.whole_ring.specs.of_life_model.Eras.{Clearing}
 use Rattle.slave_server.specs.Serving.{Serving, takes, next_mail, rest, fresh, cleared}
-use Rattle.whole_ring.specs.of_slave_node.Node.{Node}
-use Rattle.whole_ring.specs.of_slave_node.Step.{pdi_step}
+use Rattle.slave_server.specs.of_slave_node.Node.{Node}
+use Rattle.slave_server.specs.of_slave_node.Step.{pdi_step}
 use Rattle.whole_ring.specs.of_slave_lives.Lived.{Behind}
 use Rattle.whole_ring.specs.of_slave_lives.Nodes.{stepped}
 use Rattle.whole_ring.specs.of_slave_lives.Steps.{Running}

@@ -1,12 +1,12 @@
 -- WHAT ALWAYS HOLDS OF A SLAVE'S SERVER as it runs: each mail that waits has room, and what its services act on are such as their laws speak of.
 use Rattle.std.specs.Prelude.{◌≡◌, ℕ, ◌+◌, ◌≤◌, true, List, [], ◌∷◌, length, None, ⊤}
 use Rattle.slave_server.specs.of_file_store.Files as Store
-use Rattle.slave_parts.specs.of_protocol_models.FoeServer.{Transfer, idle, reading, writing, closing}
+use Rattle.slave_server.specs.of_protocol_models.FoeServer.{Transfer, idle, reading, writing, closing}
 use Rattle.slave_server.specs.of_mailbox_mail.declared.mail.Mail.{Mail}
 use Rattle.whole_ring.specs.of_slave_lives.Nodes.{IsPlaced}
-use Rattle.slave_parts.specs.of_slave_model.Application.{station_valid}
-use Rattle.slave_parts.specs.of_slave_model.Profile.{Profile}
-use Rattle.slave_parts.specs.Parts.{parts}
+use Rattle.slave_server.specs.of_slave_model.Application.{station_valid}
+use Rattle.slave_server.specs.of_slave_model.Profile.{Profile}
+use Rattle.slave_server.specs.of_slave_parts.Parts.{parts}
 use Rattle.slave_server.specs.Serving.{Serving}
 
 -- each of these mails can stand in a mailbox of this length

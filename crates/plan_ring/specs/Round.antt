@@ -1,18 +1,18 @@
 -- THE FRAMES OF A RUN WENT ROUND THE RING of its slaves.
 use Rattle.std.specs.Prelude.{◌≡◌, ℕ, List, [], ◌∷◌, map, ⊤}
-use Rattle.run_frames.specs.of_life_runs.of_frame_view.View.{Lens}
-use Rattle.run_frames.specs.of_life_runs.of_frame_view.Seen.{seen}
+use Rattle.whole_ring.specs.of_frame_view.View.{Lens}
+use Rattle.whole_ring.specs.of_frame_view.Seen.{seen}
 use Rattle.run_frames.specs.of_life_runs.Led.{Exchanged}
-use Rattle.run_frames.specs.of_life_runs.of_link_mails.Body.{Body}
+use Rattle.slave_server.specs.of_link_mails.Body.{Body}
 use Rattle.plan_ring.specs.Plan.{step}
-use Rattle.slave_parts.specs.of_segment_model.Record.{Frame}
-use Rattle.run_frames.specs.of_life_runs.of_segment_plan.declared.plan.Scenario.{Scenario}
-use Rattle.run_frames.specs.of_life_runs.of_segment_ring.Ring.{RingState, ring_behind, ring_returned}
-use Rattle.run_frames.specs.of_life_runs.of_segment_ring.Schedule.{fate_at}
+use Rattle.slave_server.specs.of_segment_model.Record.{Frame}
+use Rattle.slave_server.specs.of_segment_plan.declared.plan.Scenario.{Scenario}
+use Rattle.run_frames.specs.of_segment_ring.Ring.{RingState, ring_behind, ring_returned}
+use Rattle.run_frames.specs.of_segment_ring.Schedule.{fate_at}
 use Rattle.whole_ring.specs.of_slave_lives.Rings.{fate_seen}
 use Rattle.slave_server.specs.Serving.{Serving}
 use Rattle.slave_server.specs.Spec.{node_of}
-use Rattle.whole_ring.specs.of_slave_node.Node.{Node, node_passed}
+use Rattle.slave_server.specs.of_slave_node.Node.{Node, node_passed}
 
 -- the slaves of a plan as they are switched on, in their ring before its first frame
 abbrev pub ring_of : Scenario → RingState (Node Serving)

@@ -1,11 +1,11 @@
 -- A LIFE IN ITS FIRST EPOCH: it was opened at most once, and never given up or returned to Init.
 use Rattle.std.specs.Prelude.{◌≡◌, ℕ, ◌<◌, false, Option, Some, None, [], ⊤}
-use Rattle.state_model.specs.Stated.{Service}
-use Rattle.state_model.specs.Accounts.{Duty}
-use Rattle.state_model.specs.Promise.{services_in}
-use Rattle.life_model.specs.Book.{NoInits}
-use Rattle.life_model.specs.Lives.{Life, Stand, returns_to_init}
-use Rattle.life_model.specs.Chain.{AllBegin}
+use Rattle.slave_server.specs.of_state_model.Stated.{Service}
+use Rattle.slave_server.specs.of_state_model.Accounts.{Duty}
+use Rattle.slave_server.specs.of_state_model.Promise.{services_in}
+use Rattle.whole_ring.specs.of_life_model.Book.{NoInits}
+use Rattle.whole_ring.specs.of_life_model.Lives.{Life, Stand, returns_to_init}
+use Rattle.whole_ring.specs.of_life_model.Chain.{AllBegin}
 
 -- a state service in hand doesn't return its slave to Init
 abbrev pub HandStays : Option Duty → Type 0

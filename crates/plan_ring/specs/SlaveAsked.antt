@@ -1,8 +1,8 @@
 -- A REPEAT REQUEST whose acknowledge is awaited, and the datagrams of one frame to its slave.
 use Rattle.std.specs.Prelude.{◌≡◌, ◌==◌, ℕ, Bool, true, false, List, [], ◌∷◌, ⊤}
-use Rattle.link_model.specs.Frames.{Ask, Gram}
-use Rattle.link_model.specs.Master.{InHalf, InState}
-use Rattle.link_model.specs.Slave.{InSide}
+use Rattle.whole_ring.specs.of_link_model.Frames.{Ask, Gram}
+use Rattle.whole_ring.specs.of_link_model.Master.{InHalf, InState}
+use Rattle.whole_ring.specs.of_link_model.Slave.{InSide}
 
 -- each is to this station
 abbrev pub AllHere : {B : Type 0} → ℕ → List (Gram B) → Type 0

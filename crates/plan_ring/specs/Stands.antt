@@ -1,15 +1,15 @@
 -- WHAT A SLAVE ANSWERS FOR, between two frames: what awaits a step of its processor stands in it, and shows once it made one.
 use Rattle.std.specs.Prelude.{◌≡◌, Bool, true, Option, ⊤}
-use Rattle.datagrams.specs.Datagram as Raw
-use Rattle.esc_registers.specs.declared.registers.Registers as Esc
-use Rattle.life_model.specs.Lives.{Opening, Stand, Life}
-use Rattle.link_mails.specs.Body.{Body}
-use Rattle.link_model.specs.Master.{InHalf, InState}
-use Rattle.mailbox_slave.specs.Registers.{request_of, acknowledge_of}
-use Rattle.segment_model.specs.Slaves.{Found}
+use Rattle.run_frames.specs.of_datagrams.Datagram as Raw
+use Rattle.whole_ring.specs.of_esc_registers.declared.registers.Registers as Esc
+use Rattle.whole_ring.specs.of_life_model.Lives.{Opening, Stand, Life}
+use Rattle.slave_server.specs.of_link_mails.Body.{Body}
+use Rattle.whole_ring.specs.of_link_model.Master.{InHalf, InState}
+use Rattle.whole_ring.specs.of_mailbox_slave.Registers.{request_of, acknowledge_of}
+use Rattle.slave_server.specs.of_segment_model.Slaves.{Found}
 use Rattle.whole_ring.specs.of_slave_lives.Lived.{Behind, RingFrame, AccessBack}
 use Rattle.whole_ring.specs.of_slave_lives.Opening.{Plan}
-use Rattle.slave_lives.specs.Shown.{StandsFor}
+use Rattle.whole_ring.specs.of_slave_lives.Shown.{StandsFor}
 use Rattle.whole_ring.specs.Whole.{plan_to}
 
 -- where its acknowledge is awaited the repeat request stands, and once the slave made a step its acknowledge

@@ -1,14 +1,14 @@
 //! The book of a slave whose life is lived by its node. No running code: each function here does nothing, and its contract states a law.
 
 ghost use Rattle.std.specs.Prelude.{◌≡◌, ℕ, suc, Bool, List, Option, length};
-ghost use Rattle.exchange_model.specs.Exchange.{Speech};
-ghost use Rattle.link_mails.specs.Body.{Body};
-ghost use Rattle.segment_model.specs.Record.{Frame, News};
-ghost use Rattle.segment_model.specs.Slaves.{Datagram, Found};
-ghost use Rattle.whole_ring.specs.of_slave_node.Node.{Node};
-ghost use Rattle.state_model.specs.Accounts.{Pick};
-ghost use Rattle.life_model.specs.Eras.{Clearing};
-ghost use Rattle.life_model.specs.Lives.{Spot, Life, Stand, new_life, life_next, life_back, life_lost};
+ghost use Rattle.slave_server.specs.of_exchange_model.Exchange.{Speech};
+ghost use Rattle.slave_server.specs.of_link_mails.Body.{Body};
+ghost use Rattle.slave_server.specs.of_segment_model.Record.{Frame, News};
+ghost use Rattle.slave_server.specs.of_segment_model.Slaves.{Datagram, Found};
+ghost use Rattle.slave_server.specs.of_slave_node.Node.{Node};
+ghost use Rattle.slave_server.specs.of_state_model.Accounts.{Pick};
+ghost use Rattle.whole_ring.specs.of_life_model.Eras.{Clearing};
+ghost use Rattle.whole_ring.specs.of_life_model.Lives.{Spot, Life, Stand, new_life, life_next, life_back, life_lost};
 ghost use Rattle.whole_ring.specs.of_slave_lives.Lived.{Behind};
 ghost use Rattle.whole_ring.specs.of_slave_lives.Opening.{Plan};
 ghost use Rattle.whole_ring.specs.Whole.{OwesLaws, IsLived};

@@ -2,8 +2,8 @@
 //! running code: the function here does nothing, and its contract states the law.
 
 ghost use Rattle.plan_ring.specs.Brings.{BringsDue};
-ghost use Rattle.slave_model.specs.Hears.{HearsFirst};
-ghost use Rattle.life_model.specs.Eras.{OpenEra};
+ghost use Rattle.slave_server.specs.of_slave_model.Hears.{HearsFirst};
+ghost use Rattle.whole_ring.specs.of_life_model.Eras.{OpenEra};
 
 /// EACH MAIL THAT A FRAME MORE BRINGS OF AN OPEN EPOCH IS DUE, where the client hears first.
 pub fn due_law<V, A, M, Q, R>()

@@ -2,11 +2,11 @@
 //! law, no running code: the function here does nothing, and its contract states the law.
 
 ghost use Rattle.std.specs.Prelude.{◌≡◌, ℕ, Bool, List, Option, Some};
-ghost use Rattle.link_model.specs.Frames.{Gram, IsSent, grams_after, node_after, halves_after, halves_without, in_ask};
-ghost use Rattle.link_model.specs.Link.{Halves};
-ghost use Rattle.link_model.specs.Mails.{LinkMail};
-ghost use Rattle.link_model.specs.Master.{InState};
-ghost use Rattle.link_model.specs.Slave.{Node};
+ghost use Rattle.whole_ring.specs.of_link_model.Frames.{Gram, IsSent, grams_after, node_after, halves_after, halves_without, in_ask};
+ghost use Rattle.whole_ring.specs.of_link_model.Link.{Halves};
+ghost use Rattle.whole_ring.specs.of_link_model.Mails.{LinkMail};
+ghost use Rattle.whole_ring.specs.of_link_model.Master.{InState};
+ghost use Rattle.whole_ring.specs.of_link_model.Slave.{Node};
 ghost use Rattle.plan_ring.specs.SlaveAsked.{AllHere, AllAsk, IsAsked, GoesOn, AllMet, AllRead};
 
 /// WHERE THE ACKNOWLEDGE IS AWAITED THE REQUEST STANDS, by the datagrams of a frame to this station, each half's at most once: where they were met and

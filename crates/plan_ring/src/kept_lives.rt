@@ -1,13 +1,13 @@
 //! What a life that is lived by its node keeps, epoch by epoch. No running code: the function here does nothing, and its contract states a law.
 
 ghost use Rattle.plan_ring.specs.Epochs.{IsKeptLife};
-ghost use Rattle.life_model.specs.Eras.{Clearing};
-ghost use Rattle.life_model.specs.Lives.{Spot, Life};
-ghost use Rattle.link_mails.specs.Body.{Body};
-ghost use Rattle.segment_model.specs.Record.{Frame};
+ghost use Rattle.whole_ring.specs.of_life_model.Eras.{Clearing};
+ghost use Rattle.whole_ring.specs.of_life_model.Lives.{Spot, Life};
+ghost use Rattle.slave_server.specs.of_link_mails.Body.{Body};
+ghost use Rattle.slave_server.specs.of_segment_model.Record.{Frame};
 ghost use Rattle.whole_ring.specs.of_slave_lives.Lived.{Behind};
 ghost use Rattle.whole_ring.specs.of_slave_lives.Opening.{Plan};
-ghost use Rattle.whole_ring.specs.of_slave_node.Node.{Node};
+ghost use Rattle.slave_server.specs.of_slave_node.Node.{Node};
 ghost use Rattle.std.specs.Prelude.{◌≡◌, true, Bool, List};
 ghost use Rattle.whole_ring.specs.Whole.{OwesLaws, IsLived};
 

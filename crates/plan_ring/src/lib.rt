@@ -2,22 +2,22 @@
 //! of its slaves. No running code: each function here does nothing, and its contract states a law.
 #![tactic(auto)]
 
-ghost use Rattle.life_model.specs.Script.{Addressed, AnyLive};
-ghost use Rattle.life_model.specs.Lives.{Spot, Stand};
+ghost use Rattle.whole_ring.specs.of_life_model.Script.{Addressed, AnyLive};
+ghost use Rattle.whole_ring.specs.of_life_model.Lives.{Spot, Stand};
 ghost use Rattle.run_frames.specs.of_life_runs.First.{lens_of, first_leads};
 ghost use Rattle.run_frames.specs.of_life_runs.Led.{Exchanged, Leads, IsLed};
-ghost use Rattle.run_frames.specs.of_life_runs.of_datagrams.Datagram as Raw;
-ghost use Rattle.run_frames.specs.of_life_runs.of_datagrams.Frame.{IsFrame, chained};
-ghost use Rattle.run_frames.specs.of_life_runs.of_frame_view.View.{Lens};
-ghost use Rattle.run_frames.specs.of_life_runs.of_link_mails.Body.{Body};
-ghost use Rattle.run_frames.specs.of_life_runs.of_master_hand.Spoken.{Asked, hand_speech};
-ghost use Rattle.run_frames.specs.of_life_runs.of_segment_plan.Sound as Plan;
-ghost use Rattle.run_frames.specs.of_life_runs.of_segment_plan.Sound.{IsPlan};
-ghost use Rattle.run_frames.specs.of_life_runs.of_segment_plan.declared.plan.Scenario.{Scenario};
-ghost use Rattle.run_frames.specs.of_life_runs.of_segment_plan.declared.slave.SlaveSpec.{SlaveSpec};
-ghost use Rattle.run_frames.specs.of_life_runs.of_segment_ring.Ring.{RingState, ring_behind};
-ghost use Rattle.run_frames.specs.of_life_runs.of_segment_ring.Schedule.{fate_at};
-ghost use Rattle.run_frames.specs.of_life_runs.of_segment_ring.declared.wire.Fate.{Fate};
+ghost use Rattle.run_frames.specs.of_datagrams.Datagram as Raw;
+ghost use Rattle.run_frames.specs.of_datagrams.Frame.{IsFrame, chained};
+ghost use Rattle.whole_ring.specs.of_frame_view.View.{Lens};
+ghost use Rattle.slave_server.specs.of_link_mails.Body.{Body};
+ghost use Rattle.run_frames.specs.of_master_hand.Spoken.{Asked, hand_speech};
+ghost use Rattle.slave_server.specs.of_segment_plan.Sound as Plan;
+ghost use Rattle.slave_server.specs.of_segment_plan.Sound.{IsPlan};
+ghost use Rattle.slave_server.specs.of_segment_plan.declared.plan.Scenario.{Scenario};
+ghost use Rattle.slave_server.specs.of_segment_plan.declared.slave.SlaveSpec.{SlaveSpec};
+ghost use Rattle.run_frames.specs.of_segment_ring.Ring.{RingState, ring_behind};
+ghost use Rattle.run_frames.specs.of_segment_ring.Schedule.{fate_at};
+ghost use Rattle.run_frames.specs.of_segment_ring.declared.wire.Fate.{Fate};
 ghost use Rattle.plan_ring.specs.Alike.{Alike};
 ghost use Rattle.plan_ring.specs.Asked.{is_service, asked};
 ghost use Rattle.plan_ring.specs.First.{AllFirst, AllStay, AllOpen, AllBooks, AllAtRest, runs_of, RunEnds};
@@ -29,11 +29,11 @@ ghost use Rattle.plan_ring.specs.Real.{real_clearing};
 ghost use Rattle.plan_ring.specs.Round.{ring_of, AllRound};
 ghost use Rattle.plan_ring.specs.Rows.{IsFirst};
 ghost use Rattle.whole_ring.specs.of_slave_lives.Opening as Opening;
-ghost use Rattle.slave_parts.specs.of_segment_model.Record.{Frame};
-ghost use Rattle.slave_parts.specs.of_slave_model.Profile.{Profile, IsProfile, areas_of};
+ghost use Rattle.slave_server.specs.of_segment_model.Record.{Frame};
+ghost use Rattle.slave_server.specs.of_slave_model.Profile.{Profile, IsProfile, areas_of};
 ghost use Rattle.slave_server.specs.Serving.{Serving};
 ghost use Rattle.slave_server.specs.Spec.{node_of};
-ghost use Rattle.whole_ring.specs.of_slave_node.Node.{Node, node_passed};
+ghost use Rattle.slave_server.specs.of_slave_node.Node.{Node, node_passed};
 ghost use Rattle.std.specs.Prelude.{◌≡◌, ◌<◌, ◌∷◌, ◌++◌, ℕ, suc, Bool, List, [], map, length};
 ghost use Rattle.whole_ring.specs.Members.{MemberIs, IsRing, first_ring};
 ghost use Rattle.whole_ring.specs.Turning.{Turn, AllTurn, frame_at, behind_frame, given_up};
@@ -54,6 +54,11 @@ pub mod ring_clocks;
 pub mod run_answers;
 pub mod server_lives;
 pub mod slave_clocks;
+
+pub use run_frames;
+pub use run_frames::{frame_view, life_runs};
+pub use scenario;
+pub use slave_server::slave_parts;
 
 /// The services of a slave of a plan, as the master asks for them, are such as the laws of whole lives speak of; and the master speaks of them as
 /// their own client does, but for mails that are passed on.

@@ -1,15 +1,15 @@
 //! An exchange by other names of its services, and lives that two clients lead alike. No running code: each function here does nothing, and its
 //! contract states a law.
 
-ghost use Rattle.exchange_model.specs.Exchange.{Exchange, Speech, IsLawful};
-ghost use Rattle.life_model.specs.Lives.{Spot, Life, Stand, life_next, life_back, life_lost};
+ghost use Rattle.slave_server.specs.of_exchange_model.Exchange.{Exchange, Speech, IsLawful};
+ghost use Rattle.whole_ring.specs.of_life_model.Lives.{Spot, Life, Stand, life_next, life_back, life_lost};
 ghost use Rattle.plan_ring.specs.Alike.{Alike, WishIs, InHandIs};
 ghost use Rattle.plan_ring.specs.Named.{Naming, named, named_states, Agrees, AgreesLast};
-ghost use Rattle.segment_model.specs.Record.{News};
-ghost use Rattle.segment_model.specs.Slaves.{Datagram, Found};
-ghost use Rattle.state_model.specs.Stated.{Stated, IsStated};
+ghost use Rattle.slave_server.specs.of_segment_model.Record.{News};
+ghost use Rattle.slave_server.specs.of_segment_model.Slaves.{Datagram, Found};
+ghost use Rattle.slave_server.specs.of_state_model.Stated.{Stated, IsStated};
 ghost use Rattle.std.specs.Prelude.{◌≡◌, ℕ, Bool, List, Option};
-ghost use Rattle.state_model.specs.Accounts.{Pick};
+ghost use Rattle.slave_server.specs.of_state_model.Accounts.{Pick};
 
 /// An exchange owes its laws by its client's names too, and its AL state is a part of its application.
 pub fn named_law<V, A, M, Q, R, P, T>()

@@ -2,12 +2,12 @@
 //! here do nothing, and their contracts state the laws.
 
 ghost use Rattle.std.specs.Prelude.{Bool};
-ghost use Rattle.slave_model.specs.Moments.{IsFree, NoneLeft, NowAnswered};
-ghost use Rattle.exchange_model.specs.Exchange.{Exchange, Speech};
+ghost use Rattle.slave_server.specs.of_slave_model.Moments.{IsFree, NoneLeft, NowAnswered};
+ghost use Rattle.slave_server.specs.of_exchange_model.Exchange.{Exchange, Speech};
 ghost use Rattle.plan_ring.specs.Alike.{Alike, RowIs};
 ghost use Rattle.plan_ring.specs.Named.{Naming, Agrees, named};
-ghost use Rattle.slave_model.specs.Waits.{NeverWaits};
-ghost use Rattle.segment_model.specs.Seats.{Side};
+ghost use Rattle.slave_server.specs.of_slave_model.Waits.{NeverWaits};
+ghost use Rattle.slave_server.specs.of_segment_model.Seats.{Side};
 
 /// A client never waits in vain by other names of its services either.
 pub fn named_waits_law<V, A, M, Q, R, P, T>()

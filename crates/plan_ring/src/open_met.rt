@@ -2,17 +2,17 @@
 //! law, no running code: the function here does nothing, and its contract states the law.
 
 ghost use Rattle.std.specs.Prelude.{◌≡◌, ℕ, Bool, List, length};
-ghost use Rattle.datagrams.specs.Datagram as Raw;
-ghost use Rattle.datagrams.specs.Frame.{IsFrame, chained};
-ghost use Rattle.frame_view.specs.Seen.{seen};
-ghost use Rattle.frame_view.specs.View.{Lens};
-ghost use Rattle.life_model.specs.Lives.{Spot};
-ghost use Rattle.link_mails.specs.Body.{Body};
-ghost use Rattle.segment_model.specs.Record.{Frame};
-ghost use Rattle.segment_ring.specs.Ring.{RingState, ring_returned};
-ghost use Rattle.segment_ring.specs.Schedule.{fate_at};
-ghost use Rattle.segment_ring.specs.declared.wire.Fate.{Fate};
-ghost use Rattle.whole_ring.specs.of_slave_node.Node.{Node, node_passed};
+ghost use Rattle.run_frames.specs.of_datagrams.Datagram as Raw;
+ghost use Rattle.run_frames.specs.of_datagrams.Frame.{IsFrame, chained};
+ghost use Rattle.whole_ring.specs.of_frame_view.Seen.{seen};
+ghost use Rattle.whole_ring.specs.of_frame_view.View.{Lens};
+ghost use Rattle.whole_ring.specs.of_life_model.Lives.{Spot};
+ghost use Rattle.slave_server.specs.of_link_mails.Body.{Body};
+ghost use Rattle.slave_server.specs.of_segment_model.Record.{Frame};
+ghost use Rattle.run_frames.specs.of_segment_ring.Ring.{RingState, ring_returned};
+ghost use Rattle.run_frames.specs.of_segment_ring.Schedule.{fate_at};
+ghost use Rattle.run_frames.specs.of_segment_ring.declared.wire.Fate.{Fate};
+ghost use Rattle.slave_server.specs.of_slave_node.Node.{Node, node_passed};
 ghost use Rattle.whole_ring.specs.Members.{Member, IsRing, Passes};
 ghost use Rattle.whole_ring.specs.Turning.{Turn, AllTurn, frame_at, behind_frame};
 ghost use Rattle.plan_ring.specs.Met.{AllOpenMet};

@@ -2,14 +2,16 @@
 //! contracts state the laws.
 
 ghost use Rattle.std.specs.Prelude.{ℕ, Bool};
-ghost use Rattle.slave_model.specs.Hears.{HearsFirst};
-ghost use Rattle.run_frames.specs.of_life_runs.of_frame_view.View.{Lens};
-ghost use Rattle.run_frames.specs.of_life_runs.of_segment_plan.Sound.{IsPlan};
-ghost use Rattle.run_frames.specs.of_life_runs.of_segment_plan.declared.plan.Scenario.{Scenario};
+ghost use Rattle.slave_server.specs.of_slave_model.Hears.{HearsFirst};
+ghost use Rattle.whole_ring.specs.of_frame_view.View.{Lens};
+ghost use Rattle.slave_server.specs.of_segment_plan.Sound.{IsPlan};
+ghost use Rattle.slave_server.specs.of_segment_plan.declared.plan.Scenario.{Scenario};
 ghost use Rattle.plan_ring.specs.Dues.{MailsAreDue};
 ghost use Rattle.plan_ring.specs.Asked.{asked};
 ghost use Rattle.plan_ring.specs.Lives.{IsKnown};
-ghost use Rattle.slave_parts.specs.of_slave_model.Profile.{Profile, IsProfile};
+ghost use Rattle.slave_server.specs.of_slave_model.Profile.{Profile, IsProfile};
+
+use slave_server::slave_parts;
 
 /// A SLAVE OF A PLAN, with the services that its master asks for, has a client that hears first.
 pub fn asked_hears_law()

@@ -1,15 +1,15 @@
 //! The slaves of a plan's run, as the sessions of their lives have them: what each is that is open, and what it made of a frame that came back. Definitions
 //! and a law, no running code: the function here does nothing, and its contract states the law.
 
-ghost use Rattle.frame_view.specs.Seen.{seen};
+ghost use Rattle.whole_ring.specs.of_frame_view.Seen.{seen};
 ghost use Rattle.run_frames.specs.of_life_runs.First.{lens_of};
 ghost use Rattle.run_frames.specs.of_life_runs.Led.{Exchanged, Leads, Turn, IsLedFrame};
 ghost use Rattle.plan_ring.specs.PlanMet.{AllMet, AllOpenAt};
 ghost use Rattle.plan_ring.specs.Lives.{IsKnown, AreLived};
 ghost use Rattle.plan_ring.specs.Round.{ring_of, ring_after, WentRound};
-ghost use Rattle.scenario.specs.of_segment_plan.Sound.{IsPlan};
-ghost use Rattle.scenario.specs.of_segment_plan.declared.plan.Scenario.{Scenario};
-ghost use Rattle.segment_ring.specs.declared.wire.Fate.{Fate};
+ghost use Rattle.slave_server.specs.of_segment_plan.Sound.{IsPlan};
+ghost use Rattle.slave_server.specs.of_segment_plan.declared.plan.Scenario.{Scenario};
+ghost use Rattle.run_frames.specs.of_segment_ring.declared.wire.Fate.{Fate};
 ghost use Rattle.std.specs.Prelude.{◌≡◌, ◌∷◌, ◌++◌, ℕ, List, [], length};
 
 /// EACH SLAVE OF A PLAN'S RUN that is open lives its epoch as the node of the ring; and of a frame that came back its own datagrams came back as it makes them,

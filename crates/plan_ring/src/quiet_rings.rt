@@ -2,12 +2,12 @@
 //! function here does nothing, and its contract states the laws.
 
 ghost use Rattle.std.specs.Prelude.{◌≡◌, ◌≤◌, ℕ, Bool, List, Option, length};
-ghost use Rattle.exchange_model.specs.Exchange.{Speech};
-ghost use Rattle.life_model.specs.Lives.{Spot};
+ghost use Rattle.slave_server.specs.of_exchange_model.Exchange.{Speech};
+ghost use Rattle.whole_ring.specs.of_life_model.Lives.{Spot};
 ghost use Rattle.run_frames.specs.Clocks.{Clocked, repair_of};
 ghost use Rattle.run_frames.specs.Goes.{Under, AllUnder, all_back, all_lost};
 ghost use Rattle.run_frames.specs.Orders.{AllRepaired};
-ghost use Rattle.segment_model.specs.Slaves.{Datagram};
+ghost use Rattle.slave_server.specs.of_segment_model.Slaves.{Datagram};
 ghost use Rattle.plan_ring.specs.Hands.{AllHand};
 
 /// BEHIND THE FIRST BRING-UP nothing is to be repaired of a ring just where nothing is of any slave. And no open slave of a run has a state service in hand

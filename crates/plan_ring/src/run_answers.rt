@@ -3,17 +3,19 @@
 ghost use Rattle.std.specs.Prelude.{ℕ, List, Option};
 ghost use Rattle.run_frames.specs.of_life_runs.First.{lens_of, first_leads};
 ghost use Rattle.run_frames.specs.of_life_runs.Led.{Exchanged, Leads};
-ghost use Rattle.link_mails.specs.Body.{Body};
-ghost use Rattle.master_duty.specs.Reply.{Reply};
+ghost use Rattle.slave_server.specs.of_link_mails.Body.{Body};
+ghost use Rattle.run_frames.specs.of_master_duty.Reply.{Reply};
 ghost use Rattle.run_frames.specs.of_master_hand.Spoken.{Asked};
 ghost use Rattle.plan_ring.specs.Lives.{IsKnown};
 ghost use Rattle.plan_ring.specs.Round.{ring_of, AllRound};
 ghost use Rattle.run_frames.specs.Clocks.{Clocked};
 ghost use Rattle.run_frames.specs.Runs.{Progress};
 ghost use Rattle.run_frames.specs.Toured.{IsToured, AskIn, AnswerIn};
-ghost use Rattle.scenario.specs.of_segment_plan.Bound.{slowest};
-ghost use Rattle.scenario.specs.of_segment_plan.Sound.{IsPlan};
-ghost use Rattle.scenario.specs.of_segment_plan.declared.plan.Scenario.{Scenario};
+ghost use Rattle.slave_server.specs.of_segment_plan.Bound.{slowest};
+ghost use Rattle.slave_server.specs.of_segment_plan.Sound.{IsPlan};
+ghost use Rattle.slave_server.specs.of_segment_plan.declared.plan.Scenario.{Scenario};
+
+use run_frames::frame_view;
 
 /// EACH SLAVE OF A PLAN'S RING ANSWERS what awaits a step of its processor, by each frame of a run that came back, where its frames went round the ring
 /// and ask by the inward half first: behind a step it shows the state that its opening awaits, and acknowledges the repeat request.

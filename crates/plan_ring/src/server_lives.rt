@@ -3,20 +3,22 @@
 
 ghost use Rattle.std.specs.Prelude.{◌≡◌, ◌+◌, ◌≤◌, ℕ, Bool, true, [], None, length};
 ghost use Rattle.whole_ring.specs.of_frame_view.View.{Lens};
-ghost use Rattle.whole_ring.specs.of_link_mails.Body.{Body};
+ghost use Rattle.slave_server.specs.of_link_mails.Body.{Body};
 ghost use Rattle.whole_ring.specs.of_slave_lives.Ends.{ClearsAs};
 ghost use Rattle.whole_ring.specs.of_slave_lives.Lived.{IsBehind};
 ghost use Rattle.whole_ring.specs.of_life_model.Lives.{Spot};
 ghost use Rattle.whole_ring.specs.of_slave_lives.Nodes.{GivesPlaced};
 ghost use Rattle.whole_ring.specs.of_slave_lives.Opening.{Plan, IsPlan};
-ghost use Rattle.slave_parts.specs.of_slave_model.Profile.{Profile, IsProfile};
-ghost use Rattle.slave_parts.specs.of_slave_model.Application.{station_valid};
-ghost use Rattle.slave_parts.specs.Parts.{Core, parts};
+ghost use Rattle.slave_server.specs.of_slave_model.Profile.{Profile, IsProfile};
+ghost use Rattle.slave_server.specs.of_slave_model.Application.{station_valid};
+ghost use Rattle.slave_server.specs.of_slave_parts.Parts.{Core, parts};
 ghost use Rattle.whole_ring.specs.Whole.{OwesLaws};
 ghost use Rattle.slave_server.specs.Serving.{Serving, fresh};
-ghost use Rattle.whole_ring.specs.of_slave_node.Node.{Node};
+ghost use Rattle.slave_server.specs.of_slave_node.Node.{Node};
 ghost use Rattle.plan_ring.specs.Real.{running_as, real, real_clearing, StepsAs};
 ghost use Rattle.plan_ring.specs.Rooms.{IsSound};
+
+use slave_server::slave_parts;
 
 /// The services of a slave of a plan are those of its exchange, in each AL state, a return to Init
 /// clears them, and its steps are theirs.

@@ -1,19 +1,19 @@
 //! The clock of a slave's processor, as the count of frames has it, and the steps that the slave made. Definitions and laws, no running code: the function
 //! here does nothing, and its contract states the laws.
 
-ghost use Rattle.esc_registers.specs.declared.registers.Registers.{Registers};
-ghost use Rattle.life_model.specs.Repairs.{way_of};
-ghost use Rattle.life_model.specs.Eras.{Clearing};
-ghost use Rattle.life_model.specs.Lives.{Spot, Life, Stand, gives_up};
-ghost use Rattle.link_mails.specs.Body.{Body};
+ghost use Rattle.whole_ring.specs.of_esc_registers.declared.registers.Registers.{Registers};
+ghost use Rattle.whole_ring.specs.of_life_model.Repairs.{way_of};
+ghost use Rattle.whole_ring.specs.of_life_model.Eras.{Clearing};
+ghost use Rattle.whole_ring.specs.of_life_model.Lives.{Spot, Life, Stand, gives_up};
+ghost use Rattle.slave_server.specs.of_link_mails.Body.{Body};
 ghost use Rattle.run_frames.specs.Goes.{is_same, stepped_behind};
-ghost use Rattle.segment_model.specs.Record.{Frame, News};
-ghost use Rattle.segment_model.specs.Slaves.{Found};
+ghost use Rattle.slave_server.specs.of_segment_model.Record.{Frame, News};
+ghost use Rattle.slave_server.specs.of_segment_model.Slaves.{Found};
 ghost use Rattle.plan_ring.specs.Stands.{StandsTo};
 ghost use Rattle.whole_ring.specs.of_slave_lives.Lived.{Behind, RingFrame, node_behind, frame_of};
 ghost use Rattle.whole_ring.specs.of_slave_lives.Opening.{Plan};
 ghost use Rattle.std.specs.Prelude.{◌≡◌, ℕ, Bool, List, Option};
-ghost use Rattle.state_model.specs.Accounts.{Pick};
+ghost use Rattle.slave_server.specs.of_state_model.Accounts.{Pick};
 ghost use Rattle.whole_ring.specs.Turns.{FrameComes, TurnsAs, life_by};
 ghost use Rattle.whole_ring.specs.Whole.{IsWhole, IsLived};
 

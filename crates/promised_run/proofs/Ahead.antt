@@ -2,25 +2,25 @@
 use Rattle.std.proofs.Common.{◌≡◌, ℕ, zero, suc, ◌<◌, ◌≤◌, ◌==◌, ◌&&◌, Bool, true, false, Option, Some, None, List, [], ◌∷◌, map, refl, sym, ap, ◌∙◌, subst, arith, if◌then◌else◌, eqb-true}
 use Rattle.std.specs.Prelude.{nat_lt}
 use Rattle.std.proofs.lemmas.Bool.{ltb-false}
-use Rattle.datagrams.specs.Datagram as Raw
-use Rattle.exchange_model.specs.Exchange.{Speech}
-use Rattle.frame_view.specs.Seen.{seen}
-use Rattle.frame_view.specs.View.{Lens}
-use Rattle.frame_view.specs.Shares.{came_at, given_where}
-use Rattle.life_model.specs.Lives.{Spot, Stand, Life, life_next, life_back, life_lost}
-use Rattle.life_runs.specs.Led.{Exchanged, Leads, Turn, IsTurn, AllTurn, speech_at, is_passed, led_behind, life_behind}
-use Rattle.link_mails.specs.Body.{Body}
-use Rattle.master_duty.specs.Reply.{Reply}
-use Rattle.master_hand.specs.Spoken.{Asked, acknowledged, is_followed}
-use Rattle.run_book.specs.of_master_node.Shows.{is_opening_lead}
-use Rattle.run_book.specs.of_master_node.of_master_tour.Goes.{holds_at}
-use Rattle.run_book.specs.of_master_node.of_master_tour.Stands.{is_opening}
-use Rattle.segment_model.specs.Slaves.{Datagram}
-use Rattle.segment_ring.specs.declared.wire.Fate.{Fate}
-use Rattle.segment_ring.specs.declared.wire.Fate.TheVariants.{Pass, Lost}
-use Rattle.run_frames.specs.Clocks.{Clocked}
-use Rattle.run_frames.specs.Orders.{is_in}
-use Rattle.run_frames.specs.Tours.{VisitOf, PlacesOf}
+use Rattle.run_promises.specs.of_datagrams.Datagram as Raw
+use Rattle.run_promises.specs.of_exchange_model.Exchange.{Speech}
+use Rattle.seen_slaves.specs.of_frame_view.Seen.{seen}
+use Rattle.seen_slaves.specs.of_frame_view.View.{Lens}
+use Rattle.seen_slaves.specs.of_frame_view.Shares.{came_at, given_where}
+use Rattle.run_promises.specs.of_life_model.Lives.{Spot, Stand, Life, life_next, life_back, life_lost}
+use Rattle.run_promises.specs.of_life_runs.Led.{Exchanged, Leads, Turn, IsTurn, AllTurn, speech_at, is_passed, led_behind, life_behind}
+use Rattle.run_promises.specs.of_link_mails.Body.{Body}
+use Rattle.seen_slaves.specs.of_master_duty.Reply.{Reply}
+use Rattle.seen_slaves.specs.of_master_hand.Spoken.{Asked, acknowledged, is_followed}
+use Rattle.run_promises.specs.of_master_node.Shows.{is_opening_lead}
+use Rattle.run_promises.specs.of_master_tour.Goes.{holds_at}
+use Rattle.run_promises.specs.of_master_tour.Stands.{is_opening}
+use Rattle.run_promises.specs.of_segment_model.Slaves.{Datagram}
+use Rattle.run_promises.specs.of_segment_ring.declared.wire.Fate.{Fate}
+use Rattle.run_promises.specs.of_segment_ring.declared.wire.Fate.TheVariants.{Pass, Lost}
+use Rattle.seen_slaves.specs.of_run_frames.Clocks.{Clocked}
+use Rattle.seen_slaves.specs.of_run_frames.Orders.{is_in}
+use Rattle.seen_slaves.specs.of_run_frames.Tours.{VisitOf, PlacesOf}
 
 abbrev Slave : Type 0
 Slave = Clocked Body Asked Reply

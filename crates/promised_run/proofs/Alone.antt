@@ -1,20 +1,20 @@
 -- A RUN AS A SERVING to which no mail is asked.
 use Rattle.std.proofs.Common.{◌≡◌, ℕ, None, List, map}
 use Rattle.std.specs.List.{All}
-use Rattle.life_runs.specs.First.{first_leads, lens_of}
-use Rattle.life_runs.specs.Led.{Exchanged, Leads}
-use Rattle.plan_ring.specs.Lives.{IsKnown}
+use Rattle.run_promises.specs.of_life_runs.First.{first_leads, lens_of}
+use Rattle.run_promises.specs.of_life_runs.Led.{Exchanged, Leads}
+use Rattle.seen_slaves.specs.of_plan_ring.Lives.{IsKnown}
 use Rattle.promised_run.proofs.Rounds.{all_round}
 use Rattle.promised_run.proofs.Through.{RepliesLaw, stood_behind}
 use Rattle.promised_run.specs.Alone.{ServesAlone}
-use Rattle.run_book.specs.declared.book.Book.{Book}
-use Rattle.run_record.specs.Led.{LeadTo, exchanged}
-use Rattle.run_record.specs.Ran.{HasFrames}
-use Rattle.run_record.specs.Replay.{first_ring}
-use Rattle.segment_plan.specs.Sound.{IsPlan}
-use Rattle.segment_plan.specs.declared.plan.Scenario.{Scenario}
+use Rattle.gateway_run.specs.of_run_book.declared.book.Book.{Book}
+use Rattle.gateway_run.specs.of_run_record.Led.{LeadTo, exchanged}
+use Rattle.gateway_run.specs.of_run_record.Ran.{HasFrames}
+use Rattle.gateway_run.specs.of_run_record.Replay.{first_ring}
+use Rattle.run_promises.specs.of_segment_plan.Sound.{IsPlan}
+use Rattle.run_promises.specs.of_segment_plan.declared.plan.Scenario.{Scenario}
 use Rattle.run_promises.proofs.Accepted.{all_unpassed}
-use Rattle.life_runs.specs.Served.{IsRunOf, IsServedLed, Serves, all_serve}
+use Rattle.run_promises.specs.of_life_runs.Served.{IsRunOf, IsServedLed, Serves, all_serve}
 
 -- each run of a plan is a serving
 abbrev pub RunsServe : Scenario → Type 0

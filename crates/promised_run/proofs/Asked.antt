@@ -3,19 +3,19 @@ use Rattle.std.proofs.Common.{◌≡◌, ◌≤◌, ◌+◌, ℕ, zero, suc, tru
 use Rattle.std.specs.Prelude.{All, Ok, Some, replicate}
 use Rattle.std.proofs.lemmas.List.{length-map}
 use Rattle.std.proofs.lemmas.List.Elements.{All-nil, All-cons, All-head, All-tail, All-pop, All-push, All-replicate}
-use Rattle.few_replies.specs.Packets.{is_fair}
+use Rattle.seen_slaves.specs.of_few_replies.Packets.{is_fair}
 use Rattle.gateway_run.specs.Account.{Course, Course.begins, Course.hears, Course.steps, Judges, Judges.ignored as is_ignored, Judges.refused as is_refused, Judges.too_many, Judges.queues, Owing}
 use Rattle.gateway_run.specs.declared.desk.Request.{Request}
-use Rattle.mailbox_mail.specs.declared.mail.Mail.{Mail}
-use Rattle.run_book.specs.declared.book.GramIn.{GramIn}
-use Rattle.run_book.specs.declared.book.SentFrame.{SentFrame}
-use Rattle.run_record.specs.of_run_notes.declared.standing.AskedMail.{AskedMail}
-use Rattle.run_record.specs.Served.{as_asked}
-use Rattle.run_record.specs.Session.{SessionState, asked_mail, asked_more}
-use Rattle.run_work.specs.Fair.{AsksFair, IsFairGram}
-use Rattle.run_work.specs.ServedGained.{asked_in}
-use Rattle.segment_plan.specs.declared.plan.Scenario.{Scenario}
-use Rattle.life_runs.specs.Served.{Keyed, Serves}
+use Rattle.gateway_run.specs.of_mailbox_mail.declared.mail.Mail.{Mail}
+use Rattle.gateway_run.specs.of_run_book.declared.book.GramIn.{GramIn}
+use Rattle.gateway_run.specs.of_run_book.declared.book.SentFrame.{SentFrame}
+use Rattle.gateway_run.specs.of_run_notes.declared.standing.AskedMail.{AskedMail}
+use Rattle.gateway_run.specs.of_run_record.Served.{as_asked}
+use Rattle.gateway_run.specs.of_run_record.Session.{SessionState, asked_mail, asked_more}
+use Rattle.run_promises.specs.of_run_work.Fair.{AsksFair, IsFairGram}
+use Rattle.run_promises.specs.of_run_work.ServedGained.{asked_in}
+use Rattle.run_promises.specs.of_segment_plan.declared.plan.Scenario.{Scenario}
+use Rattle.run_promises.specs.of_life_runs.Served.{Keyed, Serves}
 
 -- ---- how many, and how they are
 abbrev pub many : List (List AskedMail) → ℕ

@@ -2,24 +2,24 @@
 use Rattle.std.proofs.Common.{◌≡◌, ◌&&◌, not, ℕ, zero, suc, Bool, true, false, Option, None, Some, Result, Ok, Err, List, [], ◌∷◌, ◌++◌, length, map, refl, sym, ap, ap₂, subst, if◌then◌else◌}
 use Rattle.std.specs.Prelude.{All}
 use Rattle.std.proofs.lemmas.List.Elements.{All-nil, All-cons, All-head, All-tail, All-push, All-replicate}
-use Rattle.few_replies.specs.Packets.{is_fair}
-use Rattle.gateway_core.specs.Gateway.{is_passed, judged, judged_at, place_from}
-use Rattle.gateway_core.specs.declared.asker.Asker.{Asker}
+use Rattle.seen_slaves.specs.of_few_replies.Packets.{is_fair}
+use Rattle.gateway_run.specs.of_gateway_core.Gateway.{is_passed, judged, judged_at, place_from}
+use Rattle.gateway_run.specs.of_gateway_core.declared.asker.Asker.{Asker}
 use Rattle.gateway_run.specs.Account.{Course, Course.begins, Course.hears, Course.steps, Judges, Judges.ignored as is_ignored, Judges.refused as is_refused, Judges.too_many, Judges.queues, Owing}
 use Rattle.gateway_run.specs.declared.desk.Request.{Request}
-use Rattle.mailbox_mail.specs.declared.mail.Kind.{Kind}
-use Rattle.mailbox_mail.specs.declared.mail.Mail.{Mail}
-use Rattle.run_book.specs.declared.book.GramIn.{GramIn}
-use Rattle.run_book.specs.declared.book.SentFrame.{SentFrame}
-use Rattle.run_record.specs.of_run_notes.Notes.{stations_of}
-use Rattle.run_record.specs.of_run_notes.declared.standing.AskedMail.{AskedMail}
-use Rattle.run_record.specs.Served.{as_asked}
-use Rattle.run_record.specs.Session.{SessionState, asked_mail, asked_more}
-use Rattle.run_work.specs.Fair.{AsksFair}
-use Rattle.segment_plan.specs.declared.plan.Scenario.{Scenario}
+use Rattle.gateway_run.specs.of_mailbox_mail.declared.mail.Kind.{Kind}
+use Rattle.gateway_run.specs.of_mailbox_mail.declared.mail.Mail.{Mail}
+use Rattle.gateway_run.specs.of_run_book.declared.book.GramIn.{GramIn}
+use Rattle.gateway_run.specs.of_run_book.declared.book.SentFrame.{SentFrame}
+use Rattle.gateway_run.specs.of_run_notes.Notes.{stations_of}
+use Rattle.gateway_run.specs.of_run_notes.declared.standing.AskedMail.{AskedMail}
+use Rattle.gateway_run.specs.of_run_record.Served.{as_asked}
+use Rattle.gateway_run.specs.of_run_record.Session.{SessionState, asked_mail, asked_more}
+use Rattle.run_promises.specs.of_run_work.Fair.{AsksFair}
+use Rattle.run_promises.specs.of_segment_plan.declared.plan.Scenario.{Scenario}
 use Rattle.run_promises.specs.Sends.{is_network, of_network}
 use Rattle.run_promises.specs.Quiet.{AsksQuiet, is_quiet}
-use Rattle.life_runs.specs.Served.{Keyed, Serves}
+use Rattle.run_promises.specs.of_life_runs.Served.{Keyed, Serves}
 use Rattle.slab.specs.Slab.{Slab}
 
 -- one that was judged so is of such a protocol

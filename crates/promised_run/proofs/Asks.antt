@@ -1,14 +1,14 @@
 -- WHAT A MASTER'S FRAME ASKS is what the count of frames speaks of.
 use Rattle.std.proofs.Common.{◌≡◌, false, Bool, List, [], ◌∷◌, refl}
-use Rattle.link_mails.specs.Body.{Body}
-use Rattle.link_model.specs.Frames.{in_ask}
-use Rattle.link_model.specs.Master.{InState, InHalf}
-use Rattle.life_runs.specs.Led.{Turn}
-use Rattle.run_book.specs.of_master_node.Asks as Master
-use Rattle.run_book.specs.of_master_node.of_master_side.Carried.{is_clear}
-use Rattle.segment_model.specs.Slaves.{Datagram}
-use Rattle.run_frames.specs.Answers.{AsksHalf, EachAsks, AllAsk}
-use Rattle.life_model.specs.Own.{own}
+use Rattle.run_promises.specs.of_link_mails.Body.{Body}
+use Rattle.run_promises.specs.of_link_model.Frames.{in_ask}
+use Rattle.run_promises.specs.of_link_model.Master.{InState, InHalf}
+use Rattle.run_promises.specs.of_life_runs.Led.{Turn}
+use Rattle.run_promises.specs.of_master_node.Asks as Master
+use Rattle.seen_slaves.specs.of_master_side.Carried.{is_clear}
+use Rattle.run_promises.specs.of_segment_model.Slaves.{Datagram}
+use Rattle.seen_slaves.specs.of_run_frames.Answers.{AsksHalf, EachAsks, AllAsk}
+use Rattle.run_promises.specs.of_life_model.Own.{own}
 
 half_asks : (state : InState) (bit : Bool) (d : Datagram Body) → (is_clear state ≡ false → d.gram.ask ≡ in_ask state bit) → AsksHalf state bit d.gram.ask
 half_asks InState.Clear bit d h = tt

@@ -4,21 +4,21 @@ use Rattle.std.specs.Prelude.{◌||◌, slice_get, All, ⊤}
 use Rattle.std.proofs.lemmas.Bool.{eqb-true}
 use Rattle.std.proofs.lemmas.List.Elements.{All-head, All-tail}
 use Rattle.arrayvec.specs.ArrayVec.{ArrayVec}
-use Rattle.eoe_switch.specs.Switch.{Switched, Flow, flow_behind, flow_of, switched, changed, queue_of, queue_at}
-use Rattle.eoe_switch.specs.declared.port.Port.{Port}
-use Rattle.eoe_switch.specs.declared.switching.SwitchEvent.{SwitchEvent}
-use Rattle.eoe_switch.specs.declared.switching.SwitchEvent.TheVariants.{Arrive, Begun, Down}
-use Rattle.life_runs.specs.Led.{Exchanged, Turn}
-use Rattle.run_book.specs.of_master_node.Begins.{begun_of, switch_on, switch_behind, taken_in}
-use Rattle.run_book.specs.of_master_node.Forwards.{port_by, waiting_by}
-use Rattle.run_book.specs.of_master_node.Made.{IsOfMaking}
-use Rattle.run_book.specs.of_master_node.Ports.{ports_behind, ports_of}
-use Rattle.run_record.specs.of_packets_heard.Over.{packet_begun}
-use Rattle.run_record.proofs.of_packets_heard.Follows.{all_at, flow_switch}
-use Rattle.run_record.proofs.of_packets_heard.PacketsRuns.{frame_all}
-use Rattle.run_record.proofs.of_packets_heard.Owns.{own_port}
-use Rattle.run_record.specs.of_packets_heard.Recalled.{AtSwitch, enters, has_entered}
-use Rattle.segment_plan.specs.declared.plan.Scenario.{Scenario}
+use Rattle.run_promises.specs.of_eoe_switch.Switch.{Switched, Flow, flow_behind, flow_of, switched, changed, queue_of, queue_at}
+use Rattle.run_promises.specs.of_eoe_switch.declared.port.Port.{Port}
+use Rattle.run_promises.specs.of_eoe_switch.declared.switching.SwitchEvent.{SwitchEvent}
+use Rattle.run_promises.specs.of_eoe_switch.declared.switching.SwitchEvent.TheVariants.{Arrive, Begun, Down}
+use Rattle.run_promises.specs.of_life_runs.Led.{Exchanged, Turn}
+use Rattle.run_promises.specs.of_master_node.Begins.{begun_of, switch_on, switch_behind, taken_in}
+use Rattle.run_promises.specs.of_master_node.Forwards.{port_by, waiting_by}
+use Rattle.run_promises.specs.of_master_node.Made.{IsOfMaking}
+use Rattle.run_promises.specs.of_master_node.Ports.{ports_behind, ports_of}
+use Rattle.run_promises.specs.of_packets_heard.Over.{packet_begun}
+use Rattle.run_promises.proofs.of_packets_heard.Follows.{all_at, flow_switch}
+use Rattle.run_promises.proofs.of_packets_heard.PacketsRuns.{frame_all}
+use Rattle.run_promises.proofs.of_packets_heard.Owns.{own_port}
+use Rattle.run_promises.specs.of_packets_heard.Recalled.{AtSwitch, enters, has_entered}
+use Rattle.run_promises.specs.of_segment_plan.declared.plan.Scenario.{Scenario}
 use Rattle.promised_run.specs.Runs.{waiting_at}
 
 -- ---- a port that is changed

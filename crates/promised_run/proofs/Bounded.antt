@@ -2,14 +2,14 @@
 use Rattle.std.proofs.Common.{◌≡◌, ◌≢◌, ◌<◌, ◌≤◌, length, refl, sym, subst, arith}
 use Rattle.promised_run.specs.Bounded.{IsBounded}
 use Rattle.promised_run.proofs.Few.{outlived}
-use Rattle.run_book.specs.declared.book.Book.{Book}
-use Rattle.run_book.specs.declared.book.Ending.{Ending}
-use Rattle.run_book.specs.declared.book.Ending.TheVariants as endings
-use Rattle.run_record.specs.Led.{LedBook}
-use Rattle.run_record.specs.Ran.{HasFrames, EndsAs}
-use Rattle.run_record.specs.Session.{budget_of}
-use Rattle.segment_plan.specs.Bound.{bound_of}
-use Rattle.segment_plan.specs.declared.plan.Scenario.{Scenario}
+use Rattle.gateway_run.specs.of_run_book.declared.book.Book.{Book}
+use Rattle.gateway_run.specs.of_run_book.declared.book.Ending.{Ending}
+use Rattle.gateway_run.specs.of_run_book.declared.book.Ending.TheVariants as endings
+use Rattle.gateway_run.specs.of_run_record.Led.{LedBook}
+use Rattle.gateway_run.specs.of_run_record.Ran.{HasFrames, EndsAs}
+use Rattle.gateway_run.specs.of_run_record.Session.{budget_of}
+use Rattle.run_promises.specs.of_segment_plan.Bound.{bound_of}
+use Rattle.run_promises.specs.of_segment_plan.declared.plan.Scenario.{Scenario}
 
 ends_done : (plan : Scenario) (book : Book) (ending : Ending) → EndsAs plan book ending → ending ≢ endings.BudgetSpent → ending ≢ endings.GivenUp → ending ≢ endings.NoMemory → ending ≡ endings.Done
 ends_done plan book endings.Done ends cut given memory = refl

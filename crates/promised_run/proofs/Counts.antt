@@ -1,14 +1,14 @@
 -- Frames that were lost, and packets of the host that came in.
 use Rattle.std.proofs.Common.{◌≡◌, ◌≤◌, ℕ, suc, ◌+◌, ◌==◌, Bool, true, false, List, [], ◌∷◌, ◌++◌, length, ap, ◌∙◌, arith, if◌then◌else◌, length-append}
 use Rattle.std.specs.Prelude.{◌||◌}
-use Rattle.eoe_switch.specs.declared.switching.SwitchEvent.{SwitchEvent}
-use Rattle.eoe_switch.specs.declared.switching.SwitchEvent.TheVariants.{Arrive, Begun, Down}
-use Rattle.life_runs.specs.Led.{Exchanged}
-use Rattle.run_book.specs.of_master_node.Happened.{arrivals_at, arrived_by}
-use Rattle.run_record.proofs.of_packets_heard.Ports.{arrivals_append}
-use Rattle.run_record.specs.of_packets_heard.Recalled.{enters, has_entered}
-use Rattle.run_frames.specs.Fates.{lost_by, lost_of}
-use Rattle.segment_ring.specs.declared.wire.Fate.TheVariants.{Lost}
+use Rattle.run_promises.specs.of_eoe_switch.declared.switching.SwitchEvent.{SwitchEvent}
+use Rattle.run_promises.specs.of_eoe_switch.declared.switching.SwitchEvent.TheVariants.{Arrive, Begun, Down}
+use Rattle.run_promises.specs.of_life_runs.Led.{Exchanged}
+use Rattle.run_promises.specs.of_master_node.Happened.{arrivals_at, arrived_by}
+use Rattle.run_promises.proofs.of_packets_heard.Ports.{arrivals_append}
+use Rattle.run_promises.specs.of_packets_heard.Recalled.{enters, has_entered}
+use Rattle.seen_slaves.specs.of_run_frames.Fates.{lost_by, lost_of}
+use Rattle.run_promises.specs.of_segment_ring.declared.wire.Fate.TheVariants.{Lost}
 
 pub lost_append : (fs : List Exchanged) (f : Exchanged) → lost_of (fs ++ f ∷ []) ≡ lost_of fs + lost_by f.fate
 lost_append [] f = let sum : lost_by f.fate + 0 ≡ 0 + lost_by f.fate = omega arith in sum

@@ -6,38 +6,38 @@ use Rattle.promised_run.proofs.Frames.{gets_one, none_is}
 use Rattle.promised_run.proofs.Maps.{full_is, memory, memory_behind_is}
 use Rattle.promised_run.proofs.Rests.{at_port}
 use Rattle.promised_run.proofs.Scripts.{AllMay, MayAll, none_left}
-use Rattle.datagrams.specs.Datagram as Raw
+use Rattle.run_promises.specs.of_datagrams.Datagram as Raw
 use Rattle.promised_run.specs.Eager.{has_mail, remembers}
 use Rattle.promised_run.proofs.EagerMaps.{each_asks, hand_held, memory_same, visit_is}
-use Rattle.eoe_switch.specs.declared.switching.SwitchEvent.{SwitchEvent}
-use Rattle.frame_view.specs.View.{Lens}
-use Rattle.idle_slaves.specs.Eager as Eager
-use Rattle.idle_slaves.specs.Eager.{AllEager, AllGetNone, AllRemember, IsAtEnd, IsClear, IsDraining, IsEager, IsInVain, MayBegin, NoneLeft, Remembered, RemembersOn}
-use Rattle.idle_slaves.specs.Visited.{life_visit, memory_of}
-use Rattle.idle_slaves.specs.Waiting.{memory_behind}
-use Rattle.idle_slaves.proofs.Choices.{stand_next}
-use Rattle.life_model.specs.Lives.{Life, Spot, Stand}
-use Rattle.life_model.specs.Own.{own}
-use Rattle.life_runs.specs.First.{lens_of}
-use Rattle.life_runs.specs.Led.{Exchanged, speech_at}
-use Rattle.link_mails.specs.Body.{Body}
-use Rattle.master_duty.specs.Reply.{Reply}
-use Rattle.master_hand.specs.Spoken.{Asked, acknowledged, is_followed, is_passed}
-use Rattle.run_book.specs.of_master_node.Begins.{begun_of}
-use Rattle.run_book.specs.of_master_node.Eager as Master
-use Rattle.run_book.specs.of_master_node.Recalled.{AllKnow}
-use Rattle.run_book.specs.of_master_node.ServedEager.{AllServedAsk, AllServedBegin, AllServedRecall, AllServedStill, ServedBegins, ServedRecallsBack, ServedVisitAsks}
-use Rattle.run_book.specs.of_master_node.Starts as Starts
-use Rattle.run_book.specs.of_master_node.declared.lan.Lan.{Lan}
-use Rattle.master_side.specs.Recall.{Recall}
-use Rattle.run_record.specs.of_packets_heard.Recalled.{IsLanOf}
-use Rattle.segment_model.specs.Slaves.{Datagram}
-use Rattle.segment_plan.specs.declared.plan.Scenario.{Scenario}
-use Rattle.segment_plan.specs.declared.service.Service as Plan
-use Rattle.life_runs.specs.Served.{Keyed, Serves, ServedTurn, ServedComes, IsServedTurn, AllServedTurn, gives_it, served_behind}
-use Rattle.life_runs.specs.Told.{Passed}
+use Rattle.run_promises.specs.of_eoe_switch.declared.switching.SwitchEvent.{SwitchEvent}
+use Rattle.seen_slaves.specs.of_frame_view.View.{Lens}
+use Rattle.seen_slaves.specs.of_idle_slaves.Eager as Eager
+use Rattle.seen_slaves.specs.of_idle_slaves.Eager.{AllEager, AllGetNone, AllRemember, IsAtEnd, IsClear, IsDraining, IsEager, IsInVain, MayBegin, NoneLeft, Remembered, RemembersOn}
+use Rattle.seen_slaves.specs.of_idle_slaves.Visited.{life_visit, memory_of}
+use Rattle.seen_slaves.specs.of_idle_slaves.Waiting.{memory_behind}
+use Rattle.seen_slaves.proofs.of_idle_slaves.Choices.{stand_next}
+use Rattle.run_promises.specs.of_life_model.Lives.{Life, Spot, Stand}
+use Rattle.run_promises.specs.of_life_model.Own.{own}
+use Rattle.run_promises.specs.of_life_runs.First.{lens_of}
+use Rattle.run_promises.specs.of_life_runs.Led.{Exchanged, speech_at}
+use Rattle.run_promises.specs.of_link_mails.Body.{Body}
+use Rattle.seen_slaves.specs.of_master_duty.Reply.{Reply}
+use Rattle.seen_slaves.specs.of_master_hand.Spoken.{Asked, acknowledged, is_followed, is_passed}
+use Rattle.run_promises.specs.of_master_node.Begins.{begun_of}
+use Rattle.run_promises.specs.of_master_node.Eager as Master
+use Rattle.run_promises.specs.of_master_node.Recalled.{AllKnow}
+use Rattle.run_promises.specs.of_master_node.ServedEager.{AllServedAsk, AllServedBegin, AllServedRecall, AllServedStill, ServedBegins, ServedRecallsBack, ServedVisitAsks}
+use Rattle.run_promises.specs.of_master_node.Starts as Starts
+use Rattle.run_promises.specs.of_master_node.declared.lan.Lan.{Lan}
+use Rattle.seen_slaves.specs.of_master_side.Recall.{Recall}
+use Rattle.run_promises.specs.of_packets_heard.Recalled.{IsLanOf}
+use Rattle.run_promises.specs.of_segment_model.Slaves.{Datagram}
+use Rattle.run_promises.specs.of_segment_plan.declared.plan.Scenario.{Scenario}
+use Rattle.run_promises.specs.of_segment_plan.declared.service.Service as Plan
+use Rattle.run_promises.specs.of_life_runs.Served.{Keyed, Serves, ServedTurn, ServedComes, IsServedTurn, AllServedTurn, gives_it, served_behind}
+use Rattle.run_promises.specs.of_life_runs.Told.{Passed}
 use Rattle.seen_slaves.specs.Eager.{AllStill, leads_of, turns_of}
-use Rattle.state_model.specs.Stated.{Service}
+use Rattle.run_promises.specs.of_state_model.Stated.{Service}
 
 module _ (plan : Scenario) where
   abbrev lens : ℕ → Lens

@@ -1,22 +1,22 @@
 -- A slave of a serving by a frame, as its master remembers it and as the count of frames has it.
 use Rattle.std.proofs.Common.{◌≡◌, ℕ, Bool, false, is_some, Option, Some, None, List, [], ◌∷◌, refl, sym, ap, subst}
 use Rattle.promised_run.proofs.Maps.{memory, stage_asks, stage_visit_is, visit_asks}
-use Rattle.exchange_model.specs.Exchange.{Speech}
-use Rattle.idle_slaves.specs.Eager as Eager
-use Rattle.idle_slaves.specs.Eager.{IsDraining}
-use Rattle.idle_slaves.specs.Visited.{memory_next, visit_for}
-use Rattle.idle_slaves.specs.Waiting.{Memory}
-use Rattle.life_model.specs.Lives.{Life, Stand, granted, life_next}
-use Rattle.link_mails.specs.Body.{Body}
-use Rattle.link_model.specs.Link.{Halves}
-use Rattle.master_duty.specs.Reply.{Reply}
-use Rattle.master_hand.specs.Spoken.{Asked, acknowledged, is_followed, is_passed}
-use Rattle.run_book.specs.of_master_node.Eager as Master
-use Rattle.run_book.specs.of_master_node.ServedEager.{mail_visit, visit_next}
-use Rattle.master_side.specs.Recall.{Recall}
-use Rattle.segment_model.specs.Ends.{Passing}
-use Rattle.segment_model.specs.Slaves.{Datagram}
-use Rattle.state_model.specs.Accounts.{Duty, Pick, account_begins}
+use Rattle.run_promises.specs.of_exchange_model.Exchange.{Speech}
+use Rattle.seen_slaves.specs.of_idle_slaves.Eager as Eager
+use Rattle.seen_slaves.specs.of_idle_slaves.Eager.{IsDraining}
+use Rattle.seen_slaves.specs.of_idle_slaves.Visited.{memory_next, visit_for}
+use Rattle.seen_slaves.specs.of_idle_slaves.Waiting.{Memory}
+use Rattle.run_promises.specs.of_life_model.Lives.{Life, Stand, granted, life_next}
+use Rattle.run_promises.specs.of_link_mails.Body.{Body}
+use Rattle.run_promises.specs.of_link_model.Link.{Halves}
+use Rattle.seen_slaves.specs.of_master_duty.Reply.{Reply}
+use Rattle.seen_slaves.specs.of_master_hand.Spoken.{Asked, acknowledged, is_followed, is_passed}
+use Rattle.run_promises.specs.of_master_node.Eager as Master
+use Rattle.run_promises.specs.of_master_node.ServedEager.{mail_visit, visit_next}
+use Rattle.seen_slaves.specs.of_master_side.Recall.{Recall}
+use Rattle.run_promises.specs.of_segment_model.Ends.{Passing}
+use Rattle.run_promises.specs.of_segment_model.Slaves.{Datagram}
+use Rattle.run_promises.specs.of_state_model.Accounts.{Duty, Pick, account_begins}
 
 -- ---- what its datagram asks
 mail_is : (p : Option Passing) (m : Recall) (holding : Bool) → mail_visit p m holding ≡ visit_for None p (memory m) holding

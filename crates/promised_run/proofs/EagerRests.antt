@@ -5,27 +5,27 @@ use Rattle.promised_run.specs.Runs.{is_waiting, waiting_at}
 use Rattle.promised_run.proofs.Rests.{at_port, none_waiting}
 use Rattle.promised_run.proofs.Settled.{settled_back}
 use Rattle.promised_run.specs.Eager.{has_mail, remembers}
-use Rattle.eoe_switch.specs.declared.switching.SwitchEvent.{SwitchEvent}
-use Rattle.frame_view.specs.View.{Lens}
-use Rattle.idle_slaves.specs.WaitEager.{AllRest, IsResting}
-use Rattle.life_runs.specs.First.{lens_of}
-use Rattle.run_book.specs.of_master_node.Recalled.{AllKnow}
-use Rattle.run_book.specs.of_master_node.Resting as Resting
-use Rattle.run_book.specs.of_master_node.ServedEager.{AllServedRest}
-use Rattle.run_book.specs.of_master_node.declared.lan.Lan.{Lan}
-use Rattle.master_side.specs.Recall.{Recall}
-use Rattle.run_record.specs.of_packets_heard.Recalled.{AllSettled, IsLanOf}
-use Rattle.plan_ring.specs.Asked.{asked}
-use Rattle.plan_ring.specs.Plan.{FitsPlan, new_members, step}
-use Rattle.segment_plan.specs.declared.plan.Scenario.{Scenario}
-use Rattle.segment_plan.specs.declared.slave.SlaveSpec.{SlaveSpec}
-use Rattle.life_runs.specs.Served.{Keyed, Serves}
+use Rattle.run_promises.specs.of_eoe_switch.declared.switching.SwitchEvent.{SwitchEvent}
+use Rattle.seen_slaves.specs.of_frame_view.View.{Lens}
+use Rattle.seen_slaves.specs.of_idle_slaves.WaitEager.{AllRest, IsResting}
+use Rattle.run_promises.specs.of_life_runs.First.{lens_of}
+use Rattle.run_promises.specs.of_master_node.Recalled.{AllKnow}
+use Rattle.run_promises.specs.of_master_node.Resting as Resting
+use Rattle.run_promises.specs.of_master_node.ServedEager.{AllServedRest}
+use Rattle.run_promises.specs.of_master_node.declared.lan.Lan.{Lan}
+use Rattle.seen_slaves.specs.of_master_side.Recall.{Recall}
+use Rattle.run_promises.specs.of_packets_heard.Recalled.{AllSettled, IsLanOf}
+use Rattle.seen_slaves.specs.of_plan_ring.Asked.{asked}
+use Rattle.seen_slaves.specs.of_plan_ring.Plan.{FitsPlan, new_members, step}
+use Rattle.run_promises.specs.of_segment_plan.declared.plan.Scenario.{Scenario}
+use Rattle.run_promises.specs.of_segment_plan.declared.slave.SlaveSpec.{SlaveSpec}
+use Rattle.run_promises.specs.of_life_runs.Served.{Keyed, Serves}
 use Rattle.seen_slaves.specs.Eager.{leads_of}
-use Rattle.slave_lives.specs.Lived.{IsBehind}
-use Rattle.slave_server.specs.Serving.{Serving, next_mail}
-use Rattle.slave_server.specs.Spec.{profile_of}
-use Rattle.slave_node.specs.Node.{Node, is_settled}
-use Rattle.whole_ring.specs.Members.{AllLived}
+use Rattle.seen_slaves.specs.of_slave_lives.Lived.{IsBehind}
+use Rattle.run_promises.specs.of_slave_server.Serving.{Serving, next_mail}
+use Rattle.run_promises.specs.of_slave_server.Spec.{profile_of}
+use Rattle.run_promises.specs.of_slave_node.Node.{Node, is_settled}
+use Rattle.seen_slaves.specs.of_whole_ring.Members.{AllLived}
 
 no_mail : (ks : List Keyed) → has_mail ks ≡ false → ks ≡ []
 no_mail [] e = refl

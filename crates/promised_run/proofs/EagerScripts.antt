@@ -2,17 +2,17 @@
 use Rattle.std.proofs.Common.{◌≡◌, ℕ, suc, ◌+◌, Some, List, [], ◌∷◌, ap, ◌∙◌, sym, subst, arith}
 use Rattle.std.specs.Prelude.{slice_get}
 use Rattle.promised_run.proofs.Scripts.{AllMay, MayAll, lens_at}
-use Rattle.life_runs.specs.First.{AreApart, lens_of, script_for}
-use Rattle.life_runs.proofs.First.{have_lens}
-use Rattle.plan_ring.specs.PlanRooms.{MayBegin}
-use Rattle.segment_plan.specs.declared.plan.Scenario.{Scenario}
-use Rattle.segment_plan.specs.declared.service.Service as Plan
-use Rattle.segment_plan.specs.declared.slave.SlaveSpec.{SlaveSpec}
-use Rattle.served_rings.specs.Rings.{AllServedAt, IsServedAt}
-use Rattle.life_runs.specs.Served.{Serves}
+use Rattle.run_promises.specs.of_life_runs.First.{AreApart, lens_of, script_for}
+use Rattle.gateway_run.proofs.of_life_runs.First.{have_lens}
+use Rattle.seen_slaves.specs.of_plan_ring.PlanRooms.{MayBegin}
+use Rattle.run_promises.specs.of_segment_plan.declared.plan.Scenario.{Scenario}
+use Rattle.run_promises.specs.of_segment_plan.declared.service.Service as Plan
+use Rattle.run_promises.specs.of_segment_plan.declared.slave.SlaveSpec.{SlaveSpec}
+use Rattle.seen_slaves.specs.of_served_rings.Rings.{AllServedAt, IsServedAt}
+use Rattle.run_promises.specs.of_life_runs.Served.{Serves}
 use Rattle.seen_slaves.specs.Eager.{leads_of}
-use Rattle.slave_server.specs.Serving.{Serving}
-use Rattle.slave_node.specs.Node.{Node}
+use Rattle.run_promises.specs.of_slave_server.Serving.{Serving}
+use Rattle.run_promises.specs.of_slave_node.Node.{Node}
 
 module _ (plan : Scenario) (apart : AreApart plan.slaves) (law : (place : ℕ) (s : SlaveSpec) → slice_get plan.slaves place ≡ Some s → (k : ℕ) (service : Plan.Service) → slice_get (script_for place plan.services) k ≡ Some service → MayBegin s.out_len service) where
   may_one : (place : ℕ) (s : SlaveSpec) (w : Serves) → IsServedAt plan place s w → slice_get plan.slaves place ≡ Some s → MayAll (lens_of plan.slaves) w.lead

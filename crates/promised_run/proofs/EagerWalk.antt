@@ -12,44 +12,44 @@ use Rattle.promised_run.proofs.EagerFrames.{all_eager, all_remember, gets_none}
 use Rattle.promised_run.proofs.Ranks.{asked_behind, asked_steps, behinds_less, behinds_still, steps_in, turns_in, turns_less}
 use Rattle.promised_run.proofs.EagerRests.{AllBehind, rests_so, settled_so}
 use Rattle.promised_run.proofs.EagerScripts.{may_all}
-use Rattle.frame_view.specs.Seen.{seen}
-use Rattle.frame_view.specs.View.{Lens}
-use Rattle.idle_slaves.specs.Eager.{Remembered}
-use Rattle.idle_slaves.specs.WaitEager.{AllRest}
-use Rattle.life_runs.specs.First.{AreApart, first_leads, lens_of}
-use Rattle.life_runs.specs.Led.{Exchanged, gives_up_at, missed_behind}
-use Rattle.link_mails.specs.Body.{Body}
-use Rattle.master_duty.specs.Reply.{Reply}
-use Rattle.master_hand.specs.Spoken.{Asked}
-use Rattle.run_book.specs.of_master_node.Happened.{arrivals_at}
-use Rattle.run_book.specs.of_master_node.Recalled.{AllKnow}
-use Rattle.run_book.specs.of_master_node.Serving.{run_lead}
-use Rattle.run_book.specs.of_master_node.Shows.{is_opening_lead}
-use Rattle.run_book.specs.of_master_node.of_master_tour.Toured.{Tour, goes_on}
-use Rattle.run_record.specs.of_packets_heard.Recalled.{AllSettled, IsFirst, State, has_entered}
-use Rattle.run_record.specs.of_packets_heard.Served as Visits
-use Rattle.run_record.specs.of_packets_heard.ServedRecalled.{IsServedRecalled, ServedRecalledIn}
-use Rattle.run_record.specs.of_packets_heard.Toured.{tour_behind}
-use Rattle.plan_ring.specs.Round.{AllRound, behind, ring_after, ring_of}
-use Rattle.plan_ring.proofs.Lives.{front_round, one_after}
-use Rattle.run_frames.specs.Clocks.{Clocked}
-use Rattle.run_frames.specs.Fates.{lost_of}
-use Rattle.run_frames.specs.Runs.{Progress, nothing_sent}
-use Rattle.run_frames.specs.Tours.{IsVisited}
-use Rattle.run_frames.specs.Waits.{Waits, all_anew}
-use Rattle.run_work.specs.ServedGained.{asked_in}
-use Rattle.run_record.proofs.Knowing.{all_known, lost_due}
-use Rattle.segment_plan.specs.declared.plan.Scenario.{Scenario}
-use Rattle.segment_ring.specs.Ring.{RingState}
-use Rattle.segment_ring.specs.declared.wire.Fate.{Fate}
-use Rattle.segment_ring.specs.declared.wire.Fate.TheVariants.{Pass, Lost}
-use Rattle.run_record.specs.of_served_places.Answered.{ServedAsks}
-use Rattle.run_record.specs.of_served_places.Toured.{IsServedToured, back_under, first_served, serves_on, still_served, waits_served}
-use Rattle.served_rings.specs.Rings.{AreServedLived}
-use Rattle.life_runs.specs.Served.{Keyed, MayAsk, Serves, ServedTurn, IsServedFrame, IsServedLed, all_serve, asked_at, served_behind}
+use Rattle.seen_slaves.specs.of_frame_view.Seen.{seen}
+use Rattle.seen_slaves.specs.of_frame_view.View.{Lens}
+use Rattle.seen_slaves.specs.of_idle_slaves.Eager.{Remembered}
+use Rattle.seen_slaves.specs.of_idle_slaves.WaitEager.{AllRest}
+use Rattle.run_promises.specs.of_life_runs.First.{AreApart, first_leads, lens_of}
+use Rattle.run_promises.specs.of_life_runs.Led.{Exchanged, gives_up_at, missed_behind}
+use Rattle.run_promises.specs.of_link_mails.Body.{Body}
+use Rattle.seen_slaves.specs.of_master_duty.Reply.{Reply}
+use Rattle.seen_slaves.specs.of_master_hand.Spoken.{Asked}
+use Rattle.run_promises.specs.of_master_node.Happened.{arrivals_at}
+use Rattle.run_promises.specs.of_master_node.Recalled.{AllKnow}
+use Rattle.run_promises.specs.of_master_node.Serving.{run_lead}
+use Rattle.run_promises.specs.of_master_node.Shows.{is_opening_lead}
+use Rattle.run_promises.specs.of_master_tour.Toured.{Tour, goes_on}
+use Rattle.run_promises.specs.of_packets_heard.Recalled.{AllSettled, IsFirst, State, has_entered}
+use Rattle.run_promises.specs.of_packets_heard.Served as Visits
+use Rattle.run_promises.specs.of_packets_heard.ServedRecalled.{IsServedRecalled, ServedRecalledIn}
+use Rattle.run_promises.specs.of_packets_heard.Toured.{tour_behind}
+use Rattle.seen_slaves.specs.of_plan_ring.Round.{AllRound, behind, ring_after, ring_of}
+use Rattle.seen_slaves.proofs.of_plan_ring.Lives.{front_round, one_after}
+use Rattle.seen_slaves.specs.of_run_frames.Clocks.{Clocked}
+use Rattle.seen_slaves.specs.of_run_frames.Fates.{lost_of}
+use Rattle.seen_slaves.specs.of_run_frames.Runs.{Progress, nothing_sent}
+use Rattle.seen_slaves.specs.of_run_frames.Tours.{IsVisited}
+use Rattle.seen_slaves.specs.of_run_frames.Waits.{Waits, all_anew}
+use Rattle.run_promises.specs.of_run_work.ServedGained.{asked_in}
+use Rattle.gateway_run.proofs.of_run_record.Knowing.{all_known, lost_due}
+use Rattle.run_promises.specs.of_segment_plan.declared.plan.Scenario.{Scenario}
+use Rattle.run_promises.specs.of_segment_ring.Ring.{RingState}
+use Rattle.run_promises.specs.of_segment_ring.declared.wire.Fate.{Fate}
+use Rattle.run_promises.specs.of_segment_ring.declared.wire.Fate.TheVariants.{Pass, Lost}
+use Rattle.seen_slaves.specs.of_served_places.Answered.{ServedAsks}
+use Rattle.seen_slaves.specs.of_served_places.Toured.{IsServedToured, back_under, first_served, serves_on, still_served, waits_served}
+use Rattle.seen_slaves.specs.of_served_rings.Rings.{AreServedLived}
+use Rattle.run_promises.specs.of_life_runs.Served.{Keyed, MayAsk, Serves, ServedTurn, IsServedFrame, IsServedLed, all_serve, asked_at, served_behind}
 use Rattle.seen_slaves.specs.Eager.{AllStaySo, AllStill, IsServedEager, ServedEagerIn, leads_of, turns_of}
-use Rattle.slave_server.specs.Serving.{Serving}
-use Rattle.slave_node.specs.Node.{Node}
+use Rattle.run_promises.specs.of_slave_server.Serving.{Serving}
+use Rattle.run_promises.specs.of_slave_node.Node.{Node}
 use Rattle.promised_run.proofs.TouredTours.{FramesIn, Stays}
 
 abbrev Slave : Type 0

@@ -1,10 +1,10 @@
 -- THE EMERGENCIES OF A BOOK, slave by slave.
 use Rattle.std.proofs.Common.{◌≡◌, List, [], ◌∷◌, map}
-use Rattle.run_record.specs.AcceptedMails.{Accepted, AllNoted, emergencies_of}
+use Rattle.gateway_run.specs.of_run_record.AcceptedMails.{Accepted, AllNoted, emergencies_of}
 use Rattle.promised_run.specs.Emergencies.{AllHaveEmergencies}
-use Rattle.run_book.specs.declared.book.Emergency.{Emergency}
-use Rattle.run_book.specs.declared.book.SlaveBook.{SlaveBook}
-use Rattle.run_record.specs.of_run_notes.Heard.{emergencies_in}
+use Rattle.gateway_run.specs.of_run_book.declared.book.Emergency.{Emergency}
+use Rattle.gateway_run.specs.of_run_book.declared.book.SlaveBook.{SlaveBook}
+use Rattle.gateway_run.specs.of_run_notes.Heard.{emergencies_in}
 
 heads : (x y : List Emergency) (xs ys : List (List Emergency)) → x ∷ xs ≡ y ∷ ys → x ≡ y
 heads x y xs ys e = cc

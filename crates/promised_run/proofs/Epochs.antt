@@ -1,14 +1,14 @@
 -- THE EPOCHS OF A BOOK have their causes, and open their states, by the give-ups of the book.
 use Rattle.std.proofs.Common.{◌≡◌, ℕ, None, List, [], ◌∷◌, ◌++◌, map, sym, subst}
-use Rattle.life_runs.proofs.Causes.{all_end}
-use Rattle.life_runs.specs.of_frame_view.Shares.{AllBoth}
-use Rattle.life_runs.specs.Led.{Leads}
-use Rattle.life_runs.specs.Opened.{AllOpenIn, AllOpenTheirs}
-use Rattle.run_book.specs.of_master_node.Wants.{gave_of}
+use Rattle.gateway_run.proofs.of_life_runs.Causes.{all_end}
+use Rattle.seen_slaves.specs.of_frame_view.Shares.{AllBoth}
+use Rattle.run_promises.specs.of_life_runs.Led.{Leads}
+use Rattle.run_promises.specs.of_life_runs.Opened.{AllOpenIn, AllOpenTheirs}
+use Rattle.run_promises.specs.of_master_node.Wants.{gave_of}
 use Rattle.promised_run.specs.Epochs.{AllCaused}
-use Rattle.run_book.specs.declared.book.SlaveBook.{SlaveBook}
-use Rattle.run_record.specs.of_run_notes.Epochs.{HasEpochs}
-use Rattle.run_record.specs.of_run_notes.Slaves.{gaves_in}
+use Rattle.gateway_run.specs.of_run_book.declared.book.SlaveBook.{SlaveBook}
+use Rattle.gateway_run.specs.of_run_notes.Epochs.{HasEpochs}
+use Rattle.gateway_run.specs.of_run_notes.Slaves.{gaves_in}
 
 heads : (x y : List ℕ) (xs ys : List (List ℕ)) → x ∷ xs ≡ y ∷ ys → x ≡ y
 heads x y xs ys e = cc

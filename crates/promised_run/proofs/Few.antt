@@ -3,40 +3,40 @@ use Rattle.std.proofs.Common.{◌≡◌, ◌≢◌, ℕ, suc, ◌+◌, ◌-◌, 
 use Rattle.std.specs.Prelude.{◌==◌, ◌&&◌, ◌||◌, nat_lt, not, if◌then◌else◌, ⊤}
 use Rattle.std.proofs.lemmas.Bool.{ltb-true, ltb-false}
 use Rattle.std.proofs.lemmas.List.{length-append}
-use Rattle.life_runs.specs.of_datagrams.Datagram as Raw
-use Rattle.segment_plan.specs.of_exchange_model.Exchange.{Speech}
-use Rattle.life_runs.specs.of_frame_view.View.{Lens}
-use Rattle.life_runs.specs.of_frame_view.Seen.{seen}
-use Rattle.life_runs.specs.of_frame_view.Shares.{came_at}
-use Rattle.run_frames.specs.of_life_model.Lives.{Spot, Life, Stand, Opening, life_next, life_back, life_lost, era_back, opening_back, shows_clear, is_shown, last_step, clears, opens, steps_on, reopens, reopens_at, reopening, opens_state, returns_to_init}
-use Rattle.life_runs.specs.First.{lens_of, first_leads, leads_from}
-use Rattle.life_runs.specs.Led.{Exchanged, Leads, Turn, AllTurn, IsLed, is_passed, speech_at, led_behind, life_behind, gives_up_at, missed_behind}
-use Rattle.life_runs.specs.of_link_mails.Body.{Body}
-use Rattle.life_runs.specs.of_master_duty.Reply.{Reply}
-use Rattle.life_runs.specs.of_master_hand.Spoken.{Asked, acknowledged, is_followed}
-use Rattle.run_frames.specs.of_segment_model.Record.{News}
-use Rattle.run_frames.specs.of_segment_model.Slaves.{Datagram, Found}
-use Rattle.segment_plan.specs.declared.plan.Scenario.{Scenario}
-use Rattle.segment_plan.specs.declared.service.Service as Plan
-use Rattle.segment_plan.specs.declared.slave.SlaveSpec.{SlaveSpec}
-use Rattle.life_runs.specs.of_segment_ring.Schedule.{fate_at}
-use Rattle.life_runs.specs.of_segment_ring.declared.wire.Fate.{Fate}
-use Rattle.life_runs.specs.of_segment_ring.declared.wire.Fate.TheVariants.{Pass, Lost}
-use Rattle.run_frames.specs.of_state_model.Accounts.{Duty, Stage, Pick}
-use Rattle.run_book.specs.declared.book.Book.{Book}
-use Rattle.run_book.specs.declared.book.Ending.{Ending}
-use Rattle.run_book.specs.declared.book.Ending.TheVariants as endings
-use Rattle.run_book.specs.declared.book.SentFrame.{SentFrame}
-use Rattle.run_book.specs.declared.book.SlaveBook.{SlaveBook}
-use Rattle.run_book.specs.of_master_node.Wants.{gave_of}
-use Rattle.run_record.specs.Led.{exchanged, LedBook}
-use Rattle.run_record.specs.of_run_notes.Slaves.{gaves_in}
-use Rattle.run_record.specs.Ran.{HasFrames, EndsAs}
-use Rattle.run_record.specs.Replay.{first_ring, behind as ring_next, AreRecorded}
-use Rattle.run_record.specs.Session.{some_given_up}
-use Rattle.life_runs.specs.of_segment_ring.Ring.{RingState}
-use Rattle.run_book.specs.of_slave_server.declared.server.SlaveServer.{SlaveServer}
-use Rattle.run_book.specs.of_slave_node.Node.{Node}
+use Rattle.run_promises.specs.of_datagrams.Datagram as Raw
+use Rattle.run_promises.specs.of_exchange_model.Exchange.{Speech}
+use Rattle.seen_slaves.specs.of_frame_view.View.{Lens}
+use Rattle.seen_slaves.specs.of_frame_view.Seen.{seen}
+use Rattle.seen_slaves.specs.of_frame_view.Shares.{came_at}
+use Rattle.run_promises.specs.of_life_model.Lives.{Spot, Life, Stand, Opening, life_next, life_back, life_lost, era_back, opening_back, shows_clear, is_shown, last_step, clears, opens, steps_on, reopens, reopens_at, reopening, opens_state, returns_to_init}
+use Rattle.run_promises.specs.of_life_runs.First.{lens_of, first_leads, leads_from}
+use Rattle.run_promises.specs.of_life_runs.Led.{Exchanged, Leads, Turn, AllTurn, IsLed, is_passed, speech_at, led_behind, life_behind, gives_up_at, missed_behind}
+use Rattle.run_promises.specs.of_link_mails.Body.{Body}
+use Rattle.seen_slaves.specs.of_master_duty.Reply.{Reply}
+use Rattle.seen_slaves.specs.of_master_hand.Spoken.{Asked, acknowledged, is_followed}
+use Rattle.run_promises.specs.of_segment_model.Record.{News}
+use Rattle.run_promises.specs.of_segment_model.Slaves.{Datagram, Found}
+use Rattle.run_promises.specs.of_segment_plan.declared.plan.Scenario.{Scenario}
+use Rattle.run_promises.specs.of_segment_plan.declared.service.Service as Plan
+use Rattle.run_promises.specs.of_segment_plan.declared.slave.SlaveSpec.{SlaveSpec}
+use Rattle.run_promises.specs.of_segment_ring.Schedule.{fate_at}
+use Rattle.run_promises.specs.of_segment_ring.declared.wire.Fate.{Fate}
+use Rattle.run_promises.specs.of_segment_ring.declared.wire.Fate.TheVariants.{Pass, Lost}
+use Rattle.run_promises.specs.of_state_model.Accounts.{Duty, Stage, Pick}
+use Rattle.gateway_run.specs.of_run_book.declared.book.Book.{Book}
+use Rattle.gateway_run.specs.of_run_book.declared.book.Ending.{Ending}
+use Rattle.gateway_run.specs.of_run_book.declared.book.Ending.TheVariants as endings
+use Rattle.gateway_run.specs.of_run_book.declared.book.SentFrame.{SentFrame}
+use Rattle.gateway_run.specs.of_run_book.declared.book.SlaveBook.{SlaveBook}
+use Rattle.run_promises.specs.of_master_node.Wants.{gave_of}
+use Rattle.gateway_run.specs.of_run_record.Led.{exchanged, LedBook}
+use Rattle.gateway_run.specs.of_run_notes.Slaves.{gaves_in}
+use Rattle.gateway_run.specs.of_run_record.Ran.{HasFrames, EndsAs}
+use Rattle.gateway_run.specs.of_run_record.Replay.{first_ring, behind as ring_next, AreRecorded}
+use Rattle.gateway_run.specs.of_run_record.Session.{some_given_up}
+use Rattle.run_promises.specs.of_segment_ring.Ring.{RingState}
+use Rattle.run_promises.specs.of_slave_server.declared.server.SlaveServer.{SlaveServer}
+use Rattle.run_promises.specs.of_slave_node.Node.{Node}
 use Rattle.promised_run.specs.Few.{IsLost, AreFewLost, NoneGivenUp, OutlivesLosses}
 
 -- these frames, from this number on, have the fates of the schedule

@@ -2,28 +2,28 @@
 use Rattle.std.proofs.Common.{◌≡◌, ◌≢◌, ℕ, ◌++◌, ◌<◌, All, List, map, length, arith}
 use Rattle.std.proofs.lemmas.List.{length-map}
 use Rattle.arrayvec.specs.ArrayVec.{ArrayVec}
-use Rattle.eoe_switch.specs.declared.switching.SwitchEvent.{SwitchEvent}
-use Rattle.life_runs.specs.First.{lens_of, first_leads}
-use Rattle.life_runs.specs.Led.{Exchanged, Leads, IsLed}
-use Rattle.link_mails.specs.Body.{Body}
-use Rattle.master_duty.specs.Reply.{Reply}
-use Rattle.master_hand.specs.Spoken.{Asked}
-use Rattle.run_book.specs.of_master_node.Happened.{arrivals_at}
-use Rattle.run_book.specs.of_master_node.Ports.{IsAtPort, ports_behind, ports_of}
-use Rattle.run_record.specs.of_packets_heard.Over.{AreBegun}
-use Rattle.plan_ring.specs.Round.{ring_of, AllRound}
-use Rattle.run_record.specs.of_packets_heard.Listed.{Listed}
-use Rattle.run_book.specs.declared.book.Book.{Book}
-use Rattle.run_book.specs.declared.book.Ending.{Ending}
-use Rattle.run_book.specs.declared.book.Ending.TheVariants as endings
-use Rattle.run_frames.specs.Clocks.{Clocked}
-use Rattle.run_frames.specs.Runs.{Progress}
-use Rattle.run_record.specs.Led.{LedBook, exchanged}
-use Rattle.run_record.specs.Ran.{HasFrames}
-use Rattle.run_work.specs.Bounds.{IsPlanRun}
-use Rattle.run_work.specs.Switched.{AreSwitched}
-use Rattle.segment_plan.specs.Bound.{bound_of}
-use Rattle.segment_plan.specs.declared.plan.Scenario.{Scenario}
+use Rattle.run_promises.specs.of_eoe_switch.declared.switching.SwitchEvent.{SwitchEvent}
+use Rattle.run_promises.specs.of_life_runs.First.{lens_of, first_leads}
+use Rattle.run_promises.specs.of_life_runs.Led.{Exchanged, Leads, IsLed}
+use Rattle.run_promises.specs.of_link_mails.Body.{Body}
+use Rattle.seen_slaves.specs.of_master_duty.Reply.{Reply}
+use Rattle.seen_slaves.specs.of_master_hand.Spoken.{Asked}
+use Rattle.run_promises.specs.of_master_node.Happened.{arrivals_at}
+use Rattle.run_promises.specs.of_master_node.Ports.{IsAtPort, ports_behind, ports_of}
+use Rattle.run_promises.specs.of_packets_heard.Over.{AreBegun}
+use Rattle.seen_slaves.specs.of_plan_ring.Round.{ring_of, AllRound}
+use Rattle.run_promises.specs.of_packets_heard.Listed.{Listed}
+use Rattle.gateway_run.specs.of_run_book.declared.book.Book.{Book}
+use Rattle.gateway_run.specs.of_run_book.declared.book.Ending.{Ending}
+use Rattle.gateway_run.specs.of_run_book.declared.book.Ending.TheVariants as endings
+use Rattle.seen_slaves.specs.of_run_frames.Clocks.{Clocked}
+use Rattle.seen_slaves.specs.of_run_frames.Runs.{Progress}
+use Rattle.gateway_run.specs.of_run_record.Led.{LedBook, exchanged}
+use Rattle.gateway_run.specs.of_run_record.Ran.{HasFrames}
+use Rattle.run_promises.specs.of_run_work.Bounds.{IsPlanRun}
+use Rattle.run_promises.specs.of_run_work.Switched.{AreSwitched}
+use Rattle.run_promises.specs.of_segment_plan.Bound.{bound_of}
+use Rattle.run_promises.specs.of_segment_plan.declared.plan.Scenario.{Scenario}
 
 -- what the laws say
 pub record Laws (plan : Scenario) : Type 0 where

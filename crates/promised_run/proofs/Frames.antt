@@ -2,35 +2,35 @@
 use Rattle.std.proofs.Common.{◌≡◌, ℕ, suc, ◌+◌, true, false, is_some, None, List, [], ◌∷◌, refl, sym, ap, ◌∙◌, subst, arith}
 use Rattle.std.specs.Prelude.{slice_get}
 use Rattle.arrayvec.specs.ArrayVec.{ArrayVec}
-use Rattle.datagrams.specs.Datagram as Raw
-use Rattle.idle_slaves.specs.Eager as Eager
-use Rattle.idle_slaves.specs.Eager.{AllEager, AllGetNone, AllRemember, IsAtEnd, IsClear, IsDraining, IsEager, IsInVain, MayBegin, NoneLeft, Remembered, RemembersOn}
-use Rattle.idle_slaves.proofs.Choices.{stand_next}
-use Rattle.eoe_switch.specs.declared.switching.SwitchEvent.{SwitchEvent}
-use Rattle.frame_view.specs.View.{Lens}
-use Rattle.idle_slaves.specs.Visited.{life_visit, memory_of}
-use Rattle.idle_slaves.specs.Waiting.{memory_behind}
-use Rattle.life_model.specs.Lives.{Life, Spot, Stand}
-use Rattle.life_model.specs.Own.{own}
-use Rattle.life_runs.specs.First.{lens_of}
-use Rattle.life_runs.specs.Led.{Leads, Turn, IsTurn, AllTurn, speech_at, is_passed}
-use Rattle.link_mails.specs.Body.{Body}
-use Rattle.link_model.specs.Frames.{all_accepted}
-use Rattle.master_duty.specs.Reply.{Reply}
-use Rattle.master_hand.specs.Spoken.{Asked, acknowledged, is_followed}
-use Rattle.run_book.specs.of_master_node.Begins.{begun_of}
-use Rattle.run_book.specs.of_master_node.Eager as Master
-use Rattle.run_book.specs.of_master_node.Recalled.{AllKnow, AllRecall, RecallsBack}
-use Rattle.run_book.specs.of_master_node.Starts as Starts
-use Rattle.run_book.specs.of_master_node.declared.lan.Lan.{Lan}
-use Rattle.master_side.specs.Recall.{Recall}
-use Rattle.master_tour.specs.Brings.{accepted_at}
-use Rattle.run_record.specs.of_packets_heard.Recalled.{AllQuiet, AllStill, IsLanOf}
-use Rattle.segment_model.specs.Slaves.{Datagram, grams}
-use Rattle.segment_plan.specs.declared.plan.Scenario.{Scenario}
-use Rattle.idle_slaves.specs.WaitEager.{AllSilent}
-use Rattle.plan_ring.specs.Dues.{AllDue}
-use Rattle.run_record.proofs.Knowing.{lost_due}
+use Rattle.run_promises.specs.of_datagrams.Datagram as Raw
+use Rattle.seen_slaves.specs.of_idle_slaves.Eager as Eager
+use Rattle.seen_slaves.specs.of_idle_slaves.Eager.{AllEager, AllGetNone, AllRemember, IsAtEnd, IsClear, IsDraining, IsEager, IsInVain, MayBegin, NoneLeft, Remembered, RemembersOn}
+use Rattle.seen_slaves.proofs.of_idle_slaves.Choices.{stand_next}
+use Rattle.run_promises.specs.of_eoe_switch.declared.switching.SwitchEvent.{SwitchEvent}
+use Rattle.seen_slaves.specs.of_frame_view.View.{Lens}
+use Rattle.seen_slaves.specs.of_idle_slaves.Visited.{life_visit, memory_of}
+use Rattle.seen_slaves.specs.of_idle_slaves.Waiting.{memory_behind}
+use Rattle.run_promises.specs.of_life_model.Lives.{Life, Spot, Stand}
+use Rattle.run_promises.specs.of_life_model.Own.{own}
+use Rattle.run_promises.specs.of_life_runs.First.{lens_of}
+use Rattle.run_promises.specs.of_life_runs.Led.{Leads, Turn, IsTurn, AllTurn, speech_at, is_passed}
+use Rattle.run_promises.specs.of_link_mails.Body.{Body}
+use Rattle.run_promises.specs.of_link_model.Frames.{all_accepted}
+use Rattle.seen_slaves.specs.of_master_duty.Reply.{Reply}
+use Rattle.seen_slaves.specs.of_master_hand.Spoken.{Asked, acknowledged, is_followed}
+use Rattle.run_promises.specs.of_master_node.Begins.{begun_of}
+use Rattle.run_promises.specs.of_master_node.Eager as Master
+use Rattle.run_promises.specs.of_master_node.Recalled.{AllKnow, AllRecall, RecallsBack}
+use Rattle.run_promises.specs.of_master_node.Starts as Starts
+use Rattle.run_promises.specs.of_master_node.declared.lan.Lan.{Lan}
+use Rattle.seen_slaves.specs.of_master_side.Recall.{Recall}
+use Rattle.run_promises.specs.of_master_tour.Brings.{accepted_at}
+use Rattle.run_promises.specs.of_packets_heard.Recalled.{AllQuiet, AllStill, IsLanOf}
+use Rattle.run_promises.specs.of_segment_model.Slaves.{Datagram, grams}
+use Rattle.run_promises.specs.of_segment_plan.declared.plan.Scenario.{Scenario}
+use Rattle.seen_slaves.specs.of_idle_slaves.WaitEager.{AllSilent}
+use Rattle.seen_slaves.specs.of_plan_ring.Dues.{AllDue}
+use Rattle.gateway_run.proofs.of_run_record.Knowing.{lost_due}
 use Rattle.promised_run.specs.Runs.{is_waiting, remembered, waiting_at}
 use Rattle.promised_run.proofs.Maps.{each_asks, full_is, memory, memory_behind_is, memory_same, visit_is}
 use Rattle.promised_run.proofs.Rests.{at_port}

@@ -2,10 +2,10 @@
 use Rattle.std.proofs.Common.{◌≡◌, ℕ, zero, suc, ◌+◌, Bool, true, false, Option, Some, None, List, [], ◌∷◌, ◌++◌, length, map, refl, sym, ap, ◌∙◌, subst, arith}
 use Rattle.std.specs.Prelude.{option_map, slice_get, All, Ok}
 use Rattle.std.proofs.lemmas.Option.{slice_get-map}
-use Rattle.exchange_model.specs.Exchange.{plain}
-use Rattle.exchange_model.specs.Prefix.{IsPrefixOf}
-use Rattle.exchange_model.specs.Rows.{Row}
-use Rattle.gateway_core.specs.Framing.{request_in}
+use Rattle.run_promises.specs.of_exchange_model.Exchange.{plain}
+use Rattle.run_promises.specs.of_exchange_model.Prefix.{IsPrefixOf}
+use Rattle.run_promises.specs.of_exchange_model.Rows.{Row}
+use Rattle.gateway_run.specs.of_gateway_core.Framing.{request_in}
 use Rattle.gateway_run.proofs.Given.{told_append}
 use Rattle.gateway_run.proofs.Hands.{both_at, rises_apart}
 use Rattle.gateway_run.proofs.Judging.{got_at}
@@ -14,43 +14,43 @@ use Rattle.gateway_run.specs.Replies.{AllDesk, Fares, Fares.dropped, Fares.repli
 use Rattle.gateway_run.specs.Rooms.{AreRising, begun_of, grams_of, owed_for, waiting_of}
 use Rattle.gateway_run.specs.Served.{HasAccount}
 use Rattle.gateway_run.specs.declared.desk.Request.{Request}
-use Rattle.frame_view.specs.Shares.{AllBoth}
-use Rattle.life_model.specs.Lives.{Life}
-use Rattle.life_runs.specs.First.{first_leads, lens_of}
-use Rattle.life_runs.specs.Led.{Exchanged}
-use Rattle.link_mails.specs.Body.{Body}
-use Rattle.mailbox_mail.specs.declared.mail.Mail.{Mail}
-use Rattle.run_book.specs.of_master_node.Wants.{gave_of}
-use Rattle.master_duty.specs.Reply.{Reply}
-use Rattle.master_hand.specs.Spoken.{Asked, emission, passed}
-use Rattle.plan_ring.specs.Lives.{IsKnown}
-use Rattle.plan_ring.specs.Round.{AllRound, behind, ring_of}
+use Rattle.seen_slaves.specs.of_frame_view.Shares.{AllBoth}
+use Rattle.run_promises.specs.of_life_model.Lives.{Life}
+use Rattle.run_promises.specs.of_life_runs.First.{first_leads, lens_of}
+use Rattle.run_promises.specs.of_life_runs.Led.{Exchanged}
+use Rattle.run_promises.specs.of_link_mails.Body.{Body}
+use Rattle.gateway_run.specs.of_mailbox_mail.declared.mail.Mail.{Mail}
+use Rattle.run_promises.specs.of_master_node.Wants.{gave_of}
+use Rattle.seen_slaves.specs.of_master_duty.Reply.{Reply}
+use Rattle.seen_slaves.specs.of_master_hand.Spoken.{Asked, emission, passed}
+use Rattle.seen_slaves.specs.of_plan_ring.Lives.{IsKnown}
+use Rattle.seen_slaves.specs.of_plan_ring.Round.{AllRound, behind, ring_of}
 use Rattle.promised_run.proofs.Rounds.{all_round}
 use Rattle.promised_run.proofs.Through.{RepliesLaw, stood_behind}
 use Rattle.promised_run.specs.Stood.{StoodBehind}
 use Rattle.promised_run.specs.Given.{IsGiven, IsGivenAt, IsGivenTo, IsGivenTo.dropped as is_dropped, IsGivenTo.takes, IsGivenTo.waits as still_waits, IsServedGiven, IsStepOf, mails_given}
-use Rattle.run_book.specs.declared.book.Book.{Book}
-use Rattle.run_book.specs.declared.book.Ending.{Ending}
-use Rattle.run_book.specs.declared.book.GramIn.{GramIn}
-use Rattle.run_book.specs.of_master_tour.Made.{is_in}
+use Rattle.gateway_run.specs.of_run_book.declared.book.Book.{Book}
+use Rattle.gateway_run.specs.of_run_book.declared.book.Ending.{Ending}
+use Rattle.gateway_run.specs.of_run_book.declared.book.GramIn.{GramIn}
+use Rattle.run_promises.specs.of_master_tour.Made.{is_in}
 use Rattle.run_promises.proofs.Known.{known}
-use Rattle.run_record.specs.Led.{exchanged}
-use Rattle.run_record.specs.Ran.{HasSent}
-use Rattle.run_record.specs.Replay.{first_ring, ring_after}
-use Rattle.run_work.specs.Lives.{first_server}
-use Rattle.scenario.specs.Told.{IsTold}
-use Rattle.segment_model.specs.Ends.{Passing}
-use Rattle.segment_plan.specs.Sound.{IsPlan}
-use Rattle.segment_plan.specs.declared.plan.Scenario.{Scenario}
-use Rattle.segment_plan.specs.declared.slave.SlaveSpec.{SlaveSpec}
-use Rattle.segment_ring.specs.Ring.{RingState}
-use Rattle.run_record.specs.of_served_places.Rows.{HearsNoMore, passed_rows, passings, replies_of}
-use Rattle.served_rings.specs.Given.{AllGiven, Given, IsGiven as IsGivenRow, given}
-use Rattle.served_rings.specs.Served.{AllServeSo, IsServedLife, replies_to}
-use Rattle.life_runs.specs.Served.{IsServedFrame, IsServedLed, ServedTurn, Serves, all_serve}
-use Rattle.slave_server.specs.Serving.{Serving}
-use Rattle.slave_server.specs.Spec.{profile_of}
-use Rattle.slave_node.specs.Node.{Node}
+use Rattle.gateway_run.specs.of_run_record.Led.{exchanged}
+use Rattle.gateway_run.specs.of_run_record.Ran.{HasSent}
+use Rattle.gateway_run.specs.of_run_record.Replay.{first_ring, ring_after}
+use Rattle.run_promises.specs.of_run_work.Lives.{first_server}
+use Rattle.run_promises.specs.of_scenario.Told.{IsTold}
+use Rattle.run_promises.specs.of_segment_model.Ends.{Passing}
+use Rattle.run_promises.specs.of_segment_plan.Sound.{IsPlan}
+use Rattle.run_promises.specs.of_segment_plan.declared.plan.Scenario.{Scenario}
+use Rattle.run_promises.specs.of_segment_plan.declared.slave.SlaveSpec.{SlaveSpec}
+use Rattle.run_promises.specs.of_segment_ring.Ring.{RingState}
+use Rattle.seen_slaves.specs.of_served_places.Rows.{HearsNoMore, passed_rows, passings, replies_of}
+use Rattle.seen_slaves.specs.of_served_rings.Given.{AllGiven, Given, IsGiven as IsGivenRow, given}
+use Rattle.seen_slaves.specs.of_served_rings.Served.{AllServeSo, IsServedLife, replies_to}
+use Rattle.run_promises.specs.of_life_runs.Served.{IsServedFrame, IsServedLed, ServedTurn, Serves, all_serve}
+use Rattle.run_promises.specs.of_slave_server.Serving.{Serving}
+use Rattle.run_promises.specs.of_slave_server.Spec.{profile_of}
+use Rattle.run_promises.specs.of_slave_node.Node.{Node}
 
 -- the laws
 abbrev pub StaysLaw : Type 0

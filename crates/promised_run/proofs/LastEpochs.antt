@@ -1,23 +1,23 @@
 -- AN OPEN SLAVE OF A SERVING wasn't given up since its newest epoch began.
 use Rattle.std.proofs.Common.{◌≡◌, ℕ, zero, suc, Bool, List, [], ◌∷◌, ◌++◌, map, length, length-append, subst, arith}
 use Rattle.std.specs.Prelude.{⊤}
-use Rattle.datagrams.specs.Datagram as Raw
-use Rattle.frame_view.specs.Seen.{seen}
-use Rattle.frame_view.specs.View.{Lens}
+use Rattle.run_promises.specs.of_datagrams.Datagram as Raw
+use Rattle.seen_slaves.specs.of_frame_view.Seen.{seen}
+use Rattle.seen_slaves.specs.of_frame_view.View.{Lens}
 use Rattle.gateway_run.specs.Since.{NoneSince}
-use Rattle.life_model.specs.Lives.{Stand}
-use Rattle.life_runs.proofs.Opened.{IsOpened, Now, missed_so, opened_first, returned_so, turned_so}
-use Rattle.life_runs.specs.Causes.{since}
-use Rattle.life_runs.specs.First.{first_leads, leads_from, lens_of}
-use Rattle.life_runs.specs.Led.{Exchanged, gives_up_at, speech_at}
-use Rattle.run_book.specs.of_master_node.Wants.{gave_of}
-use Rattle.master_side.specs.Passing.{news_back, news_lost}
-use Rattle.segment_plan.specs.declared.plan.Scenario.{Scenario}
-use Rattle.segment_plan.specs.declared.service.Service as Row
-use Rattle.segment_plan.specs.declared.slave.SlaveSpec.{SlaveSpec}
-use Rattle.segment_ring.specs.declared.wire.Fate.{Fate}
-use Rattle.segment_ring.specs.declared.wire.Fate.TheVariants.{Lost, Pass}
-use Rattle.life_runs.specs.Served.{AllServedTurn, IsServedLed, Keyed, Serves, ServedTurn, all_serve, asked_at, served_behind, served_life}
+use Rattle.run_promises.specs.of_life_model.Lives.{Stand}
+use Rattle.gateway_run.proofs.of_life_runs.Opened.{IsOpened, Now, missed_so, opened_first, returned_so, turned_so}
+use Rattle.run_promises.specs.of_life_runs.Causes.{since}
+use Rattle.run_promises.specs.of_life_runs.First.{first_leads, leads_from, lens_of}
+use Rattle.run_promises.specs.of_life_runs.Led.{Exchanged, gives_up_at, speech_at}
+use Rattle.run_promises.specs.of_master_node.Wants.{gave_of}
+use Rattle.seen_slaves.specs.of_master_side.Passing.{news_back, news_lost}
+use Rattle.run_promises.specs.of_segment_plan.declared.plan.Scenario.{Scenario}
+use Rattle.run_promises.specs.of_segment_plan.declared.service.Service as Row
+use Rattle.run_promises.specs.of_segment_plan.declared.slave.SlaveSpec.{SlaveSpec}
+use Rattle.run_promises.specs.of_segment_ring.declared.wire.Fate.{Fate}
+use Rattle.run_promises.specs.of_segment_ring.declared.wire.Fate.TheVariants.{Lost, Pass}
+use Rattle.run_promises.specs.of_life_runs.Served.{AllServedTurn, IsServedLed, Keyed, Serves, ServedTurn, all_serve, asked_at, served_behind, served_life}
 
 -- BEHIND SO MANY FRAMES, of each slave
 abbrev pub AllOpened : ℕ → List Serves → Type 0

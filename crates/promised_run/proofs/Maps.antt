@@ -1,22 +1,22 @@
 -- A slave by a frame, as its master remembers it and as the count of frames has it.
 use Rattle.std.proofs.Common.{◌≡◌, Bool, false, is_some, Option, Some, None, List, [], ◌∷◌, refl, sym, ap, ◌∙◌, subst}
-use Rattle.idle_slaves.specs.Eager as Eager
-use Rattle.idle_slaves.specs.Eager.{IsDraining, IsInVain}
-use Rattle.idle_slaves.specs.Visited.{memory_of, memory_next, visit_for}
-use Rattle.idle_slaves.specs.Waiting.{Memory, memory_behind}
-use Rattle.life_model.specs.Visits.{Visit, mails_visit, drain_visit}
-use Rattle.life_model.specs.Lives.{Life}
-use Rattle.link_mails.specs.Body.{Body}
-use Rattle.link_model.specs.Link.{Halves}
-use Rattle.master_duty.specs.Reply.{Reply}
-use Rattle.master_hand.specs.Spoken.{Asked}
-use Rattle.run_book.specs.of_master_node.Eager as Master
-use Rattle.run_book.specs.of_master_node.Eager.{next_visit}
-use Rattle.run_book.specs.of_master_node.Recalled.{IsFull, paused_behind, turn_behind}
-use Rattle.master_side.specs.Recall.{Recall}
-use Rattle.segment_model.specs.Ends.{Passing}
-use Rattle.segment_model.specs.Slaves.{Datagram}
-use Rattle.state_model.specs.Accounts.{Duty, Stage}
+use Rattle.seen_slaves.specs.of_idle_slaves.Eager as Eager
+use Rattle.seen_slaves.specs.of_idle_slaves.Eager.{IsDraining, IsInVain}
+use Rattle.seen_slaves.specs.of_idle_slaves.Visited.{memory_of, memory_next, visit_for}
+use Rattle.seen_slaves.specs.of_idle_slaves.Waiting.{Memory, memory_behind}
+use Rattle.run_promises.specs.of_life_model.Visits.{Visit, mails_visit, drain_visit}
+use Rattle.run_promises.specs.of_life_model.Lives.{Life}
+use Rattle.run_promises.specs.of_link_mails.Body.{Body}
+use Rattle.run_promises.specs.of_link_model.Link.{Halves}
+use Rattle.seen_slaves.specs.of_master_duty.Reply.{Reply}
+use Rattle.seen_slaves.specs.of_master_hand.Spoken.{Asked}
+use Rattle.run_promises.specs.of_master_node.Eager as Master
+use Rattle.run_promises.specs.of_master_node.Eager.{next_visit}
+use Rattle.run_promises.specs.of_master_node.Recalled.{IsFull, paused_behind, turn_behind}
+use Rattle.seen_slaves.specs.of_master_side.Recall.{Recall}
+use Rattle.run_promises.specs.of_segment_model.Ends.{Passing}
+use Rattle.run_promises.specs.of_segment_model.Slaves.{Datagram}
+use Rattle.run_promises.specs.of_state_model.Accounts.{Duty, Stage}
 
 abbrev pub memory : Recall → Memory
 memory m = record { paused = m.paused; turn = m.turn }

@@ -3,42 +3,42 @@ use Rattle.std.proofs.Common.{◌≡◌, ◌≢◌, ℕ, zero, suc, Bool, true, 
 use Rattle.std.specs.Prelude.{All, if◌then◌else◌, slice_get}
 use Rattle.std.proofs.lemmas.List.{map-append}
 use Rattle.std.proofs.lemmas.List.Elements.{All-head, All-tail}
-use Rattle.life_runs.specs.First.{lens_of}
-use Rattle.life_runs.specs.Led.{Exchanged, Leads}
-use Rattle.life_runs.specs.of_frame_view.Shares.{AllBoth}
-use Rattle.life_runs.specs.of_link_mails.Body.{Body}
-use Rattle.life_runs.specs.of_master_duty.Reply.{Reply}
-use Rattle.life_runs.specs.of_master_hand.Spoken.{Asked}
+use Rattle.run_promises.specs.of_life_runs.First.{lens_of}
+use Rattle.run_promises.specs.of_life_runs.Led.{Exchanged, Leads}
+use Rattle.seen_slaves.specs.of_frame_view.Shares.{AllBoth}
+use Rattle.run_promises.specs.of_link_mails.Body.{Body}
+use Rattle.seen_slaves.specs.of_master_duty.Reply.{Reply}
+use Rattle.seen_slaves.specs.of_master_hand.Spoken.{Asked}
 use Rattle.promised_run.specs.Packets.{AllHavePackets}
 use Rattle.promised_run.specs.Numbers.{AllHaveNumbers, eras_rows, given_up_in, life_rows, rows_at, script_frame, script_frames, scripts_at}
 use Rattle.promised_run.proofs.Ports.{first_live}
 use Rattle.promised_run.proofs.Rows.{other_frames, others_append, run_others, run_packets}
-use Rattle.run_book.specs.declared.book.Answer.{Answer}
-use Rattle.run_book.specs.declared.book.Begun.{Begun}
-use Rattle.run_book.specs.declared.book.Book.{Book}
-use Rattle.run_book.specs.declared.book.Ending.{Ending}
-use Rattle.run_book.specs.declared.book.Ending.TheVariants as endings
-use Rattle.run_book.specs.declared.book.SlaveBook.{SlaveBook}
-use Rattle.run_book.specs.of_master_node.Ports.{ports_behind, ports_of}
-use Rattle.run_book.specs.of_master_node.Wants.{gave_of}
-use Rattle.run_book.specs.of_master_node.declared.event.Origin.{Origin}
-use Rattle.run_book.specs.of_master_node.declared.event.Origin.TheVariants.{Script, Forward, Gateway}
-use Rattle.run_record.proofs.of_packets_heard.GivenUp.{numbers_down}
-use Rattle.run_record.proofs.of_packets_heard.Numbers.{numbers_begun, numbers_heard}
-use Rattle.run_record.proofs.of_packets_heard.Quiet.{run_quiet}
-use Rattle.run_record.proofs.of_packets_heard.Owns.{own_port}
-use Rattle.run_record.specs.Led.{LeadTo, ListsAll, NumbersAll}
-use Rattle.run_record.specs.of_run_notes.Slaves.{gaves_in}
-use Rattle.run_record.specs.of_run_notes.Packets.{AreNumbered, begun_in, numbered_from}
-use Rattle.run_record.specs.Ran.{EndsAs, HasRows, IsGivenUp}
-use Rattle.run_record.specs.of_run_notes.Reports.{IsBooked, noted_in, noted_of, reply_in}
-use Rattle.run_record.specs.of_packets_heard.Numbers.{NoneWaits, events_up_to, frames_begun, given_up_at, number_behind}
-use Rattle.run_record.specs.of_run_frames.ScriptAnswers.{AllNoted, Noted, Scripted, changes_behind, era_scripted, eras_scripted, life_scripted, next_opened, opened_anew, scripted_by, scripted_in, scripted_mails, side_answers}
-use Rattle.run_frames.specs.Came.{is_beside}
-use Rattle.run_frames.specs.of_life_model.Lives.{Era, Life}
-use Rattle.run_frames.specs.of_state_model.Stated.{Service}
-use Rattle.run_frames.specs.of_state_model.Accounts.{Change, Started}
-use Rattle.segment_plan.specs.declared.plan.Scenario.{Scenario}
+use Rattle.gateway_run.specs.of_run_book.declared.book.Answer.{Answer}
+use Rattle.gateway_run.specs.of_run_book.declared.book.Begun.{Begun}
+use Rattle.gateway_run.specs.of_run_book.declared.book.Book.{Book}
+use Rattle.gateway_run.specs.of_run_book.declared.book.Ending.{Ending}
+use Rattle.gateway_run.specs.of_run_book.declared.book.Ending.TheVariants as endings
+use Rattle.gateway_run.specs.of_run_book.declared.book.SlaveBook.{SlaveBook}
+use Rattle.run_promises.specs.of_master_node.Ports.{ports_behind, ports_of}
+use Rattle.run_promises.specs.of_master_node.Wants.{gave_of}
+use Rattle.run_promises.specs.of_master_node.declared.event.Origin.{Origin}
+use Rattle.run_promises.specs.of_master_node.declared.event.Origin.TheVariants.{Script, Forward, Gateway}
+use Rattle.run_promises.proofs.of_packets_heard.GivenUp.{numbers_down}
+use Rattle.run_promises.proofs.of_packets_heard.Numbers.{numbers_begun, numbers_heard}
+use Rattle.run_promises.proofs.of_packets_heard.Quiet.{run_quiet}
+use Rattle.run_promises.proofs.of_packets_heard.Owns.{own_port}
+use Rattle.gateway_run.specs.of_run_record.Led.{LeadTo, ListsAll, NumbersAll}
+use Rattle.gateway_run.specs.of_run_notes.Slaves.{gaves_in}
+use Rattle.gateway_run.specs.of_run_notes.Packets.{AreNumbered, begun_in, numbered_from}
+use Rattle.gateway_run.specs.of_run_record.Ran.{EndsAs, HasRows, IsGivenUp}
+use Rattle.gateway_run.specs.of_run_notes.Reports.{IsBooked, noted_in, noted_of, reply_in}
+use Rattle.run_promises.specs.of_packets_heard.Numbers.{NoneWaits, events_up_to, frames_begun, given_up_at, number_behind}
+use Rattle.seen_slaves.specs.of_run_frames.ScriptAnswers.{AllNoted, Noted, Scripted, changes_behind, era_scripted, eras_scripted, life_scripted, next_opened, opened_anew, scripted_by, scripted_in, scripted_mails, side_answers}
+use Rattle.seen_slaves.specs.of_run_frames.Came.{is_beside}
+use Rattle.run_promises.specs.of_life_model.Lives.{Era, Life}
+use Rattle.run_promises.specs.of_state_model.Stated.{Service}
+use Rattle.run_promises.specs.of_state_model.Accounts.{Change, Started}
+use Rattle.run_promises.specs.of_segment_plan.declared.plan.Scenario.{Scenario}
 
 -- ---- the rows of the script: by a life, as they are noted, and in a book
 

@@ -1,12 +1,12 @@
 -- WHERE A RUN IS OVER nothing is left of it.
 use Rattle.std.proofs.Common.{◌≡◌, ◌≢◌, inl, inr, ℕ, List, [], ◌∷◌, ◌++◌, map, ap, sym, ◌∙◌, subst}
 use Rattle.std.proofs.lemmas.List.{append-nil}
-use Rattle.life_runs.specs.of_frame_view.View.{Lens}
-use Rattle.life_runs.specs.Opened.{AllOpenTheirs}
-use Rattle.life_runs.specs.of_frame_view.Shares.{AllBoth}
-use Rattle.run_record.specs.AcceptedMails.{heard_in}
-use Rattle.life_runs.specs.First.{lens_of, first_leads}
-use Rattle.life_runs.specs.Led.{Exchanged, Leads, IsLed}
+use Rattle.seen_slaves.specs.of_frame_view.View.{Lens}
+use Rattle.run_promises.specs.of_life_runs.Opened.{AllOpenTheirs}
+use Rattle.seen_slaves.specs.of_frame_view.Shares.{AllBoth}
+use Rattle.gateway_run.specs.of_run_record.AcceptedMails.{heard_in}
+use Rattle.run_promises.specs.of_life_runs.First.{lens_of, first_leads}
+use Rattle.run_promises.specs.of_life_runs.Led.{Exchanged, Leads, IsLed}
 use Rattle.run_promises.specs.Promise.{slaves_behind, Keeps}
 use Rattle.run_promises.specs.Rest.{IsAtRest, AllAtRest, AllStayed, IsResting, NothingIsLeft, AllIsDone}
 use Rattle.promised_run.specs.Ports.{AllHavePorts}
@@ -26,22 +26,22 @@ use Rattle.promised_run.proofs.Unopened.{all_opened}
 use Rattle.promised_run.proofs.Unsent.{all_unsent, come_of}
 use Rattle.promised_run.proofs.Visits.{all_visit}
 use Rattle.promised_run.proofs.Written.{all_written, some_left}
-use Rattle.run_book.specs.declared.book.Book.{Book}
-use Rattle.run_book.specs.declared.book.Ending.{Ending}
-use Rattle.run_book.specs.declared.book.Ending.TheVariants as endings
-use Rattle.run_book.specs.declared.book.SlaveBook.{SlaveBook}
-use Rattle.plan_ring.specs.Dues.{MailsAreDue}
-use Rattle.plan_ring.specs.Lives.{IsKnown}
+use Rattle.gateway_run.specs.of_run_book.declared.book.Book.{Book}
+use Rattle.gateway_run.specs.of_run_book.declared.book.Ending.{Ending}
+use Rattle.gateway_run.specs.of_run_book.declared.book.Ending.TheVariants as endings
+use Rattle.gateway_run.specs.of_run_book.declared.book.SlaveBook.{SlaveBook}
+use Rattle.seen_slaves.specs.of_plan_ring.Dues.{MailsAreDue}
+use Rattle.seen_slaves.specs.of_plan_ring.Lives.{IsKnown}
 use Rattle.run_promises.specs.Round.{ring_of, AllRound}
-use Rattle.run_record.specs.Led.{exchanged, RestsSo, DoneSo, RestBy, LedBook}
-use Rattle.run_record.specs.Ran.{HasFrames, HasRows, EndsAs}
-use Rattle.run_record.specs.Replay.{first_ring, ring_after}
-use Rattle.run_frames.specs.Slaves.{AllCome}
-use Rattle.segment_plan.specs.Sound.{IsPlan}
-use Rattle.segment_plan.specs.declared.plan.Scenario.{Scenario}
-use Rattle.life_runs.specs.of_segment_ring.Ring.{RingState}
-use Rattle.run_book.specs.of_slave_server.Serving.{Serving}
-use Rattle.run_book.specs.of_slave_node.Node.{Node}
+use Rattle.gateway_run.specs.of_run_record.Led.{exchanged, RestsSo, DoneSo, RestBy, LedBook}
+use Rattle.gateway_run.specs.of_run_record.Ran.{HasFrames, HasRows, EndsAs}
+use Rattle.gateway_run.specs.of_run_record.Replay.{first_ring, ring_after}
+use Rattle.seen_slaves.specs.of_run_frames.Slaves.{AllCome}
+use Rattle.run_promises.specs.of_segment_plan.Sound.{IsPlan}
+use Rattle.run_promises.specs.of_segment_plan.declared.plan.Scenario.{Scenario}
+use Rattle.run_promises.specs.of_segment_ring.Ring.{RingState}
+use Rattle.run_promises.specs.of_slave_server.Serving.{Serving}
+use Rattle.run_promises.specs.of_slave_node.Node.{Node}
 
 -- what this crate's law says, for one plan
 abbrev pub Promises : Scenario → Type 0

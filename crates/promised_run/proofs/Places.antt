@@ -2,23 +2,23 @@
 use Rattle.std.proofs.Common.{◌≡◌, ℕ, zero, suc, ◌+◌, ◌-◌, ◌<◌, ◌≤◌, ◌==◌, ◌&&◌, Bool, true, false, cond, Option, Some, None, List, [], ◌∷◌, ◌++◌, length, filter, refl, sym, ap, ◌∙◌, subst, arith, if◌then◌else◌, eqb-true}
 use Rattle.std.specs.Prelude.{nat_lt, not, drop}
 use Rattle.std.proofs.lemmas.Bool.{ltb-true, ltb-false}
-use Rattle.life_model.specs.Lives.{Stand}
-use Rattle.life_runs.specs.Led.{Leads, Turn}
-use Rattle.link_mails.specs.Body.{Body}
-use Rattle.master_duty.specs.Reply.{Reply}
-use Rattle.master_hand.specs.Spoken.{Asked}
-use Rattle.run_book.specs.of_master_node.Shows.{is_led, is_live_lead, is_opening_lead}
-use Rattle.run_book.specs.of_master_node.Toured.{turn_share}
-use Rattle.run_book.specs.of_master_node.of_master_tour.Goes.{holds_at, opened_behind}
-use Rattle.run_book.specs.of_master_node.of_master_tour.Made as Made
-use Rattle.run_book.specs.of_master_node.of_master_tour.Orders as Orders
-use Rattle.run_book.specs.of_master_node.of_master_tour.Stands as Stands
-use Rattle.run_book.specs.of_master_node.of_master_tour.Toured as Tours
-use Rattle.segment_model.specs.Slaves.{Datagram}
-use Rattle.run_frames.specs.Clocks.{Clocked, start_of}
-use Rattle.run_frames.specs.Led.{AreLed, unders}
-use Rattle.run_frames.specs.Orders.{is_live, is_opening, live_at, under_at, is_in, place_in, places_from, live_round, last_of, opened_on}
-use Rattle.run_frames.specs.Tours.{VisitOf, PlacesOf, last_lost}
+use Rattle.run_promises.specs.of_life_model.Lives.{Stand}
+use Rattle.run_promises.specs.of_life_runs.Led.{Leads, Turn}
+use Rattle.run_promises.specs.of_link_mails.Body.{Body}
+use Rattle.seen_slaves.specs.of_master_duty.Reply.{Reply}
+use Rattle.seen_slaves.specs.of_master_hand.Spoken.{Asked}
+use Rattle.run_promises.specs.of_master_node.Shows.{is_led, is_live_lead, is_opening_lead}
+use Rattle.run_promises.specs.of_master_node.Toured.{turn_share}
+use Rattle.run_promises.specs.of_master_tour.Goes.{holds_at, opened_behind}
+use Rattle.run_promises.specs.of_master_tour.Made as Made
+use Rattle.run_promises.specs.of_master_tour.Orders as Orders
+use Rattle.run_promises.specs.of_master_tour.Stands as Stands
+use Rattle.run_promises.specs.of_master_tour.Toured as Tours
+use Rattle.run_promises.specs.of_segment_model.Slaves.{Datagram}
+use Rattle.seen_slaves.specs.of_run_frames.Clocks.{Clocked, start_of}
+use Rattle.seen_slaves.specs.of_run_frames.Led.{AreLed, unders}
+use Rattle.seen_slaves.specs.of_run_frames.Orders.{is_live, is_opening, live_at, under_at, is_in, place_in, places_from, live_round, last_of, opened_on}
+use Rattle.seen_slaves.specs.of_run_frames.Tours.{VisitOf, PlacesOf, last_lost}
 
 abbrev pub Slave : Type 0
 Slave = Clocked Body Asked Reply

@@ -1,27 +1,27 @@
 -- What happened at the port of each slave, by the events that the frames list.
 use Rattle.std.proofs.Common.{◌≡◌, ◌≤◌, ◌<◌, ℕ, zero, suc, ◌+◌, Bool, true, false, Some, List, [], ◌∷◌, refl, sym, ap, ◌∙◌, arith}
 use Rattle.std.specs.Prelude.{cond, fold, slice_get}
-use Rattle.life_runs.specs.First.{lens_of, leads_from}
-use Rattle.life_runs.specs.Led.{Exchanged, Leads}
-use Rattle.life_runs.specs.of_frame_view.Shares.{AllBoth}
+use Rattle.run_promises.specs.of_life_runs.First.{lens_of, leads_from}
+use Rattle.run_promises.specs.of_life_runs.Led.{Exchanged, Leads}
+use Rattle.seen_slaves.specs.of_frame_view.Shares.{AllBoth}
 use Rattle.promised_run.specs.Ports.{accepted_at, HasBegunAt, AllHavePorts}
-use Rattle.run_book.specs.declared.book.Book.{Book}
-use Rattle.run_book.specs.of_master_node.Forwards.{port_by}
-use Rattle.run_book.specs.of_master_node.Ports.{ports_behind, ports_of, port_where, last_where}
-use Rattle.run_book.specs.of_master_node.Shows.{is_live_lead}
-use Rattle.run_book.specs.of_master_tour.Goes.{holds_at}
-use Rattle.run_record.proofs.of_packets_heard.PacketsRuns.{run_begun, run_first, run_last}
-use Rattle.run_record.proofs.of_packets_heard.Owns.{own_port}
-use Rattle.run_record.proofs.of_packets_heard.Runs.{run_downs, run_arrivals}
-use Rattle.run_record.proofs.of_packets_heard.Parts.{run_joined}
-use Rattle.run_record.specs.Led.{LeadTo, ListsAll, BeginsAll}
-use Rattle.run_record.specs.of_eoe_switch.declared.switching.SwitchEvent.{SwitchEvent}
-use Rattle.run_record.specs.of_packets_heard.Over.{packets_begun}
-use Rattle.run_record.specs.of_packets_heard.Listed.{IsOwn, long_ones, packets_at}
-use Rattle.run_record.specs.of_packets_heard.Heard.{Joined, Times, IsJoined, joined_in, times_in, packets_of}
-use Rattle.segment_plan.specs.declared.plan.Scenario.{Scenario}
-use Rattle.segment_plan.specs.declared.service.Service as Plan
-use Rattle.segment_plan.specs.declared.slave.SlaveSpec.{SlaveSpec}
+use Rattle.gateway_run.specs.of_run_book.declared.book.Book.{Book}
+use Rattle.run_promises.specs.of_master_node.Forwards.{port_by}
+use Rattle.run_promises.specs.of_master_node.Ports.{ports_behind, ports_of, port_where, last_where}
+use Rattle.run_promises.specs.of_master_node.Shows.{is_live_lead}
+use Rattle.run_promises.specs.of_master_tour.Goes.{holds_at}
+use Rattle.run_promises.proofs.of_packets_heard.PacketsRuns.{run_begun, run_first, run_last}
+use Rattle.run_promises.proofs.of_packets_heard.Owns.{own_port}
+use Rattle.run_promises.proofs.of_packets_heard.Runs.{run_downs, run_arrivals}
+use Rattle.run_promises.proofs.of_packets_heard.Parts.{run_joined}
+use Rattle.gateway_run.specs.of_run_record.Led.{LeadTo, ListsAll, BeginsAll}
+use Rattle.run_promises.specs.of_eoe_switch.declared.switching.SwitchEvent.{SwitchEvent}
+use Rattle.run_promises.specs.of_packets_heard.Over.{packets_begun}
+use Rattle.run_promises.specs.of_packets_heard.Listed.{IsOwn, long_ones, packets_at}
+use Rattle.run_promises.specs.of_packets_heard.Heard.{Joined, Times, IsJoined, joined_in, times_in, packets_of}
+use Rattle.run_promises.specs.of_segment_plan.declared.plan.Scenario.{Scenario}
+use Rattle.run_promises.specs.of_segment_plan.declared.service.Service as Plan
+use Rattle.run_promises.specs.of_segment_plan.declared.slave.SlaveSpec.{SlaveSpec}
 
 -- a slave that has a port is live before the first frame
 pub first_live : (services : List (ℕ × Plan.Service)) (place : ℕ) (ss : List SlaveSpec) (last k port : ℕ) → port_by (slice_get (ports_behind last ss) k) ≡ Some port → holds_at is_live_lead (leads_from services place ss) k ≡ true

@@ -1,10 +1,10 @@
 -- Mails that are quiet are fair.
 use Rattle.std.proofs.Common.{◌≡◌, ◌&&◌, Bool, true, false, Ok, List, All, refl}
 use Rattle.std.proofs.lemmas.List.Elements.{All-weaker}
-use Rattle.few_replies.specs.Packets.{is_fair}
-use Rattle.run_work.specs.Fair.{AsksFair}
+use Rattle.seen_slaves.specs.of_few_replies.Packets.{is_fair}
+use Rattle.run_promises.specs.of_run_work.Fair.{AsksFair}
 use Rattle.run_promises.specs.Quiet.{AsksQuiet, is_quiet}
-use Rattle.life_runs.specs.Served.{Keyed, Serves}
+use Rattle.run_promises.specs.of_life_runs.Served.{Keyed, Serves}
 
 left_of : (a b : Bool) → (a && b) ≡ true → a ≡ true
 left_of true b e = refl

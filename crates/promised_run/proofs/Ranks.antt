@@ -1,29 +1,29 @@
 -- HOW MANY STEPS the mails that wait, and those that are passed on, may still come: none comes back, and where none came a step on all stand where they did.
 use Rattle.std.proofs.Common.{◌≡◌, ◌≤◌, ℕ, zero, suc, ◌+◌, ◌*◌, ◌&&◌, ◌==◌, Bool, true, false, Option, Some, None, List, [], ◌∷◌, map, length, refl, sym, ap, ◌∙◌, arith, if◌then◌else◌, length-append}
 use Rattle.std.specs.Prelude.{nat_lt}
-use Rattle.datagrams.specs.Datagram as Raw
-use Rattle.exchange_model.specs.Exchange.{Speech}
-use Rattle.frame_view.specs.Seen.{seen}
-use Rattle.frame_view.specs.View.{Lens}
-use Rattle.frame_view.specs.Shares.{came_at, given_where}
-use Rattle.life_model.specs.Lives.{Life, Opening, Spot, Stand, clears, era_back, granted, is_shown, last_step, life_back, life_lost, life_next, opening_back, opens, opens_state, passes, passing_begins, reopening, reopens, reopens_at, returns_to_init, shows_clear, steps_on}
-use Rattle.life_runs.specs.Led.{Exchanged, speech_at}
-use Rattle.link_mails.specs.Body.{Body}
-use Rattle.master_duty.specs.Reply.{Reply}
-use Rattle.master_hand.specs.Spoken.{Asked, acknowledged, is_followed, is_passed}
-use Rattle.master_side.specs.Passing.{news_back, news_lost}
-use Rattle.life_runs.proofs.Quiet.{comes_own}
-use Rattle.run_work.specs.ServedGained.{asked_in}
-use Rattle.segment_model.specs.Ends.{Passing, passing_after}
-use Rattle.segment_model.specs.Record.{News}
-use Rattle.segment_model.specs.Slaves.{Datagram, Found}
-use Rattle.segment_ring.specs.declared.wire.Fate.{Fate}
-use Rattle.segment_ring.specs.declared.wire.Fate.TheVariants.{Pass, Lost}
-use Rattle.life_runs.specs.Served.{Keyed, MayAsk, Serves, ServedTurn, ServedComes, IsServedTurn, AllServedTurn, asked_at, gives_it, served_behind, served_life}
-use Rattle.life_runs.specs.Told.{Passed}
+use Rattle.run_promises.specs.of_datagrams.Datagram as Raw
+use Rattle.run_promises.specs.of_exchange_model.Exchange.{Speech}
+use Rattle.seen_slaves.specs.of_frame_view.Seen.{seen}
+use Rattle.seen_slaves.specs.of_frame_view.View.{Lens}
+use Rattle.seen_slaves.specs.of_frame_view.Shares.{came_at, given_where}
+use Rattle.run_promises.specs.of_life_model.Lives.{Life, Opening, Spot, Stand, clears, era_back, granted, is_shown, last_step, life_back, life_lost, life_next, opening_back, opens, opens_state, passes, passing_begins, reopening, reopens, reopens_at, returns_to_init, shows_clear, steps_on}
+use Rattle.run_promises.specs.of_life_runs.Led.{Exchanged, speech_at}
+use Rattle.run_promises.specs.of_link_mails.Body.{Body}
+use Rattle.seen_slaves.specs.of_master_duty.Reply.{Reply}
+use Rattle.seen_slaves.specs.of_master_hand.Spoken.{Asked, acknowledged, is_followed, is_passed}
+use Rattle.seen_slaves.specs.of_master_side.Passing.{news_back, news_lost}
+use Rattle.gateway_run.proofs.of_life_runs.Quiet.{comes_own}
+use Rattle.run_promises.specs.of_run_work.ServedGained.{asked_in}
+use Rattle.run_promises.specs.of_segment_model.Ends.{Passing, passing_after}
+use Rattle.run_promises.specs.of_segment_model.Record.{News}
+use Rattle.run_promises.specs.of_segment_model.Slaves.{Datagram, Found}
+use Rattle.run_promises.specs.of_segment_ring.declared.wire.Fate.{Fate}
+use Rattle.run_promises.specs.of_segment_ring.declared.wire.Fate.TheVariants.{Pass, Lost}
+use Rattle.run_promises.specs.of_life_runs.Served.{Keyed, MayAsk, Serves, ServedTurn, ServedComes, IsServedTurn, AllServedTurn, asked_at, gives_it, served_behind, served_life}
+use Rattle.run_promises.specs.of_life_runs.Told.{Passed}
 use Rattle.seen_slaves.specs.Eager.{AllStill}
-use Rattle.state_model.specs.Stated.{Service}
-use Rattle.state_model.specs.Accounts.{Account, Duty, Pick, Stage, account_next}
+use Rattle.run_promises.specs.of_state_model.Stated.{Service}
+use Rattle.run_promises.specs.of_state_model.Accounts.{Account, Duty, Pick, Stage, account_next}
 
 abbrev MyLife : Type 0
 MyLife = Life Body Asked Reply

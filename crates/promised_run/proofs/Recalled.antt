@@ -2,31 +2,31 @@
 use Rattle.std.proofs.Common.{◌≡◌, ◌≢◌, ◌<◌, ℕ, List, [], ◌∷◌, ◌++◌, length, map, ap, ◌∙◌, subst}
 use Rattle.arrayvec.specs.ArrayVec.{ArrayVec}
 use Rattle.promised_run.specs.Runs.{HasRun}
-use Rattle.life_runs.specs.First.{lens_of, first_leads}
-use Rattle.life_runs.specs.Led.{Exchanged, Leads}
-use Rattle.link_mails.specs.Body.{Body}
-use Rattle.master_duty.specs.Reply.{Reply}
-use Rattle.master_hand.specs.Spoken.{Asked}
-use Rattle.run_book.specs.of_master_node.Happened.{arrivals_at}
-use Rattle.run_book.specs.of_master_node.of_master_tour.Toured.{Tour}
-use Rattle.plan_ring.specs.Round.{ring_of, AllRound, behind}
-use Rattle.run_record.specs.of_packets_heard.Recalled.{State, RecalledIn}
-use Rattle.run_book.specs.declared.book.Book.{Book}
-use Rattle.run_book.specs.declared.book.Ending.{Ending}
-use Rattle.run_book.specs.declared.book.Ending.TheVariants as endings
-use Rattle.run_book.specs.declared.book.SentFrame.{SentFrame}
-use Rattle.run_frames.specs.Clocks.{Clocked}
-use Rattle.run_frames.specs.Runs.{Progress}
-use Rattle.run_record.specs.Led.{LedBook, RecalledBook, exchanged}
-use Rattle.run_record.specs.Ran.{HasFrames}
-use Rattle.run_record.specs.Replay.{AreRecorded}
-use Rattle.run_work.specs.Bounds.{IsPlanRun}
-use Rattle.segment_plan.specs.Bound.{bound_of}
-use Rattle.segment_plan.specs.declared.plan.Scenario.{Scenario}
-use Rattle.segment_ring.specs.Ring.{RingState}
-use Rattle.slave_server.specs.Serving.{Serving}
-use Rattle.slave_node.specs.Node.{Node}
-use Rattle.run_record.specs.of_packets_heard.Toured.{IsToured}
+use Rattle.run_promises.specs.of_life_runs.First.{lens_of, first_leads}
+use Rattle.run_promises.specs.of_life_runs.Led.{Exchanged, Leads}
+use Rattle.run_promises.specs.of_link_mails.Body.{Body}
+use Rattle.seen_slaves.specs.of_master_duty.Reply.{Reply}
+use Rattle.seen_slaves.specs.of_master_hand.Spoken.{Asked}
+use Rattle.run_promises.specs.of_master_node.Happened.{arrivals_at}
+use Rattle.run_promises.specs.of_master_tour.Toured.{Tour}
+use Rattle.seen_slaves.specs.of_plan_ring.Round.{ring_of, AllRound, behind}
+use Rattle.run_promises.specs.of_packets_heard.Recalled.{State, RecalledIn}
+use Rattle.gateway_run.specs.of_run_book.declared.book.Book.{Book}
+use Rattle.gateway_run.specs.of_run_book.declared.book.Ending.{Ending}
+use Rattle.gateway_run.specs.of_run_book.declared.book.Ending.TheVariants as endings
+use Rattle.gateway_run.specs.of_run_book.declared.book.SentFrame.{SentFrame}
+use Rattle.seen_slaves.specs.of_run_frames.Clocks.{Clocked}
+use Rattle.seen_slaves.specs.of_run_frames.Runs.{Progress}
+use Rattle.gateway_run.specs.of_run_record.Led.{LedBook, RecalledBook, exchanged}
+use Rattle.gateway_run.specs.of_run_record.Ran.{HasFrames}
+use Rattle.gateway_run.specs.of_run_record.Replay.{AreRecorded}
+use Rattle.run_promises.specs.of_run_work.Bounds.{IsPlanRun}
+use Rattle.run_promises.specs.of_segment_plan.Bound.{bound_of}
+use Rattle.run_promises.specs.of_segment_plan.declared.plan.Scenario.{Scenario}
+use Rattle.run_promises.specs.of_segment_ring.Ring.{RingState}
+use Rattle.run_promises.specs.of_slave_server.Serving.{Serving}
+use Rattle.run_promises.specs.of_slave_node.Node.{Node}
+use Rattle.run_promises.specs.of_packets_heard.Toured.{IsToured}
 
 -- its frames went round the ring
 pub all_round : (ring : RingState (Node Serving)) (fs : List SentFrame) → AreRecorded ring fs → AllRound ring (map exchanged fs)

@@ -1,43 +1,43 @@
 -- WHAT A BOOK REPORTS IS WHAT THE FRAMES GIVE, and what the application replied.
 use Rattle.std.specs.Prelude.{◌==◌, not, option_map, if◌then◌else◌}
 use Rattle.std.proofs.Common.{◌≡◌, ℕ, suc, Bool, true, false, Option, Some, None, List, [], ◌∷◌, ◌++◌, refl, ap, sym, ◌∙◌, subst, append-nil}
-use Rattle.segment_plan.specs.of_exchange_model.Exchange.{Exchange, Speech, plain}
-use Rattle.segment_plan.specs.of_exchange_model.Rows.{Row}
-use Rattle.run_promises.specs.of_plan_ring.Epochs.{IsKept, AreKept, IsNewest, IsKeptLife}
-use Rattle.life_runs.specs.of_frame_view.Shares.{AllBoth}
-use Rattle.run_frames.specs.of_life_model.Eras.{era_frames}
-use Rattle.run_frames.specs.of_life_model.Lives.{Spot, Era, Life, returns_to_init}
-use Rattle.life_runs.specs.First.{lens_of, spot_of}
-use Rattle.life_runs.specs.Led.{Exchanged, Leads}
-use Rattle.life_runs.specs.of_link_mails.Body.{Body}
-use Rattle.life_runs.specs.of_master_duty.Reply.{Reply}
-use Rattle.life_runs.specs.of_master_hand.Spoken.{Asked, is_followed}
+use Rattle.run_promises.specs.of_exchange_model.Exchange.{Exchange, Speech, plain}
+use Rattle.run_promises.specs.of_exchange_model.Rows.{Row}
+use Rattle.seen_slaves.specs.of_plan_ring.Epochs.{IsKept, AreKept, IsNewest, IsKeptLife}
+use Rattle.seen_slaves.specs.of_frame_view.Shares.{AllBoth}
+use Rattle.run_promises.specs.of_life_model.Eras.{era_frames}
+use Rattle.run_promises.specs.of_life_model.Lives.{Spot, Era, Life, returns_to_init}
+use Rattle.run_promises.specs.of_life_runs.First.{lens_of, spot_of}
+use Rattle.run_promises.specs.of_life_runs.Led.{Exchanged, Leads}
+use Rattle.run_promises.specs.of_link_mails.Body.{Body}
+use Rattle.seen_slaves.specs.of_master_duty.Reply.{Reply}
+use Rattle.seen_slaves.specs.of_master_hand.Spoken.{Asked, is_followed}
 use Rattle.run_promises.specs.Promise.{AllKeep}
 use Rattle.run_promises.specs.Plan.{first_app}
 use Rattle.promised_run.specs.Reported.{AreNoted, IsNotedBy, IsReplyBy, NotedBy, RepliesBy, has_reply, stays, AreReplies, EraReplies, PastReplies, NewestReplies, LifeReplies, AllReported}
 use Rattle.promised_run.proofs.Unopened.{NothingBefore, AllNothing, Opened, AllOpened}
-use Rattle.run_book.specs.declared.book.SlaveBook.{SlaveBook}
+use Rattle.gateway_run.specs.of_run_book.declared.book.SlaveBook.{SlaveBook}
 use Rattle.run_promises.specs.Round.{all_seen}
 use Rattle.run_promises.specs.Slaves.{services_of}
-use Rattle.run_record.specs.of_run_notes.Reports.{noted_in, IsBooked}
-use Rattle.run_record.specs.of_run_frames.ScriptAnswers.{Came, Scripted, Noted, AllNoted, answers_in, side_answers, first_change, changes_behind, change_outcome, opened_anew, scripted_by, scripted_in, scripted_mails, era_scripted, eras_scripted, life_scripted, reply_by, outcome_reply}
-use Rattle.run_record.proofs.of_run_frames.Lists.{eras_more}
-use Rattle.run_frames.specs.Came.{is_beside}
-use Rattle.run_frames.specs.of_link_model.Mails.{first_of}
-use Rattle.run_frames.specs.of_segment_model.Ends.{Outcome, mails_end, state_ends}
-use Rattle.run_frames.specs.of_segment_model.Laws.{IsAnswered, AllAnswered, as_outcome}
-use Rattle.run_frames.specs.of_segment_model.Record.{Frame, News, first_end, mails_heard, or_later, news_from}
-use Rattle.run_frames.specs.of_segment_model.Seats.{rows_of}
-use Rattle.segment_plan.specs.declared.plan.Scenario.{Scenario}
-use Rattle.segment_plan.specs.declared.slave.SlaveSpec.{SlaveSpec}
-use Rattle.run_promises.specs.of_plan_ring.Real.{real_clearing}
-use Rattle.run_promises.specs.of_slave_lives.Lived.{Behind, table_of}
-use Rattle.run_book.specs.of_slave_server.Serving.{Serving}
-use Rattle.run_book.specs.of_slave_node.Node.{Node}
-use Rattle.run_frames.specs.of_state_model.Stated.{Stated, Service, with_states}
-use Rattle.life_runs.specs.of_state_model.States.{Table}
-use Rattle.run_frames.specs.of_state_model.Accounts.{Started, Duty, Change}
-use Rattle.run_frames.specs.of_state_model.Promise.{AllReplied, AllFound, IsOpenYet, IsReply, mail_of, state_of, mails_started, states_started, rows_started, changes_in, duty_in, outcome_of}
+use Rattle.gateway_run.specs.of_run_notes.Reports.{noted_in, IsBooked}
+use Rattle.seen_slaves.specs.of_run_frames.ScriptAnswers.{Came, Scripted, Noted, AllNoted, answers_in, side_answers, first_change, changes_behind, change_outcome, opened_anew, scripted_by, scripted_in, scripted_mails, era_scripted, eras_scripted, life_scripted, reply_by, outcome_reply}
+use Rattle.seen_slaves.proofs.of_run_frames.Lists.{eras_more}
+use Rattle.seen_slaves.specs.of_run_frames.Came.{is_beside}
+use Rattle.run_promises.specs.of_link_model.Mails.{first_of}
+use Rattle.run_promises.specs.of_segment_model.Ends.{Outcome, mails_end, state_ends}
+use Rattle.run_promises.specs.of_segment_model.Laws.{IsAnswered, AllAnswered, as_outcome}
+use Rattle.run_promises.specs.of_segment_model.Record.{Frame, News, first_end, mails_heard, or_later, news_from}
+use Rattle.run_promises.specs.of_segment_model.Seats.{rows_of}
+use Rattle.run_promises.specs.of_segment_plan.declared.plan.Scenario.{Scenario}
+use Rattle.run_promises.specs.of_segment_plan.declared.slave.SlaveSpec.{SlaveSpec}
+use Rattle.seen_slaves.specs.of_plan_ring.Real.{real_clearing}
+use Rattle.seen_slaves.specs.of_slave_lives.Lived.{Behind, table_of}
+use Rattle.run_promises.specs.of_slave_server.Serving.{Serving}
+use Rattle.run_promises.specs.of_slave_node.Node.{Node}
+use Rattle.run_promises.specs.of_state_model.Stated.{Stated, Service, with_states}
+use Rattle.run_promises.specs.of_state_model.States.{Table}
+use Rattle.run_promises.specs.of_state_model.Accounts.{Started, Duty, Change}
+use Rattle.run_promises.specs.of_state_model.Promise.{AllReplied, AllFound, IsOpenYet, IsReply, mail_of, state_of, mails_started, states_started, rows_started, changes_in, duty_in, outcome_of}
 
 abbrev Held : Type 0
 Held = Row Body Asked Reply

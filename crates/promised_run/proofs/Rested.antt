@@ -3,38 +3,38 @@ use Rattle.std.proofs.Common.{◌≡◌, ◌⊎◌, ℕ, suc, true, List, [], �
 use Rattle.gateway_run.specs.Done.{ServedRestsSo}
 use Rattle.gateway_run.specs.Served.{HasAccount, IsServed}
 use Rattle.gateway_run.specs.Serving.{Told}
-use Rattle.frame_view.specs.Shares.{AllBoth}
-use Rattle.life_model.specs.Lives.{Stand}
-use Rattle.life_runs.proofs.Opened.{IsOpened}
-use Rattle.life_runs.specs.First.{first_leads, lens_of}
-use Rattle.life_runs.specs.Led.{Exchanged}
-use Rattle.run_book.specs.of_master_node.Wants.{IsMailless}
-use Rattle.plan_ring.specs.Lives.{IsKnown}
-use Rattle.plan_ring.specs.Round.{AllRound, ring_after as ring_behind, ring_of}
+use Rattle.seen_slaves.specs.of_frame_view.Shares.{AllBoth}
+use Rattle.run_promises.specs.of_life_model.Lives.{Stand}
+use Rattle.gateway_run.proofs.of_life_runs.Opened.{IsOpened}
+use Rattle.run_promises.specs.of_life_runs.First.{first_leads, lens_of}
+use Rattle.run_promises.specs.of_life_runs.Led.{Exchanged}
+use Rattle.run_promises.specs.of_master_node.Wants.{IsMailless}
+use Rattle.seen_slaves.specs.of_plan_ring.Lives.{IsKnown}
+use Rattle.seen_slaves.specs.of_plan_ring.Round.{AllRound, ring_after as ring_behind, ring_of}
 use Rattle.promised_run.proofs.LastEpochs.{AllOpened, opened_over, quiet_where}
 use Rattle.promised_run.proofs.Rounds.{all_round, same_ring}
 use Rattle.promised_run.proofs.Through.{same_nodes}
 use Rattle.promised_run.specs.Stood.{nodes_through}
 use Rattle.promised_run.specs.Rested.{AllRested, IsRested, IsServedRested}
-use Rattle.run_book.specs.declared.book.Book.{Book}
-use Rattle.run_book.specs.declared.book.Ending.{Ending}
-use Rattle.run_book.specs.declared.book.Ending.TheVariants as endings
-use Rattle.run_book.specs.declared.book.SlaveBook.{SlaveBook}
+use Rattle.gateway_run.specs.of_run_book.declared.book.Book.{Book}
+use Rattle.gateway_run.specs.of_run_book.declared.book.Ending.{Ending}
+use Rattle.gateway_run.specs.of_run_book.declared.book.Ending.TheVariants as endings
+use Rattle.gateway_run.specs.of_run_book.declared.book.SlaveBook.{SlaveBook}
 use Rattle.run_promises.proofs.Known.{known}
-use Rattle.run_record.specs.Led.{LeavesNone, exchanged}
-use Rattle.run_record.specs.Ran.{HasRows, HasSent}
-use Rattle.run_record.specs.Replay.{first_ring, ring_after}
-use Rattle.scenario.specs.Told.{IsTold}
-use Rattle.segment_plan.specs.Sound.{IsPlan}
-use Rattle.segment_plan.specs.declared.plan.Scenario.{Scenario}
-use Rattle.segment_plan.specs.declared.slave.SlaveSpec.{SlaveSpec}
-use Rattle.segment_ring.specs.Ring.{RingState}
-use Rattle.served_rings.specs.Rests.{AllServedDoneIf, IsServedDone, IsServedIdle}
-use Rattle.served_rings.specs.Rings.{nodes_behind}
-use Rattle.served_rings.specs.StoodLives.{IsFirst, others}
-use Rattle.life_runs.specs.Served.{IsServedLed, Serves, all_serve}
-use Rattle.slave_server.specs.Serving.{Serving, next_mail}
-use Rattle.slave_node.specs.Node.{Node, is_settled}
+use Rattle.gateway_run.specs.of_run_record.Led.{LeavesNone, exchanged}
+use Rattle.gateway_run.specs.of_run_record.Ran.{HasRows, HasSent}
+use Rattle.gateway_run.specs.of_run_record.Replay.{first_ring, ring_after}
+use Rattle.run_promises.specs.of_scenario.Told.{IsTold}
+use Rattle.run_promises.specs.of_segment_plan.Sound.{IsPlan}
+use Rattle.run_promises.specs.of_segment_plan.declared.plan.Scenario.{Scenario}
+use Rattle.run_promises.specs.of_segment_plan.declared.slave.SlaveSpec.{SlaveSpec}
+use Rattle.run_promises.specs.of_segment_ring.Ring.{RingState}
+use Rattle.seen_slaves.specs.of_served_rings.Rests.{AllServedDoneIf, IsServedDone, IsServedIdle}
+use Rattle.seen_slaves.specs.of_served_rings.Rings.{nodes_behind}
+use Rattle.seen_slaves.specs.of_served_rings.StoodLives.{IsFirst, others}
+use Rattle.run_promises.specs.of_life_runs.Served.{IsServedLed, Serves, all_serve}
+use Rattle.run_promises.specs.of_slave_server.Serving.{Serving, next_mail}
+use Rattle.run_promises.specs.of_slave_node.Node.{Node, is_settled}
 
 -- the law
 abbrev pub RestsLaw : Type 0

@@ -2,24 +2,24 @@
 use Rattle.std.proofs.Common.{◌≡◌, ℕ, suc, true, false, List, [], ◌∷◌, refl, ◌∙◌, inl, inr}
 use Rattle.std.specs.Prelude.{slice_get}
 use Rattle.arrayvec.specs.ArrayVec.{ArrayVec}
-use Rattle.eoe_switch.specs.declared.switching.SwitchEvent.{SwitchEvent}
-use Rattle.frame_view.specs.View.{Lens}
-use Rattle.life_runs.specs.First.{lens_of}
-use Rattle.life_runs.specs.Led.{Exchanged, Leads}
-use Rattle.run_book.specs.of_master_node.Forwards.{forwarded, port_by, waiting_by}
-use Rattle.run_book.specs.of_master_node.Recalled.{AllKnow}
-use Rattle.run_book.specs.of_master_node.Resting as Resting
-use Rattle.run_book.specs.of_master_node.declared.lan.Lan.{Lan}
-use Rattle.master_side.specs.Recall.{Recall}
-use Rattle.plan_ring.specs.PlanMet.{AllOpenAt, IsAt}
-use Rattle.plan_ring.specs.Asked.{asked}
-use Rattle.run_record.specs.of_packets_heard.Recalled.{AllSettled, IsLanOf}
-use Rattle.segment_plan.specs.declared.plan.Scenario.{Scenario}
-use Rattle.segment_plan.specs.declared.slave.SlaveSpec.{SlaveSpec}
-use Rattle.slave_server.specs.Serving.{Serving, next_mail}
-use Rattle.slave_server.specs.Spec.{profile_of}
-use Rattle.slave_node.specs.Node.{Node, is_settled}
-use Rattle.idle_slaves.specs.WaitEager.{AllRest, IsResting}
+use Rattle.run_promises.specs.of_eoe_switch.declared.switching.SwitchEvent.{SwitchEvent}
+use Rattle.seen_slaves.specs.of_frame_view.View.{Lens}
+use Rattle.run_promises.specs.of_life_runs.First.{lens_of}
+use Rattle.run_promises.specs.of_life_runs.Led.{Exchanged, Leads}
+use Rattle.run_promises.specs.of_master_node.Forwards.{forwarded, port_by, waiting_by}
+use Rattle.run_promises.specs.of_master_node.Recalled.{AllKnow}
+use Rattle.run_promises.specs.of_master_node.Resting as Resting
+use Rattle.run_promises.specs.of_master_node.declared.lan.Lan.{Lan}
+use Rattle.seen_slaves.specs.of_master_side.Recall.{Recall}
+use Rattle.seen_slaves.specs.of_plan_ring.PlanMet.{AllOpenAt, IsAt}
+use Rattle.seen_slaves.specs.of_plan_ring.Asked.{asked}
+use Rattle.run_promises.specs.of_packets_heard.Recalled.{AllSettled, IsLanOf}
+use Rattle.run_promises.specs.of_segment_plan.declared.plan.Scenario.{Scenario}
+use Rattle.run_promises.specs.of_segment_plan.declared.slave.SlaveSpec.{SlaveSpec}
+use Rattle.run_promises.specs.of_slave_server.Serving.{Serving, next_mail}
+use Rattle.run_promises.specs.of_slave_server.Spec.{profile_of}
+use Rattle.run_promises.specs.of_slave_node.Node.{Node, is_settled}
+use Rattle.seen_slaves.specs.of_idle_slaves.WaitEager.{AllRest, IsResting}
 use Rattle.promised_run.specs.Runs.{is_waiting, remembered, waiting_at}
 use Rattle.promised_run.proofs.Settled.{settled_back}
 

@@ -1,13 +1,13 @@
 -- THE FRAMES OF A BOOK went round the ring of the plan's slaves.
 use Rattle.std.proofs.Common.{◌≡◌, List, [], ◌∷◌, map, refl}
-use Rattle.run_book.specs.declared.book.SentFrame.{SentFrame}
+use Rattle.gateway_run.specs.of_run_book.declared.book.SentFrame.{SentFrame}
 use Rattle.run_promises.specs.Round as Round
 use Rattle.run_promises.specs.Round.{AllRound}
-use Rattle.run_record.specs.Led.{exchanged}
-use Rattle.run_record.specs.Replay.{AreRecorded, ring_after, behind}
-use Rattle.life_runs.specs.of_segment_ring.Ring.{RingState}
-use Rattle.run_book.specs.of_slave_server.Serving.{Serving}
-use Rattle.run_book.specs.of_slave_node.Node.{Node}
+use Rattle.gateway_run.specs.of_run_record.Led.{exchanged}
+use Rattle.gateway_run.specs.of_run_record.Replay.{AreRecorded, ring_after, behind}
+use Rattle.run_promises.specs.of_segment_ring.Ring.{RingState}
+use Rattle.run_promises.specs.of_slave_server.Serving.{Serving}
+use Rattle.run_promises.specs.of_slave_node.Node.{Node}
 
 pub all_round : (ring : RingState (Node Serving)) (fs : List SentFrame) → AreRecorded ring fs → AllRound ring (map exchanged fs)
 all_round ring [] recorded = tt

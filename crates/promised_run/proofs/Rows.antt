@@ -2,43 +2,43 @@
 use Rattle.std.proofs.Common.{◌≡◌, ℕ, zero, suc, Bool, true, false, Option, Some, None, List, [], ◌∷◌, ◌++◌, map, length, refl, sym, ap, ◌∙◌, append_assoc, append-nil}
 use Rattle.std.specs.Prelude.{◌==◌, ◌&&◌, if◌then◌else◌, All}
 use Rattle.std.proofs.lemmas.List.Elements.{All-append, All-cons, All-head, All-tail}
-use Rattle.life_runs.specs.First.{leads_from, first_leads}
-use Rattle.life_runs.specs.Led.{Exchanged, Leads, Turn, Took, AllTurn, IsLed, is_passed, speech_at, life_behind, led_behind, gives_up_at}
-use Rattle.life_runs.specs.of_datagrams.Datagram as Raw
-use Rattle.life_runs.specs.of_protocol_models.EoeClient as EoeClient
-use Rattle.life_runs.specs.of_frame_view.View.{Lens}
-use Rattle.life_runs.specs.of_frame_view.Seen.{seen}
-use Rattle.life_runs.specs.of_frame_view.Shares.{IsNext, came_at, given_where, lived_back, lived_lost}
-use Rattle.life_runs.specs.of_link_mails.Body.{Body}
-use Rattle.life_runs.specs.of_master_duty.Reply.{Reply}
-use Rattle.life_runs.specs.of_master_hand.Spoken.{Asked, sdo, file, drive, net, passed, acknowledged, is_followed}
-use Rattle.life_runs.specs.of_master_side.Passing.{news_back, news_lost}
-use Rattle.gateway_run.proofs.of_master_node.Servings.{leads_same, run_all}
+use Rattle.run_promises.specs.of_life_runs.First.{leads_from, first_leads}
+use Rattle.run_promises.specs.of_life_runs.Led.{Exchanged, Leads, Turn, Took, AllTurn, IsLed, is_passed, speech_at, life_behind, led_behind, gives_up_at}
+use Rattle.run_promises.specs.of_datagrams.Datagram as Raw
+use Rattle.run_promises.specs.of_protocol_models.EoeClient as EoeClient
+use Rattle.seen_slaves.specs.of_frame_view.View.{Lens}
+use Rattle.seen_slaves.specs.of_frame_view.Seen.{seen}
+use Rattle.seen_slaves.specs.of_frame_view.Shares.{IsNext, came_at, given_where, lived_back, lived_lost}
+use Rattle.run_promises.specs.of_link_mails.Body.{Body}
+use Rattle.seen_slaves.specs.of_master_duty.Reply.{Reply}
+use Rattle.seen_slaves.specs.of_master_hand.Spoken.{Asked, sdo, file, drive, net, passed, acknowledged, is_followed}
+use Rattle.seen_slaves.specs.of_master_side.Passing.{news_back, news_lost}
+use Rattle.run_promises.proofs.of_master_node.Servings.{leads_same, run_all}
 use Rattle.promised_run.specs.Numbers.{eras_rows, life_rows, packet_frames, rows_at}
 use Rattle.promised_run.specs.ServedPorts.{is_mail, mail_frames}
-use Rattle.run_book.specs.of_master_node.Begins.{begins_other, begun_of}
-use Rattle.run_book.specs.of_master_node.Serving.{run_lead, run_turn}
-use Rattle.run_record.specs.of_packets_heard.Numbers.{each_with, frame_where, frames_begun, frames_other}
-use Rattle.run_record.specs.of_packets_heard.Over.{packet_begun}
-use Rattle.run_record.specs.of_packets_heard.Servings.{served_begun, served_other}
-use Rattle.run_frames.proofs.of_state_model.Completed.{started_back}
-use Rattle.run_frames.specs.Came.{is_beside, is_packet}
-use Rattle.run_frames.specs.of_exchange_model.Exchange.{Speech}
-use Rattle.run_frames.specs.of_life_model.Lives.{Spot, Era, Life, Stand, Opening, granted, life_next, life_back, life_lost, era_back, opening_back, shows_clear, is_shown, last_step, clears, opens, steps_on, reopens, reopens_at, reopening, opens_state, returns_to_init}
-use Rattle.run_frames.specs.of_life_model.Own.{own}
-use Rattle.run_frames.specs.of_segment_model.Ends.{Passing}
-use Rattle.run_frames.specs.of_segment_model.Record.{News}
-use Rattle.run_frames.specs.of_segment_model.Seats.{Side}
-use Rattle.run_frames.specs.of_segment_model.Slaves.{Datagram, Found}
-use Rattle.run_frames.specs.of_state_model.Stated.{Service}
-use Rattle.run_frames.specs.of_state_model.Accounts.{Account, Duty, Stage, Pick, Started, account_begins}
-use Rattle.segment_plan.specs.declared.plan.Scenario.{Scenario}
-use Rattle.segment_plan.specs.declared.service.Service as Plan
-use Rattle.segment_plan.specs.declared.slave.SlaveSpec.{SlaveSpec}
-use Rattle.life_runs.proofs.Quiet.{comes_own}
-use Rattle.life_runs.specs.Served.{AllServedTurn, IsServedLed, Keyed, Serves, ServedTurn, all_serve, asked_at, served_behind, served_life}
-use Rattle.life_runs.specs.of_segment_ring.declared.wire.Fate.{Fate}
-use Rattle.life_runs.specs.of_segment_ring.declared.wire.Fate.TheVariants.{Pass, Lost}
+use Rattle.run_promises.specs.of_master_node.Begins.{begins_other, begun_of}
+use Rattle.run_promises.specs.of_master_node.Serving.{run_lead, run_turn}
+use Rattle.run_promises.specs.of_packets_heard.Numbers.{each_with, frame_where, frames_begun, frames_other}
+use Rattle.run_promises.specs.of_packets_heard.Over.{packet_begun}
+use Rattle.run_promises.specs.of_packets_heard.Servings.{served_begun, served_other}
+use Rattle.run_promises.proofs.of_state_model.Completed.{started_back}
+use Rattle.seen_slaves.specs.of_run_frames.Came.{is_beside, is_packet}
+use Rattle.run_promises.specs.of_exchange_model.Exchange.{Speech}
+use Rattle.run_promises.specs.of_life_model.Lives.{Spot, Era, Life, Stand, Opening, granted, life_next, life_back, life_lost, era_back, opening_back, shows_clear, is_shown, last_step, clears, opens, steps_on, reopens, reopens_at, reopening, opens_state, returns_to_init}
+use Rattle.run_promises.specs.of_life_model.Own.{own}
+use Rattle.run_promises.specs.of_segment_model.Ends.{Passing}
+use Rattle.run_promises.specs.of_segment_model.Record.{News}
+use Rattle.run_promises.specs.of_segment_model.Seats.{Side}
+use Rattle.run_promises.specs.of_segment_model.Slaves.{Datagram, Found}
+use Rattle.run_promises.specs.of_state_model.Stated.{Service}
+use Rattle.run_promises.specs.of_state_model.Accounts.{Account, Duty, Stage, Pick, Started, account_begins}
+use Rattle.run_promises.specs.of_segment_plan.declared.plan.Scenario.{Scenario}
+use Rattle.run_promises.specs.of_segment_plan.declared.service.Service as Plan
+use Rattle.run_promises.specs.of_segment_plan.declared.slave.SlaveSpec.{SlaveSpec}
+use Rattle.gateway_run.proofs.of_life_runs.Quiet.{comes_own}
+use Rattle.run_promises.specs.of_life_runs.Served.{AllServedTurn, IsServedLed, Keyed, Serves, ServedTurn, all_serve, asked_at, served_behind, served_life}
+use Rattle.run_promises.specs.of_segment_ring.declared.wire.Fate.{Fate}
+use Rattle.run_promises.specs.of_segment_ring.declared.wire.Fate.TheVariants.{Pass, Lost}
 
 abbrev SlaveLife : Type 0
 SlaveLife = Life Body Asked Reply

@@ -1,17 +1,17 @@
 -- Each service of a slave's script may begin.
 use Rattle.std.proofs.Common.{◌≡◌, ℕ, zero, suc, ◌+◌, Option, Some, None, List, [], ◌∷◌, refl, sym, ap, ◌∙◌, subst, arith}
 use Rattle.std.specs.Prelude.{slice_get, ⊤}
-use Rattle.frame_view.specs.View.{Lens}
-use Rattle.life_runs.specs.First.{AreApart, HaveLens, lens_of, script_for}
-use Rattle.life_runs.proofs.First.{have_lens}
-use Rattle.life_runs.specs.Led.{Leads}
-use Rattle.run_book.specs.of_master_node.Starts.{NeverBegins}
-use Rattle.plan_ring.specs.Lives.{AllShown, IsShown}
-use Rattle.plan_ring.specs.Plan.{PlanMember}
-use Rattle.segment_plan.specs.declared.plan.Scenario.{Scenario}
-use Rattle.segment_plan.specs.declared.service.Service as Plan
-use Rattle.segment_plan.specs.declared.slave.SlaveSpec.{SlaveSpec}
-use Rattle.plan_ring.specs.PlanRooms.{MayBegin}
+use Rattle.seen_slaves.specs.of_frame_view.View.{Lens}
+use Rattle.run_promises.specs.of_life_runs.First.{AreApart, HaveLens, lens_of, script_for}
+use Rattle.gateway_run.proofs.of_life_runs.First.{have_lens}
+use Rattle.run_promises.specs.of_life_runs.Led.{Leads}
+use Rattle.run_promises.specs.of_master_node.Starts.{NeverBegins}
+use Rattle.seen_slaves.specs.of_plan_ring.Lives.{AllShown, IsShown}
+use Rattle.seen_slaves.specs.of_plan_ring.Plan.{PlanMember}
+use Rattle.run_promises.specs.of_segment_plan.declared.plan.Scenario.{Scenario}
+use Rattle.run_promises.specs.of_segment_plan.declared.service.Service as Plan
+use Rattle.run_promises.specs.of_segment_plan.declared.slave.SlaveSpec.{SlaveSpec}
+use Rattle.seen_slaves.specs.of_plan_ring.PlanRooms.{MayBegin}
 
 -- a slave's services, with the room of its mailbox 0
 abbrev pub MayAll : (ℕ → Lens) → Leads → Type 0

@@ -1,9 +1,9 @@
 -- EACH EPOCH OF A RUN OR A SERVING sends whole packets, of which the first came in at the port of its slave.
 use Rattle.std.proofs.Common.{◌≡◌, ◌≢◌, ℕ, zero, suc, Some, List, [], ◌∷◌, ◌++◌, map, length, le-ltb, refl, ap, ◌∙◌}
 use Rattle.std.specs.Prelude.{slice_get}
-use Rattle.life_runs.specs.Led.{Exchanged, Leads}
-use Rattle.plan_ring.specs.Lives.{IsKnown}
-use Rattle.plan_ring.specs.Round.{AllRound, ring_of}
+use Rattle.run_promises.specs.of_life_runs.Led.{Exchanged, Leads}
+use Rattle.seen_slaves.specs.of_plan_ring.Lives.{IsKnown}
+use Rattle.seen_slaves.specs.of_plan_ring.Round.{AllRound, ring_of}
 use Rattle.promised_run.proofs.Rounds.{all_round}
 use Rattle.promised_run.proofs.Through.{RepliesLaw, stood_behind}
 use Rattle.promised_run.specs.Alone.{ServesAlone}
@@ -11,23 +11,23 @@ use Rattle.promised_run.specs.Ports.{AllHavePorts, accepted_at}
 use Rattle.promised_run.specs.SentWhole.{HasSentWhole, IsServedSentWhole, SendWhole, packet_of}
 use Rattle.promised_run.specs.ServedPorts.{IsServedAtPorts}
 use Rattle.promised_run.specs.Stood.{StoodBehind}
-use Rattle.run_book.specs.declared.book.Book.{Book}
-use Rattle.run_book.specs.declared.book.Ending.TheVariants as endings
-use Rattle.run_book.specs.declared.book.SentFrame.{SentFrame}
-use Rattle.run_book.specs.of_master_node.Forwards.{port_by}
-use Rattle.run_book.specs.of_master_node.Happened.{arrivals_at}
-use Rattle.run_book.specs.of_master_node.Ports.{ports_behind}
-use Rattle.run_record.specs.Led.{LeadTo, exchanged}
-use Rattle.run_record.specs.Ran.{HasSent}
-use Rattle.run_record.specs.Replay.{first_ring}
-use Rattle.run_record.specs.of_packets_heard.Heard.{Times, packets_of, times_in}
-use Rattle.run_record.specs.of_packets_heard.Listed.{long_ones, long_where}
-use Rattle.run_record.specs.of_packets_heard.Servings.{served_times}
-use Rattle.segment_plan.specs.Sound.{IsPlan}
-use Rattle.segment_plan.specs.declared.plan.Scenario.{Scenario}
+use Rattle.gateway_run.specs.of_run_book.declared.book.Book.{Book}
+use Rattle.gateway_run.specs.of_run_book.declared.book.Ending.TheVariants as endings
+use Rattle.gateway_run.specs.of_run_book.declared.book.SentFrame.{SentFrame}
+use Rattle.run_promises.specs.of_master_node.Forwards.{port_by}
+use Rattle.run_promises.specs.of_master_node.Happened.{arrivals_at}
+use Rattle.run_promises.specs.of_master_node.Ports.{ports_behind}
+use Rattle.gateway_run.specs.of_run_record.Led.{LeadTo, exchanged}
+use Rattle.gateway_run.specs.of_run_record.Ran.{HasSent}
+use Rattle.gateway_run.specs.of_run_record.Replay.{first_ring}
+use Rattle.run_promises.specs.of_packets_heard.Heard.{Times, packets_of, times_in}
+use Rattle.run_promises.specs.of_packets_heard.Listed.{long_ones, long_where}
+use Rattle.run_promises.specs.of_packets_heard.Servings.{served_times}
+use Rattle.run_promises.specs.of_segment_plan.Sound.{IsPlan}
+use Rattle.run_promises.specs.of_segment_plan.declared.plan.Scenario.{Scenario}
 use Rattle.run_promises.specs.Laws.{PacketsAreLong, RunsHear, ServingsHear, SlavesSendWhole}
 use Rattle.run_promises.specs.Whole.{AllAreHeard, AreLong, heard_at}
-use Rattle.life_runs.specs.Served.{Serves}
+use Rattle.run_promises.specs.of_life_runs.Served.{Serves}
 
 -- packets of at least 14 octets all come in
 long_all : (ps : List (List ℕ)) → AreLong ps → long_ones ps ≡ map packet_of ps

@@ -1,20 +1,20 @@
 -- THE BOOK OF A SERVING has of scripts and epochs what that of a run has.
 use Rattle.std.proofs.Common.{ℕ, zero, suc, List, [], ◌∷◌, map, length, refl, ◌∙◌}
-use Rattle.life_runs.specs.First.{leads_from, lens_of}
-use Rattle.life_runs.specs.Led.{Exchanged, gives_up_at}
-use Rattle.life_runs.specs.Opened.{AllOpenTheirs}
-use Rattle.datagrams.specs.Datagram as Raw
-use Rattle.frame_view.specs.View.{Lens}
-use Rattle.run_book.specs.of_master_node.Serving.{run_lead}
+use Rattle.run_promises.specs.of_life_runs.First.{leads_from, lens_of}
+use Rattle.run_promises.specs.of_life_runs.Led.{Exchanged, gives_up_at}
+use Rattle.run_promises.specs.of_life_runs.Opened.{AllOpenTheirs}
+use Rattle.run_promises.specs.of_datagrams.Datagram as Raw
+use Rattle.seen_slaves.specs.of_frame_view.View.{Lens}
+use Rattle.run_promises.specs.of_master_node.Serving.{run_lead}
 use Rattle.promised_run.proofs.Epochs.{all_caused}
 use Rattle.promised_run.proofs.ServedPorts.{gave_so}
 use Rattle.promised_run.proofs.Unsent.{AllOfPlan, all_unsent}
 use Rattle.promised_run.specs.ServedBooks.{IsServedBooked}
-use Rattle.run_book.specs.declared.book.Book.{Book}
-use Rattle.run_record.specs.Served.{ServeTo}
-use Rattle.segment_plan.specs.declared.plan.Scenario.{Scenario}
-use Rattle.segment_plan.specs.declared.slave.SlaveSpec.{SlaveSpec}
-use Rattle.life_runs.specs.Served.{Keyed, Serves, ServedTurn, IsServedLed, AllServedTurn, all_serve, asked_at, served_behind}
+use Rattle.gateway_run.specs.of_run_book.declared.book.Book.{Book}
+use Rattle.gateway_run.specs.of_run_record.Served.{ServeTo}
+use Rattle.run_promises.specs.of_segment_plan.declared.plan.Scenario.{Scenario}
+use Rattle.run_promises.specs.of_segment_plan.declared.slave.SlaveSpec.{SlaveSpec}
+use Rattle.run_promises.specs.of_life_runs.Served.{Keyed, Serves, ServedTurn, IsServedLed, AllServedTurn, all_serve, asked_at, served_behind}
 
 -- ---- the script of each slave stays the plan's
 

@@ -8,37 +8,37 @@ use Rattle.gateway_run.specs.Rooms.{owed_for}
 use Rattle.gateway_run.specs.Served.{HasAccount, IsServed}
 use Rattle.gateway_run.specs.Serving.{Told}
 use Rattle.gateway_run.specs.Since.{GaveSince}
-use Rattle.life_runs.specs.First.{lens_of, first_leads}
-use Rattle.life_runs.specs.Led.{Exchanged, Leads, gives_up_at, speech_at}
-use Rattle.life_runs.specs.of_datagrams.Datagram as Raw
-use Rattle.life_runs.specs.of_frame_view.Seen.{seen}
-use Rattle.life_runs.specs.of_frame_view.View.{Lens}
-use Rattle.life_runs.specs.of_frame_view.Shares.{came_at}
-use Rattle.life_runs.specs.of_master_side.Passing.{news_back, news_lost}
-use Rattle.life_runs.specs.of_segment_ring.declared.wire.Fate.{Fate}
-use Rattle.life_runs.specs.of_segment_ring.declared.wire.Fate.TheVariants.{Pass, Lost}
-use Rattle.mailbox_mail.specs.declared.mail.Mail.{Mail}
+use Rattle.run_promises.specs.of_life_runs.First.{lens_of, first_leads}
+use Rattle.run_promises.specs.of_life_runs.Led.{Exchanged, Leads, gives_up_at, speech_at}
+use Rattle.run_promises.specs.of_datagrams.Datagram as Raw
+use Rattle.seen_slaves.specs.of_frame_view.Seen.{seen}
+use Rattle.seen_slaves.specs.of_frame_view.View.{Lens}
+use Rattle.seen_slaves.specs.of_frame_view.Shares.{came_at}
+use Rattle.seen_slaves.specs.of_master_side.Passing.{news_back, news_lost}
+use Rattle.run_promises.specs.of_segment_ring.declared.wire.Fate.{Fate}
+use Rattle.run_promises.specs.of_segment_ring.declared.wire.Fate.TheVariants.{Pass, Lost}
+use Rattle.gateway_run.specs.of_mailbox_mail.declared.mail.Mail.{Mail}
 use Rattle.promised_run.proofs.Few.{AreFated, LifeOf, NoneGave, Stands, back_gave, fated_split, lost_gave, next_gave, none_any, none_first, recorded_fates, stands_on}
 use Rattle.promised_run.specs.Few.{AreFewLost, IsLost, NoneGivenUp}
 use Rattle.promised_run.specs.ServedBounded.{AreDone, HearsFair, IsServedBounded}
-use Rattle.run_book.specs.declared.book.Book.{Book}
-use Rattle.run_book.specs.declared.book.Ending.{Ending}
-use Rattle.run_book.specs.declared.book.Ending.TheVariants as endings
-use Rattle.run_book.specs.declared.book.GramIn.{GramIn}
-use Rattle.run_book.specs.of_master_node.Serving.{run_lead}
-use Rattle.run_book.specs.of_master_node.Wants.{gave_of}
-use Rattle.run_book.specs.of_master_tour.Made.{is_in}
-use Rattle.run_record.specs.Led.{exchanged}
-use Rattle.run_record.specs.Ran.{HasSent}
-use Rattle.run_record.specs.Replay.{first_ring}
-use Rattle.run_record.specs.Session.{budget_of, some_given_up}
-use Rattle.run_record.specs.of_run_notes.Slaves.{gaves_noted, slave_rows}
-use Rattle.run_record.specs.of_run_notes.declared.notes.Notes.{Notes}
-use Rattle.segment_plan.specs.Bound.{bound_of}
-use Rattle.segment_plan.specs.declared.plan.Scenario.{Scenario}
-use Rattle.life_runs.specs.Served.{AllServedTurn, IsServedLed, Keyed, Serves, ServedTurn, all_serve, asked_at, served_behind, served_life}
-use Rattle.slave_node.specs.Node.{Node}
-use Rattle.slave_server.specs.declared.server.SlaveServer.{SlaveServer}
+use Rattle.gateway_run.specs.of_run_book.declared.book.Book.{Book}
+use Rattle.gateway_run.specs.of_run_book.declared.book.Ending.{Ending}
+use Rattle.gateway_run.specs.of_run_book.declared.book.Ending.TheVariants as endings
+use Rattle.gateway_run.specs.of_run_book.declared.book.GramIn.{GramIn}
+use Rattle.run_promises.specs.of_master_node.Serving.{run_lead}
+use Rattle.run_promises.specs.of_master_node.Wants.{gave_of}
+use Rattle.run_promises.specs.of_master_tour.Made.{is_in}
+use Rattle.gateway_run.specs.of_run_record.Led.{exchanged}
+use Rattle.gateway_run.specs.of_run_record.Ran.{HasSent}
+use Rattle.gateway_run.specs.of_run_record.Replay.{first_ring}
+use Rattle.gateway_run.specs.of_run_record.Session.{budget_of, some_given_up}
+use Rattle.gateway_run.specs.of_run_notes.Slaves.{gaves_noted, slave_rows}
+use Rattle.gateway_run.specs.of_run_notes.declared.notes.Notes.{Notes}
+use Rattle.run_promises.specs.of_segment_plan.Bound.{bound_of}
+use Rattle.run_promises.specs.of_segment_plan.declared.plan.Scenario.{Scenario}
+use Rattle.run_promises.specs.of_life_runs.Served.{AllServedTurn, IsServedLed, Keyed, Serves, ServedTurn, all_serve, asked_at, served_behind, served_life}
+use Rattle.run_promises.specs.of_slave_node.Node.{Node}
+use Rattle.run_promises.specs.of_slave_server.declared.server.SlaveServer.{SlaveServer}
 
 -- ---- no slave is given up
 

@@ -4,27 +4,27 @@ use Rattle.std.proofs.lemmas.List.{length-map, take-append-drop}
 use Rattle.arrayvec.specs.ArrayVec.{ArrayVec}
 use Rattle.promised_run.proofs.Recalled.{all_round}
 use Rattle.promised_run.specs.Eager.{IsEagerServing}
-use Rattle.eoe_switch.specs.declared.switching.SwitchEvent.{SwitchEvent}
+use Rattle.run_promises.specs.of_eoe_switch.declared.switching.SwitchEvent.{SwitchEvent}
 use Rattle.gateway_run.specs.Served.{HasAccount}
-use Rattle.life_runs.specs.Led.{Exchanged}
-use Rattle.run_book.specs.of_master_node.Happened.{arrivals_at, events_of}
-use Rattle.run_book.specs.of_master_node.Ports.{IsAtPort, ports_behind, ports_of}
-use Rattle.run_book.specs.of_master_node.Toured.{tour_of}
-use Rattle.run_book.specs.of_master_node.of_master_tour.Toured.{Tour}
-use Rattle.run_record.specs.of_packets_heard.Recalled.{State}
-use Rattle.run_record.specs.of_packets_heard.ServedRecalled.{ServedRecalledIn}
-use Rattle.run_record.specs.of_packets_heard.Servings.{AreServedBegun, ServedListed}
-use Rattle.plan_ring.specs.Round.{AllRound, ring_of}
-use Rattle.run_book.specs.declared.book.Book.{Book}
-use Rattle.run_book.specs.declared.book.Ending.{Ending}
-use Rattle.run_record.specs.Led.{exchanged}
-use Rattle.run_record.specs.Ran.{HasSent}
-use Rattle.run_record.specs.Served.{ServeTo, ServedTouredTo}
-use Rattle.run_work.specs.ServedGained.{asked_in}
-use Rattle.segment_plan.specs.Bound.{bound_of}
-use Rattle.segment_plan.specs.declared.plan.Scenario.{Scenario}
+use Rattle.run_promises.specs.of_life_runs.Led.{Exchanged}
+use Rattle.run_promises.specs.of_master_node.Happened.{arrivals_at, events_of}
+use Rattle.run_promises.specs.of_master_node.Ports.{IsAtPort, ports_behind, ports_of}
+use Rattle.run_promises.specs.of_master_node.Toured.{tour_of}
+use Rattle.run_promises.specs.of_master_tour.Toured.{Tour}
+use Rattle.run_promises.specs.of_packets_heard.Recalled.{State}
+use Rattle.run_promises.specs.of_packets_heard.ServedRecalled.{ServedRecalledIn}
+use Rattle.run_promises.specs.of_packets_heard.Servings.{AreServedBegun, ServedListed}
+use Rattle.seen_slaves.specs.of_plan_ring.Round.{AllRound, ring_of}
+use Rattle.gateway_run.specs.of_run_book.declared.book.Book.{Book}
+use Rattle.gateway_run.specs.of_run_book.declared.book.Ending.{Ending}
+use Rattle.gateway_run.specs.of_run_record.Led.{exchanged}
+use Rattle.gateway_run.specs.of_run_record.Ran.{HasSent}
+use Rattle.gateway_run.specs.of_run_record.Served.{ServeTo, ServedTouredTo}
+use Rattle.run_promises.specs.of_run_work.ServedGained.{asked_in}
+use Rattle.run_promises.specs.of_segment_plan.Bound.{bound_of}
+use Rattle.run_promises.specs.of_segment_plan.declared.plan.Scenario.{Scenario}
 use Rattle.run_promises.specs.Quiet.{AsksQuiet}
-use Rattle.life_runs.specs.Served.{Serves}
+use Rattle.run_promises.specs.of_life_runs.Served.{Serves}
 
 -- what the laws say
 pub record Laws (plan : Scenario) (count : ℕ) : Type 0 where

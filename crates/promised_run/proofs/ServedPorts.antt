@@ -3,46 +3,46 @@ use Rattle.std.proofs.Common.{◌≡◌, ◌≢◌, ◌<◌, ℕ, suc, List, [],
 use Rattle.std.specs.Prelude.{All}
 use Rattle.gateway_run.specs.Served.{HasAccount, IsServed}
 use Rattle.gateway_run.specs.Serving.{Told}
-use Rattle.life_runs.specs.First.{first_leads, lens_of}
-use Rattle.life_runs.specs.Led.{Exchanged, Leads}
-use Rattle.life_runs.specs.of_frame_view.Shares.{AllBoth}
-use Rattle.gateway_run.proofs.of_master_node.Servings.{run_all}
+use Rattle.run_promises.specs.of_life_runs.First.{first_leads, lens_of}
+use Rattle.run_promises.specs.of_life_runs.Led.{Exchanged, Leads}
+use Rattle.seen_slaves.specs.of_frame_view.Shares.{AllBoth}
+use Rattle.run_promises.proofs.of_master_node.Servings.{run_all}
 use Rattle.promised_run.proofs.Numbers.{given_are, scripts_are}
 use Rattle.promised_run.proofs.Ports.{by_times, few_ports, first_live}
 use Rattle.promised_run.proofs.Rows.{both_hold, serving_packets, serving_plain}
 use Rattle.promised_run.specs.Numbers.{rows_at}
 use Rattle.promised_run.specs.Ports.{HasBegunAt}
 use Rattle.promised_run.specs.ServedPorts.{AllHaveServedNumbers, AllHaveServedPorts, IsServedAtPorts, mail_frames}
-use Rattle.run_book.specs.declared.book.Book.{Book}
-use Rattle.run_book.specs.declared.book.Ending.{Ending}
-use Rattle.run_book.specs.declared.book.Ending.TheVariants as endings
-use Rattle.run_book.specs.declared.book.SlaveBook.{SlaveBook}
-use Rattle.run_book.specs.of_master_node.Ports.{ports_behind, ports_of}
-use Rattle.run_book.specs.of_master_node.Serving.{run_lead}
-use Rattle.run_book.specs.of_master_node.Shows.{is_live_lead}
-use Rattle.run_book.specs.of_master_node.Wants.{gave_of}
-use Rattle.run_book.specs.of_master_tour.Goes.{holds_at}
-use Rattle.run_record.proofs.ServedGaves.{served_counted}
-use Rattle.run_record.proofs.of_packets_heard.GivenUp.{serving_goes}
-use Rattle.run_record.proofs.of_packets_heard.Numbers.{serving_begins, serving_comes}
-use Rattle.run_record.proofs.of_packets_heard.Owns.{own_port}
-use Rattle.run_record.proofs.of_packets_heard.PacketsRuns.{serving_begun, serving_first, serving_last}
-use Rattle.run_record.proofs.of_packets_heard.Parts.{serving_joined}
-use Rattle.run_record.proofs.of_packets_heard.Quiet.{serving_quiet}
-use Rattle.run_record.proofs.of_packets_heard.Runs.{serving_arrivals, serving_downs}
-use Rattle.run_record.specs.Ran.{HasRows}
-use Rattle.run_record.specs.Served.{ServeTo}
-use Rattle.run_record.specs.of_eoe_switch.declared.switching.SwitchEvent.{SwitchEvent}
-use Rattle.run_record.specs.of_packets_heard.Listed.{IsOwn, long_ones}
-use Rattle.run_record.specs.of_packets_heard.Numbers.{NoneWaits, events_up_to, number_behind}
-use Rattle.run_record.specs.of_packets_heard.Servings.{AreServedBegun, ServedListed, ServedNumbered, served_joined, served_packets, served_times}
-use Rattle.run_record.specs.of_run_notes.Reports.{IsBooked}
-use Rattle.run_record.specs.of_run_notes.Slaves.{gaves_in, gaves_noted, slave_rows}
-use Rattle.run_record.specs.of_run_notes.declared.notes.Notes.{Notes}
-use Rattle.segment_plan.specs.declared.plan.Scenario.{Scenario}
-use Rattle.life_runs.specs.Served.{Serves}
-use Rattle.slave_node.specs.Node.{Node}
-use Rattle.slave_server.specs.declared.server.SlaveServer.{SlaveServer}
+use Rattle.gateway_run.specs.of_run_book.declared.book.Book.{Book}
+use Rattle.gateway_run.specs.of_run_book.declared.book.Ending.{Ending}
+use Rattle.gateway_run.specs.of_run_book.declared.book.Ending.TheVariants as endings
+use Rattle.gateway_run.specs.of_run_book.declared.book.SlaveBook.{SlaveBook}
+use Rattle.run_promises.specs.of_master_node.Ports.{ports_behind, ports_of}
+use Rattle.run_promises.specs.of_master_node.Serving.{run_lead}
+use Rattle.run_promises.specs.of_master_node.Shows.{is_live_lead}
+use Rattle.run_promises.specs.of_master_node.Wants.{gave_of}
+use Rattle.run_promises.specs.of_master_tour.Goes.{holds_at}
+use Rattle.gateway_run.proofs.of_run_record.ServedGaves.{served_counted}
+use Rattle.run_promises.proofs.of_packets_heard.GivenUp.{serving_goes}
+use Rattle.run_promises.proofs.of_packets_heard.Numbers.{serving_begins, serving_comes}
+use Rattle.run_promises.proofs.of_packets_heard.Owns.{own_port}
+use Rattle.run_promises.proofs.of_packets_heard.PacketsRuns.{serving_begun, serving_first, serving_last}
+use Rattle.run_promises.proofs.of_packets_heard.Parts.{serving_joined}
+use Rattle.run_promises.proofs.of_packets_heard.Quiet.{serving_quiet}
+use Rattle.run_promises.proofs.of_packets_heard.Runs.{serving_arrivals, serving_downs}
+use Rattle.gateway_run.specs.of_run_record.Ran.{HasRows}
+use Rattle.gateway_run.specs.of_run_record.Served.{ServeTo}
+use Rattle.run_promises.specs.of_eoe_switch.declared.switching.SwitchEvent.{SwitchEvent}
+use Rattle.run_promises.specs.of_packets_heard.Listed.{IsOwn, long_ones}
+use Rattle.run_promises.specs.of_packets_heard.Numbers.{NoneWaits, events_up_to, number_behind}
+use Rattle.run_promises.specs.of_packets_heard.Servings.{AreServedBegun, ServedListed, ServedNumbered, served_joined, served_packets, served_times}
+use Rattle.gateway_run.specs.of_run_notes.Reports.{IsBooked}
+use Rattle.gateway_run.specs.of_run_notes.Slaves.{gaves_in, gaves_noted, slave_rows}
+use Rattle.gateway_run.specs.of_run_notes.declared.notes.Notes.{Notes}
+use Rattle.run_promises.specs.of_segment_plan.declared.plan.Scenario.{Scenario}
+use Rattle.run_promises.specs.of_life_runs.Served.{Serves}
+use Rattle.run_promises.specs.of_slave_node.Node.{Node}
+use Rattle.run_promises.specs.of_slave_server.declared.server.SlaveServer.{SlaveServer}
 
 module _ (plan : Scenario) {fs : List Exchanged} {missed : ℕ} {ws : List Serves} (lives : ServeTo plan fs missed ws) where
   -- what began there

@@ -1,44 +1,44 @@
 -- WHAT THE BOOK OF A SERVING REPORTS is what its frames give.
 use Rattle.std.proofs.Common.{◌≡◌, ℕ, suc, Bool, true, false, Option, Some, None, option_map, List, [], ◌∷◌, ◌++◌, map, refl, ap, ap₂, sym, ◌∙◌, subst}
 use Rattle.std.proofs.lemmas.List.{map-append}
-use Rattle.exchange_model.specs.Rows.{Row}
-use Rattle.frame_view.specs.Shares.{AllBoth}
-use Rattle.life_model.specs.Eras.{era_frames}
-use Rattle.life_model.specs.Lives.{Spot, Era, Life, Stand, returns_to_init}
-use Rattle.life_runs.specs.First.{first_leads, lens_of, spot_of}
-use Rattle.life_runs.specs.Led.{Exchanged}
-use Rattle.link_mails.specs.Body.{Body}
-use Rattle.master_duty.specs.Reply.{Reply}
-use Rattle.master_hand.specs.Spoken.{Asked, sdo, file, drive, net, passed}
-use Rattle.run_book.specs.of_master_node.Serving.{run_lead}
-use Rattle.plan_ring.specs.Lives.{IsKnown}
-use Rattle.plan_ring.specs.Round.{AllRound, all_seen, ring_of}
+use Rattle.run_promises.specs.of_exchange_model.Rows.{Row}
+use Rattle.seen_slaves.specs.of_frame_view.Shares.{AllBoth}
+use Rattle.run_promises.specs.of_life_model.Eras.{era_frames}
+use Rattle.run_promises.specs.of_life_model.Lives.{Spot, Era, Life, Stand, returns_to_init}
+use Rattle.run_promises.specs.of_life_runs.First.{first_leads, lens_of, spot_of}
+use Rattle.run_promises.specs.of_life_runs.Led.{Exchanged}
+use Rattle.run_promises.specs.of_link_mails.Body.{Body}
+use Rattle.seen_slaves.specs.of_master_duty.Reply.{Reply}
+use Rattle.seen_slaves.specs.of_master_hand.Spoken.{Asked, sdo, file, drive, net, passed}
+use Rattle.run_promises.specs.of_master_node.Serving.{run_lead}
+use Rattle.seen_slaves.specs.of_plan_ring.Lives.{IsKnown}
+use Rattle.seen_slaves.specs.of_plan_ring.Round.{AllRound, all_seen, ring_of}
 use Rattle.promised_run.proofs.Reported.{are_noted, first_row, none_noted, parts, unopened_none}
 use Rattle.promised_run.proofs.Rounds.{all_round}
 use Rattle.promised_run.specs.ServedReported.{AllReportedSo, EraNoted, IsServedReported, LifeNoted, NewestNoted, PastNoted}
-use Rattle.run_book.specs.declared.book.Book.{Book}
-use Rattle.run_book.specs.declared.book.SlaveBook.{SlaveBook}
+use Rattle.gateway_run.specs.of_run_book.declared.book.Book.{Book}
+use Rattle.gateway_run.specs.of_run_book.declared.book.SlaveBook.{SlaveBook}
 use Rattle.run_promises.proofs.Known.{known}
 use Rattle.run_promises.specs.Slaves.{services_of}
-use Rattle.run_record.specs.Led.{exchanged}
-use Rattle.run_record.specs.Ran.{HasSent}
-use Rattle.run_record.specs.Replay.{first_ring}
-use Rattle.run_record.specs.of_run_notes.Reports.{IsBooked, noted_in}
-use Rattle.scenario.specs.Told.{IsTold}
-use Rattle.run_frames.specs.ScriptAnswers.{AllNoted, Came, Noted, Scripted, answers_in, change_outcome, changes_behind, era_scripted, eras_scripted, first_change, life_scripted, next_opened, opened_anew, scripted_by, scripted_in, scripted_mails}
-use Rattle.run_frames.specs.Came.{is_beside}
-use Rattle.segment_model.specs.Record.{Frame}
-use Rattle.segment_model.specs.Seats.{Side, newest, rows_of}
-use Rattle.segment_plan.specs.Sound.{IsPlan}
-use Rattle.segment_plan.specs.declared.plan.Scenario.{Scenario}
-use Rattle.segment_plan.specs.declared.slave.SlaveSpec.{SlaveSpec}
-use Rattle.served_rings.specs.ToldEras.{AllToldEras, AllToldLives, IsToldEra, IsToldLife, IsToldNewest, WasToldEra, next_cleared, unpassed_answer, unpassed_row, unpassed_side}
-use Rattle.served_rings.proofs.Unpassed.{rows_keys}
-use Rattle.life_runs.specs.Served.{IsServedLed, Serves, all_serve}
-use Rattle.slave_lives.specs.Lived.{Behind}
-use Rattle.state_model.specs.Stated.{Service}
-use Rattle.state_model.specs.Accounts.{Change, Started}
-use Rattle.state_model.specs.Promise.{mail_of, mails_started, rows_started}
+use Rattle.gateway_run.specs.of_run_record.Led.{exchanged}
+use Rattle.gateway_run.specs.of_run_record.Ran.{HasSent}
+use Rattle.gateway_run.specs.of_run_record.Replay.{first_ring}
+use Rattle.gateway_run.specs.of_run_notes.Reports.{IsBooked, noted_in}
+use Rattle.run_promises.specs.of_scenario.Told.{IsTold}
+use Rattle.seen_slaves.specs.of_run_frames.ScriptAnswers.{AllNoted, Came, Noted, Scripted, answers_in, change_outcome, changes_behind, era_scripted, eras_scripted, first_change, life_scripted, next_opened, opened_anew, scripted_by, scripted_in, scripted_mails}
+use Rattle.seen_slaves.specs.of_run_frames.Came.{is_beside}
+use Rattle.run_promises.specs.of_segment_model.Record.{Frame}
+use Rattle.run_promises.specs.of_segment_model.Seats.{Side, newest, rows_of}
+use Rattle.run_promises.specs.of_segment_plan.Sound.{IsPlan}
+use Rattle.run_promises.specs.of_segment_plan.declared.plan.Scenario.{Scenario}
+use Rattle.run_promises.specs.of_segment_plan.declared.slave.SlaveSpec.{SlaveSpec}
+use Rattle.seen_slaves.specs.of_served_rings.ToldEras.{AllToldEras, AllToldLives, IsToldEra, IsToldLife, IsToldNewest, WasToldEra, next_cleared, unpassed_answer, unpassed_row, unpassed_side}
+use Rattle.seen_slaves.proofs.of_served_rings.Unpassed.{rows_keys}
+use Rattle.run_promises.specs.of_life_runs.Served.{IsServedLed, Serves, all_serve}
+use Rattle.seen_slaves.specs.of_slave_lives.Lived.{Behind}
+use Rattle.run_promises.specs.of_state_model.Stated.{Service}
+use Rattle.run_promises.specs.of_state_model.Accounts.{Change, Started}
+use Rattle.run_promises.specs.of_state_model.Promise.{mail_of, mails_started, rows_started}
 
 -- the law
 abbrev pub ErasLaw : Type 0

@@ -1,42 +1,42 @@
 -- EACH FRAME OF A SERVING is of a visit of its master's tour: to its datagrams it doesn't matter what came into hand of the slaves before it.
 use Rattle.std.proofs.Common.{◌≡◌, ℕ, zero, suc, Bool, false, Option, Some, None, List, [], ◌∷◌, map, length, refl, sym, ap, ◌∙◌, subst}
 use Rattle.std.proofs.lemmas.List.{length-map}
-use Rattle.frame_view.specs.Seen.{seen}
-use Rattle.frame_view.specs.View.{Lens}
-use Rattle.frame_view.specs.Frames.{Share}
-use Rattle.life_model.specs.Lives.{Era, Life, Stand, granted, life_next, passing_begins}
-use Rattle.life_runs.specs.First.{lens_of, first_leads, leads_from}
-use Rattle.life_runs.specs.Led.{Comes, Exchanged, IsLedFrame, IsTurn, AllTurn, Turn, gives_up_at, is_passed, speech_at}
-use Rattle.life_runs.specs.of_datagrams.Datagram as Raw
-use Rattle.link_mails.specs.Body.{Body}
-use Rattle.master_duty.specs.Reply.{Reply}
-use Rattle.master_hand.specs.Spoken.{Asked, acknowledged, is_followed}
-use Rattle.run_book.specs.of_master_node.Rooms.{area_at}
-use Rattle.run_book.specs.of_master_node.Serving.{run_lead, run_turn}
-use Rattle.run_book.specs.of_master_node.Shows.{is_live_lead, lead_of}
-use Rattle.run_book.specs.of_master_node.Toured.{turn_share}
-use Rattle.run_book.specs.of_master_node.of_master_tour.Goes.{holds_at}
-use Rattle.run_book.specs.of_master_node.of_master_tour.Sizes.{frame_size}
-use Rattle.run_book.specs.of_master_node.of_master_tour.Toured.{HaveFrom, IsOfTour, Tour, has_number, visit_of}
-use Rattle.run_record.specs.of_packets_heard.Served.{IsTourServed, serves_behind}
+use Rattle.seen_slaves.specs.of_frame_view.Seen.{seen}
+use Rattle.seen_slaves.specs.of_frame_view.View.{Lens}
+use Rattle.seen_slaves.specs.of_frame_view.Frames.{Share}
+use Rattle.run_promises.specs.of_life_model.Lives.{Era, Life, Stand, granted, life_next, passing_begins}
+use Rattle.run_promises.specs.of_life_runs.First.{lens_of, first_leads, leads_from}
+use Rattle.run_promises.specs.of_life_runs.Led.{Comes, Exchanged, IsLedFrame, IsTurn, AllTurn, Turn, gives_up_at, is_passed, speech_at}
+use Rattle.run_promises.specs.of_datagrams.Datagram as Raw
+use Rattle.run_promises.specs.of_link_mails.Body.{Body}
+use Rattle.seen_slaves.specs.of_master_duty.Reply.{Reply}
+use Rattle.seen_slaves.specs.of_master_hand.Spoken.{Asked, acknowledged, is_followed}
+use Rattle.run_promises.specs.of_master_node.Rooms.{area_at}
+use Rattle.run_promises.specs.of_master_node.Serving.{run_lead, run_turn}
+use Rattle.run_promises.specs.of_master_node.Shows.{is_live_lead, lead_of}
+use Rattle.run_promises.specs.of_master_node.Toured.{turn_share}
+use Rattle.run_promises.specs.of_master_tour.Goes.{holds_at}
+use Rattle.run_promises.specs.of_master_tour.Sizes.{frame_size}
+use Rattle.run_promises.specs.of_master_tour.Toured.{HaveFrom, IsOfTour, Tour, has_number, visit_of}
+use Rattle.run_promises.specs.of_packets_heard.Served.{IsTourServed, serves_behind}
 use Rattle.promised_run.proofs.TouredTours.{leads_asked}
 use Rattle.promised_run.proofs.Visits.{AllStand, AllTurnStand, Placed, frame_placed, none_placed, one_visit}
 use Rattle.promised_run.specs.Visits.{AllServedVisit, IsServedVisited, stops_of}
-use Rattle.run_book.specs.declared.book.Book.{Book}
-use Rattle.run_record.specs.Led.{exchanged}
-use Rattle.run_record.specs.ServedLed.{ServedTouredTo}
-use Rattle.segment_model.specs.Ends.{Passing}
-use Rattle.segment_model.specs.Seats.{side_next}
-use Rattle.segment_plan.specs.Sound.{IsPlan}
-use Rattle.segment_plan.specs.declared.plan.Scenario.{Scenario}
-use Rattle.segment_plan.specs.declared.service.Service as Plan
-use Rattle.segment_plan.specs.declared.slave.SlaveSpec.{SlaveSpec}
-use Rattle.segment_ring.specs.declared.wire.Fate.{Fate}
-use Rattle.segment_ring.specs.declared.wire.Fate.TheVariants.{Pass, Lost}
-use Rattle.run_record.proofs.of_served_places.Slaves.{first_leads_in}
-use Rattle.life_runs.specs.Served.{AllServedTurn, IsServedFrame, IsServedTurn, Serves, ServedTurn, served_life}
-use Rattle.state_model.specs.Accounts.{Pick, account_next, mails_choice}
-use Rattle.exchange_model.specs.Exchange.{Speech}
+use Rattle.gateway_run.specs.of_run_book.declared.book.Book.{Book}
+use Rattle.gateway_run.specs.of_run_record.Led.{exchanged}
+use Rattle.gateway_run.specs.of_run_record.ServedLed.{ServedTouredTo}
+use Rattle.run_promises.specs.of_segment_model.Ends.{Passing}
+use Rattle.run_promises.specs.of_segment_model.Seats.{side_next}
+use Rattle.run_promises.specs.of_segment_plan.Sound.{IsPlan}
+use Rattle.run_promises.specs.of_segment_plan.declared.plan.Scenario.{Scenario}
+use Rattle.run_promises.specs.of_segment_plan.declared.service.Service as Plan
+use Rattle.run_promises.specs.of_segment_plan.declared.slave.SlaveSpec.{SlaveSpec}
+use Rattle.run_promises.specs.of_segment_ring.declared.wire.Fate.{Fate}
+use Rattle.run_promises.specs.of_segment_ring.declared.wire.Fate.TheVariants.{Pass, Lost}
+use Rattle.seen_slaves.proofs.of_served_places.Slaves.{first_leads_in}
+use Rattle.run_promises.specs.of_life_runs.Served.{AllServedTurn, IsServedFrame, IsServedTurn, Serves, ServedTurn, served_life}
+use Rattle.run_promises.specs.of_state_model.Accounts.{Pick, account_next, mails_choice}
+use Rattle.run_promises.specs.of_exchange_model.Exchange.{Speech}
 
 -- WHERE NOTHING COMES INTO HAND and no mail is taken up a life stays as it is
 abbrev still : Pick Asked

@@ -1,13 +1,13 @@
 -- A node that is settled as it is seen, with no control word and nothing offered, is settled.
 use Rattle.std.proofs.Common.{◌≡◌, ◌&&◌, Bool, true, false, Option, Some, None, refl, ap, ◌∙◌, if◌then◌else◌}
 use Rattle.std.specs.Prelude.{not, is_none, option_map, Ok}
-use Rattle.link_mails.specs.Body.{link_mail, uncounted}
-use Rattle.mailbox_mail.specs.declared.mail.Mail.{Mail}
-use Rattle.mailbox_slave.specs.Kept.{offered}
-use Rattle.segment_model.specs.Laws.{IsSettled}
-use Rattle.segment_model.specs.Slaves.{first_waiting}
-use Rattle.slave_lives.specs.Lived.{Behind, IsBehind, node_seen}
-use Rattle.slave_node.specs.Node.{Node, is_settled}
+use Rattle.run_promises.specs.of_link_mails.Body.{link_mail, uncounted}
+use Rattle.gateway_run.specs.of_mailbox_mail.declared.mail.Mail.{Mail}
+use Rattle.run_promises.specs.of_mailbox_slave.Kept.{offered}
+use Rattle.run_promises.specs.of_segment_model.Laws.{IsSettled}
+use Rattle.run_promises.specs.of_segment_model.Slaves.{first_waiting}
+use Rattle.seen_slaves.specs.of_slave_lives.Lived.{Behind, IsBehind, node_seen}
+use Rattle.run_promises.specs.of_slave_node.Node.{Node, is_settled}
 
 mapped_none : {X Y : Type 0} (f : X → Y) (o : Option X) → option_map f o ≡ None → o ≡ None
 mapped_none f None e = refl

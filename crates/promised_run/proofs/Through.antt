@@ -2,28 +2,28 @@
 use Rattle.std.proofs.Common.{◌≡◌, ℕ, List, [], ◌∷◌, ◌++◌, map, take, ap, ◌∙◌, subst}
 use Rattle.std.proofs.lemmas.List.{take-map}
 use Rattle.std.specs.Prelude.{All}
-use Rattle.life_runs.specs.First.{first_leads, lens_of}
-use Rattle.life_runs.specs.Led.{Exchanged}
-use Rattle.plan_ring.specs.Lives.{IsKnown}
-use Rattle.plan_ring.specs.Round.{AllRound, ring_after, ring_of}
+use Rattle.run_promises.specs.of_life_runs.First.{first_leads, lens_of}
+use Rattle.run_promises.specs.of_life_runs.Led.{Exchanged}
+use Rattle.seen_slaves.specs.of_plan_ring.Lives.{IsKnown}
+use Rattle.seen_slaves.specs.of_plan_ring.Round.{AllRound, ring_after, ring_of}
 use Rattle.promised_run.proofs.Rounds.{all_round, same_ring}
-use Rattle.run_book.specs.declared.book.Book.{Book}
-use Rattle.run_book.specs.declared.book.SentFrame.{SentFrame}
+use Rattle.gateway_run.specs.of_run_book.declared.book.Book.{Book}
+use Rattle.gateway_run.specs.of_run_book.declared.book.SentFrame.{SentFrame}
 use Rattle.run_promises.proofs.Known.{known}
-use Rattle.run_record.specs.Led.{exchanged}
-use Rattle.run_record.specs.Ran.{HasSent}
-use Rattle.run_record.specs.Replay.{AreRecorded, behind, first_ring}
-use Rattle.scenario.specs.Told.{IsTold}
-use Rattle.segment_plan.specs.Sound.{IsPlan}
-use Rattle.segment_plan.specs.declared.plan.Scenario.{Scenario}
-use Rattle.segment_ring.specs.Ring.{RingState}
-use Rattle.served_rings.specs.Rings.{nodes_behind}
-use Rattle.served_rings.specs.Stood.{ServeSo, ServeStood}
-use Rattle.run_work.proofs.Placed.{all_fresh}
-use Rattle.life_runs.specs.Came.{HasServed, IsFresh}
-use Rattle.life_runs.specs.Served.{Serves, IsServedLed, TellsSo, all_serve}
-use Rattle.slave_node.specs.Node.{Node}
-use Rattle.slave_server.specs.declared.server.SlaveServer.{SlaveServer}
+use Rattle.gateway_run.specs.of_run_record.Led.{exchanged}
+use Rattle.gateway_run.specs.of_run_record.Ran.{HasSent}
+use Rattle.gateway_run.specs.of_run_record.Replay.{AreRecorded, behind, first_ring}
+use Rattle.run_promises.specs.of_scenario.Told.{IsTold}
+use Rattle.run_promises.specs.of_segment_plan.Sound.{IsPlan}
+use Rattle.run_promises.specs.of_segment_plan.declared.plan.Scenario.{Scenario}
+use Rattle.run_promises.specs.of_segment_ring.Ring.{RingState}
+use Rattle.seen_slaves.specs.of_served_rings.Rings.{nodes_behind}
+use Rattle.seen_slaves.specs.of_served_rings.Stood.{ServeSo, ServeStood}
+use Rattle.run_promises.proofs.of_run_work.Placed.{all_fresh}
+use Rattle.run_promises.specs.of_life_runs.Came.{HasServed, IsFresh}
+use Rattle.run_promises.specs.of_life_runs.Served.{Serves, IsServedLed, TellsSo, all_serve}
+use Rattle.run_promises.specs.of_slave_node.Node.{Node}
+use Rattle.run_promises.specs.of_slave_server.declared.server.SlaveServer.{SlaveServer}
 use Rattle.promised_run.specs.Stood.{StoodBehind, nodes_through}
 use Rattle.promised_run.specs.Through.{IsServedThrough}
 

@@ -1,25 +1,25 @@
 -- Slaves of a serving that no frame carried yet are in their first bring-up, and stay there.
 use Rattle.std.proofs.Common.{◌≡◌, ℕ, zero, suc, ◌&&◌, Bool, true, false, List, [], ◌∷◌, map, refl, sym, ap, ◌∙◌, subst}
-use Rattle.datagrams.specs.Datagram as Raw
-use Rattle.exchange_model.specs.Exchange.{Speech}
-use Rattle.frame_view.specs.Seen.{seen}
-use Rattle.frame_view.specs.View.{Lens}
-use Rattle.frame_view.specs.Shares.{came_at, given_where}
-use Rattle.life_model.specs.Lives.{Spot, Stand, Life, life_next, life_back, life_lost}
-use Rattle.life_runs.specs.Led.{Exchanged, speech_at, is_passed}
-use Rattle.link_mails.specs.Body.{Body}
-use Rattle.master_duty.specs.Reply.{Reply}
-use Rattle.master_hand.specs.Spoken.{Asked, acknowledged, is_followed}
-use Rattle.run_book.specs.of_master_node.Serving.{run_lead, run_turn}
-use Rattle.run_book.specs.of_master_node.Shows.{is_opening_lead}
-use Rattle.run_book.specs.of_master_node.of_master_tour.Goes.{holds_at}
-use Rattle.run_book.specs.of_master_node.of_master_tour.Stands.{is_opening}
-use Rattle.master_side.specs.Passing.{news_back, news_lost}
-use Rattle.segment_model.specs.Record.{News}
-use Rattle.segment_model.specs.Slaves.{Datagram}
-use Rattle.segment_ring.specs.declared.wire.Fate.{Fate}
-use Rattle.segment_ring.specs.declared.wire.Fate.TheVariants.{Pass, Lost}
-use Rattle.life_runs.specs.Served.{Serves, ServedTurn, IsServedTurn, AllServedTurn, served_behind, served_life}
+use Rattle.run_promises.specs.of_datagrams.Datagram as Raw
+use Rattle.run_promises.specs.of_exchange_model.Exchange.{Speech}
+use Rattle.seen_slaves.specs.of_frame_view.Seen.{seen}
+use Rattle.seen_slaves.specs.of_frame_view.View.{Lens}
+use Rattle.seen_slaves.specs.of_frame_view.Shares.{came_at, given_where}
+use Rattle.run_promises.specs.of_life_model.Lives.{Spot, Stand, Life, life_next, life_back, life_lost}
+use Rattle.run_promises.specs.of_life_runs.Led.{Exchanged, speech_at, is_passed}
+use Rattle.run_promises.specs.of_link_mails.Body.{Body}
+use Rattle.seen_slaves.specs.of_master_duty.Reply.{Reply}
+use Rattle.seen_slaves.specs.of_master_hand.Spoken.{Asked, acknowledged, is_followed}
+use Rattle.run_promises.specs.of_master_node.Serving.{run_lead, run_turn}
+use Rattle.run_promises.specs.of_master_node.Shows.{is_opening_lead}
+use Rattle.run_promises.specs.of_master_tour.Goes.{holds_at}
+use Rattle.run_promises.specs.of_master_tour.Stands.{is_opening}
+use Rattle.seen_slaves.specs.of_master_side.Passing.{news_back, news_lost}
+use Rattle.run_promises.specs.of_segment_model.Record.{News}
+use Rattle.run_promises.specs.of_segment_model.Slaves.{Datagram}
+use Rattle.run_promises.specs.of_segment_ring.declared.wire.Fate.{Fate}
+use Rattle.run_promises.specs.of_segment_ring.declared.wire.Fate.TheVariants.{Pass, Lost}
+use Rattle.run_promises.specs.of_life_runs.Served.{Serves, ServedTurn, IsServedTurn, AllServedTurn, served_behind, served_life}
 
 abbrev MyLife : Type 0
 MyLife = Life Body Asked Reply

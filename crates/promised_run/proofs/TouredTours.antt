@@ -2,36 +2,36 @@
 use Rattle.std.proofs.Common.{◌≡◌, ◌⊎◌, ℕ, zero, suc, ◌+◌, ◌<◌, ◌≤◌, ◌&&◌, Bool, true, false, Option, Some, None, List, [], ◌∷◌, ◌++◌, length, map, refl, sym, ap, ◌∙◌, subst, arith, if◌then◌else◌, inl, inr, length-append}
 use Rattle.std.specs.Prelude.{⊤, nat_lt, not}
 use Rattle.std.proofs.lemmas.Bool.{ltb-true, ltb-false, cases_order, cases_lt}
-use Rattle.frame_view.specs.Seen.{seen}
-use Rattle.frame_view.specs.View.{Lens}
-use Rattle.life_runs.specs.Led.{Exchanged, Leads, gives_up_at, missed_behind}
-use Rattle.link_mails.specs.Body.{Body}
-use Rattle.master_duty.specs.Reply.{Reply}
-use Rattle.master_hand.specs.Spoken.{Asked}
-use Rattle.run_book.specs.of_master_node.Rooms.{area_at}
-use Rattle.run_book.specs.of_master_node.Serving.{run_lead, run_turn}
-use Rattle.run_book.specs.of_master_node.Shows.{is_live_lead, is_opening_lead}
-use Rattle.run_book.specs.of_master_node.Toured.{turn_share}
-use Rattle.run_book.specs.of_master_node.of_master_tour.Goes.{holds_at, opened_behind}
-use Rattle.run_book.specs.of_master_node.of_master_tour.Orders as Orders
-use Rattle.run_book.specs.of_master_node.of_master_tour.Sizes.{frame_size}
-use Rattle.run_book.specs.of_master_node.of_master_tour.Toured.{Carries, Tour, IsOfTour, goes_on}
-use Rattle.run_record.specs.of_packets_heard.Served as Visits
-use Rattle.run_record.specs.of_packets_heard.Toured.{tour_behind}
-use Rattle.run_frames.specs.Answers.{AllAsk}
-use Rattle.run_frames.specs.Goes.{Under}
-use Rattle.run_frames.specs.Led.{AreLed}
-use Rattle.run_frames.specs.Orders.{is_in, opened_on, last_of, under_at}
-use Rattle.run_frames.specs.Runs.{Progress, nothing_sent}
-use Rattle.run_frames.specs.Tours.{IsVisited, PlacesOf, again_behind, last_lost}
-use Rattle.run_frames.specs.Waits.{all_anew}
-use Rattle.run_frames.proofs.Leading.{SeenIs}
-use Rattle.segment_ring.specs.declared.wire.Fate.{Fate}
-use Rattle.segment_ring.specs.declared.wire.Fate.TheVariants.{Pass, Lost}
-use Rattle.run_record.specs.of_served_places.Answered.{ServedAsks}
-use Rattle.run_record.specs.of_served_places.Toured.{IsServedToured, back_under, first_served, lost_under, served_back, served_lost, serves_on, still_served, waits_served}
-use Rattle.run_record.proofs.of_served_places.Slaves.{all_led_back, all_led_lost}
-use Rattle.life_runs.specs.Served.{Keyed, Serves, ServedTurn, AllServedTurn, IsServedFrame, MayAsk, asked_at}
+use Rattle.seen_slaves.specs.of_frame_view.Seen.{seen}
+use Rattle.seen_slaves.specs.of_frame_view.View.{Lens}
+use Rattle.run_promises.specs.of_life_runs.Led.{Exchanged, Leads, gives_up_at, missed_behind}
+use Rattle.run_promises.specs.of_link_mails.Body.{Body}
+use Rattle.seen_slaves.specs.of_master_duty.Reply.{Reply}
+use Rattle.seen_slaves.specs.of_master_hand.Spoken.{Asked}
+use Rattle.run_promises.specs.of_master_node.Rooms.{area_at}
+use Rattle.run_promises.specs.of_master_node.Serving.{run_lead, run_turn}
+use Rattle.run_promises.specs.of_master_node.Shows.{is_live_lead, is_opening_lead}
+use Rattle.run_promises.specs.of_master_node.Toured.{turn_share}
+use Rattle.run_promises.specs.of_master_tour.Goes.{holds_at, opened_behind}
+use Rattle.run_promises.specs.of_master_tour.Orders as Orders
+use Rattle.run_promises.specs.of_master_tour.Sizes.{frame_size}
+use Rattle.run_promises.specs.of_master_tour.Toured.{Carries, Tour, IsOfTour, goes_on}
+use Rattle.run_promises.specs.of_packets_heard.Served as Visits
+use Rattle.run_promises.specs.of_packets_heard.Toured.{tour_behind}
+use Rattle.seen_slaves.specs.of_run_frames.Answers.{AllAsk}
+use Rattle.seen_slaves.specs.of_run_frames.Goes.{Under}
+use Rattle.seen_slaves.specs.of_run_frames.Led.{AreLed}
+use Rattle.seen_slaves.specs.of_run_frames.Orders.{is_in, opened_on, last_of, under_at}
+use Rattle.seen_slaves.specs.of_run_frames.Runs.{Progress, nothing_sent}
+use Rattle.seen_slaves.specs.of_run_frames.Tours.{IsVisited, PlacesOf, again_behind, last_lost}
+use Rattle.seen_slaves.specs.of_run_frames.Waits.{all_anew}
+use Rattle.seen_slaves.proofs.of_run_frames.Leading.{SeenIs}
+use Rattle.run_promises.specs.of_segment_ring.declared.wire.Fate.{Fate}
+use Rattle.run_promises.specs.of_segment_ring.declared.wire.Fate.TheVariants.{Pass, Lost}
+use Rattle.seen_slaves.specs.of_served_places.Answered.{ServedAsks}
+use Rattle.seen_slaves.specs.of_served_places.Toured.{IsServedToured, back_under, first_served, lost_under, served_back, served_lost, serves_on, still_served, waits_served}
+use Rattle.seen_slaves.proofs.of_served_places.Slaves.{all_led_back, all_led_lost}
+use Rattle.run_promises.specs.of_life_runs.Served.{Keyed, Serves, ServedTurn, AllServedTurn, IsServedFrame, MayAsk, asked_at}
 use Rattle.promised_run.proofs.Asks.{asks_same}
 use Rattle.promised_run.proofs.Ahead.{alone, not_in}
 use Rattle.promised_run.proofs.Places.{Slave, lives_same, long_same, opened_same, places_are, comes_again, shares_are, under_same, last_round, last_first, opened_kept, last_kept}

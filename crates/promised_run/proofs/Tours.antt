@@ -2,28 +2,28 @@
 use Rattle.std.proofs.Common.{◌≡◌, ◌⊎◌, ℕ, suc, ◌+◌, ◌<◌, ◌≤◌, ◌&&◌, Bool, true, false, Option, Some, None, List, [], ◌∷◌, ◌++◌, length, map, refl, sym, ap, ◌∙◌, subst, arith, if◌then◌else◌, inl, inr, length-append}
 use Rattle.std.specs.Prelude.{⊤, nat_lt, not}
 use Rattle.std.proofs.lemmas.Bool.{ltb-true, ltb-false, cases_order, cases_lt}
-use Rattle.frame_view.specs.Seen.{seen}
-use Rattle.frame_view.specs.View.{Lens}
-use Rattle.life_runs.specs.Led.{Exchanged, Leads, Turn, IsLedFrame, AllTurn, gives_up_at, missed_behind}
-use Rattle.run_book.specs.of_master_node.Rooms.{area_at}
-use Rattle.run_book.specs.of_master_node.Shows.{is_live_lead, is_opening_lead}
-use Rattle.run_book.specs.of_master_node.Toured.{turn_share}
-use Rattle.run_book.specs.of_master_node.of_master_tour.Goes.{holds_at, opened_behind}
-use Rattle.run_book.specs.of_master_node.of_master_tour.Orders as Orders
-use Rattle.run_book.specs.of_master_node.of_master_tour.Sizes.{frame_size}
-use Rattle.run_book.specs.of_master_node.of_master_tour.Toured.{Tour, IsOfTour, goes_on}
-use Rattle.segment_ring.specs.declared.wire.Fate.{Fate}
-use Rattle.segment_ring.specs.declared.wire.Fate.TheVariants.{Pass, Lost}
-use Rattle.run_frames.specs.Led.{AreLed, unders, first_clocked, behind_lost, behind_back, still_led, waits_led, leads_behind}
-use Rattle.run_frames.specs.Orders.{opened_on, last_of}
-use Rattle.run_frames.specs.Runs.{Progress, nothing_sent}
-use Rattle.run_frames.specs.Answers.{AllAsk}
-use Rattle.run_frames.specs.Toured.{IsToured, AskIn}
-use Rattle.run_frames.specs.Tours.{IsVisited, PlacesOf, again_behind, last_lost}
-use Rattle.run_frames.specs.Waits.{all_anew}
-use Rattle.run_frames.proofs.Leading.{SeenIs, all_led_lost, all_led_back}
-use Rattle.run_record.specs.of_packets_heard.Toured as Visits
-use Rattle.run_record.specs.of_packets_heard.Toured.{tour_behind}
+use Rattle.seen_slaves.specs.of_frame_view.Seen.{seen}
+use Rattle.seen_slaves.specs.of_frame_view.View.{Lens}
+use Rattle.run_promises.specs.of_life_runs.Led.{Exchanged, Leads, Turn, IsLedFrame, AllTurn, gives_up_at, missed_behind}
+use Rattle.run_promises.specs.of_master_node.Rooms.{area_at}
+use Rattle.run_promises.specs.of_master_node.Shows.{is_live_lead, is_opening_lead}
+use Rattle.run_promises.specs.of_master_node.Toured.{turn_share}
+use Rattle.run_promises.specs.of_master_tour.Goes.{holds_at, opened_behind}
+use Rattle.run_promises.specs.of_master_tour.Orders as Orders
+use Rattle.run_promises.specs.of_master_tour.Sizes.{frame_size}
+use Rattle.run_promises.specs.of_master_tour.Toured.{Tour, IsOfTour, goes_on}
+use Rattle.run_promises.specs.of_segment_ring.declared.wire.Fate.{Fate}
+use Rattle.run_promises.specs.of_segment_ring.declared.wire.Fate.TheVariants.{Pass, Lost}
+use Rattle.seen_slaves.specs.of_run_frames.Led.{AreLed, unders, first_clocked, behind_lost, behind_back, still_led, waits_led, leads_behind}
+use Rattle.seen_slaves.specs.of_run_frames.Orders.{opened_on, last_of}
+use Rattle.seen_slaves.specs.of_run_frames.Runs.{Progress, nothing_sent}
+use Rattle.seen_slaves.specs.of_run_frames.Answers.{AllAsk}
+use Rattle.seen_slaves.specs.of_run_frames.Toured.{IsToured, AskIn}
+use Rattle.seen_slaves.specs.of_run_frames.Tours.{IsVisited, PlacesOf, again_behind, last_lost}
+use Rattle.seen_slaves.specs.of_run_frames.Waits.{all_anew}
+use Rattle.seen_slaves.proofs.of_run_frames.Leading.{SeenIs, all_led_lost, all_led_back}
+use Rattle.run_promises.specs.of_packets_heard.Toured as Visits
+use Rattle.run_promises.specs.of_packets_heard.Toured.{tour_behind}
 use Rattle.promised_run.proofs.Asks.{asks_same}
 use Rattle.promised_run.proofs.Ahead.{out_stays, kept_stays, alone, not_in}
 use Rattle.promised_run.proofs.Places.{Slave, lives_same, long_same, opened_same, places_are, comes_again, shares_are, under_same, last_round, last_first, opened_kept, last_kept}

@@ -1,28 +1,28 @@
 -- IN AN EPOCH THAT WASN'T OPENED nothing came into hand.
 use Rattle.std.proofs.Common.{◌≡◌, ℕ, Bool, true, false, Option, Some, None, List, [], ◌∷◌, ◌++◌, map, length, refl, ap, sym, ◌∙◌, subst}
 use Rattle.std.specs.Prelude.{◌==◌, ◌&&◌, is_some, if◌then◌else◌, ⊤}
-use Rattle.life_runs.specs.of_datagrams.Datagram as Raw
-use Rattle.segment_plan.specs.of_exchange_model.Exchange.{Speech}
-use Rattle.life_runs.specs.of_frame_view.View.{Lens}
-use Rattle.life_runs.specs.of_frame_view.Seen.{seen}
-use Rattle.life_runs.specs.of_frame_view.Frames.{Share}
-use Rattle.life_runs.specs.of_frame_view.Shares.{Lived, came_at, given_where}
-use Rattle.run_frames.specs.of_life_model.Lives.{Spot, Era, Life, Stand, Opening, life_next, life_back, life_lost, era_back, opening_back, shows_clear, is_shown, last_step, clears, opens, steps_on, reopens, reopens_at, reopening, opens_state, returns_to_init}
-use Rattle.run_frames.specs.of_life_model.Own.{own}
-use Rattle.life_runs.specs.First.{first_leads, leads_from}
-use Rattle.life_runs.specs.Led.{Exchanged, Leads, Turn, AllTurn, IsLed, is_passed, speech_at, life_behind, led_behind, gives_up_at}
-use Rattle.life_runs.specs.of_link_mails.Body.{Body}
-use Rattle.life_runs.specs.of_master_duty.Reply.{Reply}
-use Rattle.life_runs.specs.of_master_hand.Spoken.{Asked, acknowledged, is_followed}
-use Rattle.run_frames.specs.of_segment_model.Record.{News}
-use Rattle.run_frames.specs.of_segment_model.Slaves.{Datagram, Found}
-use Rattle.segment_plan.specs.declared.plan.Scenario.{Scenario}
-use Rattle.segment_plan.specs.declared.service.Service as Plan
-use Rattle.segment_plan.specs.declared.slave.SlaveSpec.{SlaveSpec}
-use Rattle.life_runs.specs.of_segment_ring.declared.wire.Fate.{Fate}
-use Rattle.life_runs.specs.of_segment_ring.declared.wire.Fate.TheVariants.{Pass, Lost}
-use Rattle.run_frames.specs.of_state_model.Accounts.{Duty, Stage, Pick}
-use Rattle.run_frames.proofs.of_state_model.Completed.{started_back}
+use Rattle.run_promises.specs.of_datagrams.Datagram as Raw
+use Rattle.run_promises.specs.of_exchange_model.Exchange.{Speech}
+use Rattle.seen_slaves.specs.of_frame_view.View.{Lens}
+use Rattle.seen_slaves.specs.of_frame_view.Seen.{seen}
+use Rattle.seen_slaves.specs.of_frame_view.Frames.{Share}
+use Rattle.seen_slaves.specs.of_frame_view.Shares.{Lived, came_at, given_where}
+use Rattle.run_promises.specs.of_life_model.Lives.{Spot, Era, Life, Stand, Opening, life_next, life_back, life_lost, era_back, opening_back, shows_clear, is_shown, last_step, clears, opens, steps_on, reopens, reopens_at, reopening, opens_state, returns_to_init}
+use Rattle.run_promises.specs.of_life_model.Own.{own}
+use Rattle.run_promises.specs.of_life_runs.First.{first_leads, leads_from}
+use Rattle.run_promises.specs.of_life_runs.Led.{Exchanged, Leads, Turn, AllTurn, IsLed, is_passed, speech_at, life_behind, led_behind, gives_up_at}
+use Rattle.run_promises.specs.of_link_mails.Body.{Body}
+use Rattle.seen_slaves.specs.of_master_duty.Reply.{Reply}
+use Rattle.seen_slaves.specs.of_master_hand.Spoken.{Asked, acknowledged, is_followed}
+use Rattle.run_promises.specs.of_segment_model.Record.{News}
+use Rattle.run_promises.specs.of_segment_model.Slaves.{Datagram, Found}
+use Rattle.run_promises.specs.of_segment_plan.declared.plan.Scenario.{Scenario}
+use Rattle.run_promises.specs.of_segment_plan.declared.service.Service as Plan
+use Rattle.run_promises.specs.of_segment_plan.declared.slave.SlaveSpec.{SlaveSpec}
+use Rattle.run_promises.specs.of_segment_ring.declared.wire.Fate.{Fate}
+use Rattle.run_promises.specs.of_segment_ring.declared.wire.Fate.TheVariants.{Pass, Lost}
+use Rattle.run_promises.specs.of_state_model.Accounts.{Duty, Stage, Pick}
+use Rattle.run_promises.proofs.of_state_model.Completed.{started_back}
 
 abbrev pub NothingBefore : Era Body Asked Reply → Type 0
 NothingBefore e = e.opened ≡ None → e.account.started ≡ []

@@ -1,19 +1,19 @@
 -- No mail that is passed on is in hand of a run.
 use Rattle.std.proofs.Common.{◌≡◌, ℕ, Bool, None, List, [], ◌∷◌, map, sym, ap, ◌∙◌}
 use Rattle.std.specs.Prelude.{⊤}
-use Rattle.datagrams.specs.Datagram as Raw
-use Rattle.frame_view.specs.Seen.{seen}
-use Rattle.frame_view.specs.View.{Lens}
-use Rattle.life_model.specs.Lives.{Life}
-use Rattle.life_runs.specs.Led.{Exchanged, Leads, Turn, IsTurn, AllTurn, speech_at, is_passed, led_behind, life_behind}
-use Rattle.link_mails.specs.Body.{Body}
-use Rattle.master_duty.specs.Reply.{Reply}
-use Rattle.master_hand.specs.Spoken.{Asked, acknowledged, is_followed}
-use Rattle.master_tour.proofs.Unpassed.{unpassed_next, unpassed_back, unpassed_lost}
-use Rattle.segment_ring.specs.declared.wire.Fate.{Fate}
-use Rattle.segment_ring.specs.declared.wire.Fate.TheVariants.{Pass, Lost}
-use Rattle.idle_slaves.specs.WaitEager.{AllUnpassed}
-use Rattle.life_runs.proofs.Quiet.{comes_own}
+use Rattle.run_promises.specs.of_datagrams.Datagram as Raw
+use Rattle.seen_slaves.specs.of_frame_view.Seen.{seen}
+use Rattle.seen_slaves.specs.of_frame_view.View.{Lens}
+use Rattle.run_promises.specs.of_life_model.Lives.{Life}
+use Rattle.run_promises.specs.of_life_runs.Led.{Exchanged, Leads, Turn, IsTurn, AllTurn, speech_at, is_passed, led_behind, life_behind}
+use Rattle.run_promises.specs.of_link_mails.Body.{Body}
+use Rattle.seen_slaves.specs.of_master_duty.Reply.{Reply}
+use Rattle.seen_slaves.specs.of_master_hand.Spoken.{Asked, acknowledged, is_followed}
+use Rattle.seen_slaves.proofs.of_master_tour.Unpassed.{unpassed_next, unpassed_back, unpassed_lost}
+use Rattle.run_promises.specs.of_segment_ring.declared.wire.Fate.{Fate}
+use Rattle.run_promises.specs.of_segment_ring.declared.wire.Fate.TheVariants.{Pass, Lost}
+use Rattle.seen_slaves.specs.of_idle_slaves.WaitEager.{AllUnpassed}
+use Rattle.gateway_run.proofs.of_life_runs.Quiet.{comes_own}
 
 -- of slaves before a frame
 abbrev pub TurnsUnpassed : List Turn → Type 0

@@ -1,15 +1,15 @@
 -- WHAT OF A SCRIPT WASN'T SENT: the script of each slave is the plan's.
 use Rattle.std.proofs.Common.{◌≡◌, ℕ, suc, List, [], ◌∷◌}
 use Rattle.std.specs.Prelude.{⊤}
-use Rattle.life_runs.specs.First.{script_for}
-use Rattle.life_runs.specs.of_frame_view.Shares.{AllBoth}
-use Rattle.life_runs.specs.Led.{Leads}
+use Rattle.run_promises.specs.of_life_runs.First.{script_for}
+use Rattle.seen_slaves.specs.of_frame_view.Shares.{AllBoth}
+use Rattle.run_promises.specs.of_life_runs.Led.{Leads}
 use Rattle.promised_run.specs.Unsent.{AllUnsent}
-use Rattle.run_book.specs.declared.book.SlaveBook.{SlaveBook}
-use Rattle.run_record.specs.of_run_notes.Unsent.{IsSpent}
-use Rattle.run_frames.specs.Slaves.{AllCome}
-use Rattle.segment_plan.specs.declared.plan.Scenario.{Scenario}
-use Rattle.segment_plan.specs.declared.slave.SlaveSpec.{SlaveSpec}
+use Rattle.gateway_run.specs.of_run_book.declared.book.SlaveBook.{SlaveBook}
+use Rattle.gateway_run.specs.of_run_notes.Unsent.{IsSpent}
+use Rattle.seen_slaves.specs.of_run_frames.Slaves.{AllCome}
+use Rattle.run_promises.specs.of_segment_plan.declared.plan.Scenario.{Scenario}
+use Rattle.run_promises.specs.of_segment_plan.declared.slave.SlaveSpec.{SlaveSpec}
 
 -- the script of each of these slaves, from a place on, is that of the plan
 abbrev pub AllOfPlan : Scenario → ℕ → List Leads → Type 0

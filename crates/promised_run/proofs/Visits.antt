@@ -4,36 +4,36 @@ use Rattle.std.specs.Prelude.{nat_lt, if◌then◌else◌, All, ⊤}
 use Rattle.std.proofs.lemmas.Bool.{eq-eqb, ne_eqb}
 use Rattle.std.proofs.lemmas.List.{length-map}
 use Rattle.std.proofs.lemmas.List.Elements.{All-head, All-tail}
-use Rattle.frame_view.specs.Shares.{AllFrom}
-use Rattle.life_runs.specs.of_datagrams.Datagram as Raw
-use Rattle.life_runs.specs.of_frame_view.View.{Lens}
-use Rattle.life_runs.specs.of_frame_view.Seen.{seen}
-use Rattle.run_frames.specs.of_life_model.Lives.{Spot}
-use Rattle.run_frames.specs.of_life_model.Tours.{Member, is_live_in}
-use Rattle.life_runs.proofs.First.{apart_from, have_lens}
-use Rattle.life_runs.specs.First.{lens_of, first_leads, spot_of, IsElsewhere, AreApart, HaveLens}
-use Rattle.life_runs.specs.Led.{Exchanged, Leads, Turn, AllTurn, IsLed, IsLedFrame}
-use Rattle.run_book.specs.of_master_node.Shows.{is_live_lead, is_opening_lead}
-use Rattle.run_book.specs.of_master_node.Toured.{turn_share}
-use Rattle.run_book.specs.of_master_node.Rooms.{area_at}
-use Rattle.life_runs.specs.of_master_side.Again.{larger}
-use Rattle.run_book.specs.of_master_tour.Goes.{holds_at}
-use Rattle.run_book.specs.of_master_tour.Sizes.{frame_size}
-use Rattle.run_book.specs.of_master_tour.Orders.{last_place, last_behind}
-use Rattle.run_book.specs.of_master_tour.Toured.{Tour, IsOfTour, HaveFrom, new_tour, visit_on, goes_on, has_number}
+use Rattle.seen_slaves.specs.of_frame_view.Shares.{AllFrom}
+use Rattle.run_promises.specs.of_datagrams.Datagram as Raw
+use Rattle.seen_slaves.specs.of_frame_view.View.{Lens}
+use Rattle.seen_slaves.specs.of_frame_view.Seen.{seen}
+use Rattle.run_promises.specs.of_life_model.Lives.{Spot}
+use Rattle.run_promises.specs.of_life_model.Tours.{Member, is_live_in}
+use Rattle.gateway_run.proofs.of_life_runs.First.{apart_from, have_lens}
+use Rattle.run_promises.specs.of_life_runs.First.{lens_of, first_leads, spot_of, IsElsewhere, AreApart, HaveLens}
+use Rattle.run_promises.specs.of_life_runs.Led.{Exchanged, Leads, Turn, AllTurn, IsLed, IsLedFrame}
+use Rattle.run_promises.specs.of_master_node.Shows.{is_live_lead, is_opening_lead}
+use Rattle.run_promises.specs.of_master_node.Toured.{turn_share}
+use Rattle.run_promises.specs.of_master_node.Rooms.{area_at}
+use Rattle.seen_slaves.specs.of_master_side.Again.{larger}
+use Rattle.run_promises.specs.of_master_tour.Goes.{holds_at}
+use Rattle.run_promises.specs.of_master_tour.Sizes.{frame_size}
+use Rattle.run_promises.specs.of_master_tour.Orders.{last_place, last_behind}
+use Rattle.run_promises.specs.of_master_tour.Toured.{Tour, IsOfTour, HaveFrom, new_tour, visit_on, goes_on, has_number}
 use Rattle.promised_run.specs.Visits.{stop_of, stops_of, members_of, IsVisit, AllVisit}
-use Rattle.run_frames.specs.Slaves.{AllCome}
-use Rattle.run_frames.specs.of_segment_model.Visits.{Stop, station_at}
-use Rattle.segment_plan.specs.Sound.{IsPlan, IsSlave}
-use Rattle.segment_plan.specs.declared.plan.Scenario.{Scenario}
-use Rattle.segment_plan.specs.declared.slave.SlaveSpec.{SlaveSpec}
-use Rattle.life_runs.specs.of_segment_ring.declared.wire.Fate.{Fate}
-use Rattle.life_runs.specs.of_segment_ring.declared.wire.Fate.TheVariants as Fates
-use Rattle.run_record.specs.of_packets_heard.Toured.{AreAt, IsToured, tour_behind, lives_behind}
-use Rattle.run_record.specs.of_packets_heard.Visits as Stops
-use Rattle.run_record.specs.of_packets_heard.Visits.{IsPlace, stop_at}
-use Rattle.run_record.proofs.of_packets_heard.Toured.{toured_led}
-use Rattle.run_record.proofs.of_packets_heard.Whole.{visit_whole}
+use Rattle.seen_slaves.specs.of_run_frames.Slaves.{AllCome}
+use Rattle.run_promises.specs.of_segment_model.Visits.{Stop, station_at}
+use Rattle.run_promises.specs.of_segment_plan.Sound.{IsPlan, IsSlave}
+use Rattle.run_promises.specs.of_segment_plan.declared.plan.Scenario.{Scenario}
+use Rattle.run_promises.specs.of_segment_plan.declared.slave.SlaveSpec.{SlaveSpec}
+use Rattle.run_promises.specs.of_segment_ring.declared.wire.Fate.{Fate}
+use Rattle.run_promises.specs.of_segment_ring.declared.wire.Fate.TheVariants as Fates
+use Rattle.run_promises.specs.of_packets_heard.Toured.{AreAt, IsToured, tour_behind, lives_behind}
+use Rattle.run_promises.specs.of_packets_heard.Visits as Stops
+use Rattle.run_promises.specs.of_packets_heard.Visits.{IsPlace, stop_at}
+use Rattle.run_promises.proofs.of_packets_heard.Toured.{toured_led}
+use Rattle.run_promises.proofs.of_packets_heard.Whole.{visit_whole}
 
 -- THE SLAVES OF A PLAN stand at their places, with what their master has of them
 abbrev pub AllStand : ℕ → List SlaveSpec → List Leads → Type 0

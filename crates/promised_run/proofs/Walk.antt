@@ -2,35 +2,35 @@
 use Rattle.std.proofs.Common.{◌≡◌, ◌≤◌, ℕ, ◌+◌, Bool, true, false, Option, List, [], ◌∷◌, ◌++◌, length, sym, ap, ◌∙◌, subst, arith}
 use Rattle.std.specs.Prelude.{slice_get}
 use Rattle.promised_run.proofs.Tours.{FramesIn, Stays}
-use Rattle.idle_slaves.specs.Entered.{EagerBut, host_frames}
-use Rattle.frame_view.specs.Seen.{seen}
-use Rattle.frame_view.specs.View.{Lens}
-use Rattle.life_runs.specs.First.{AreApart, lens_of, first_leads}
-use Rattle.life_runs.specs.Led.{Exchanged, Leads, Turn, IsLed, IsLedFrame, gives_up_at, missed_behind}
-use Rattle.link_mails.specs.Body.{Body}
-use Rattle.master_duty.specs.Reply.{Reply}
-use Rattle.master_hand.specs.Spoken.{Asked}
-use Rattle.run_book.specs.of_master_node.Happened.{arrivals_at}
-use Rattle.run_book.specs.of_master_node.Recalled.{AllKnow}
-use Rattle.run_book.specs.of_master_node.of_master_tour.Toured.{Tour}
-use Rattle.plan_ring.specs.PlanMet.{AllOpenAt}
-use Rattle.plan_ring.specs.Lives.{AreLived}
-use Rattle.plan_ring.specs.Round.{ring_of, ring_after, behind, AllRound}
-use Rattle.plan_ring.proofs.Lives.{front_round, one_after}
-use Rattle.run_record.specs.of_packets_heard.Recalled.{State, AllSettled, IsFirst, IsRecalledFrame, RecalledIn, has_entered}
-use Rattle.run_frames.specs.Clocks.{Clocked}
-use Rattle.run_frames.specs.Fates.{lost_of}
-use Rattle.run_frames.specs.Led.{leads_behind}
-use Rattle.run_frames.specs.Runs.{Progress}
-use Rattle.run_frames.specs.Toured.{IsToured}
-use Rattle.segment_plan.specs.declared.plan.Scenario.{Scenario}
-use Rattle.segment_ring.specs.Ring.{RingState}
-use Rattle.segment_ring.specs.declared.wire.Fate.TheVariants.{Pass, Lost}
-use Rattle.slave_server.specs.Serving.{Serving}
-use Rattle.slave_node.specs.Node.{Node}
-use Rattle.run_record.specs.of_packets_heard.Toured as Visits
-use Rattle.idle_slaves.specs.WaitEager.{AllRest, AllUnpassed, IsEagerFrame}
-use Rattle.plan_ring.specs.Dues.{MailsAreDue}
+use Rattle.seen_slaves.specs.of_idle_slaves.Entered.{EagerBut, host_frames}
+use Rattle.seen_slaves.specs.of_frame_view.Seen.{seen}
+use Rattle.seen_slaves.specs.of_frame_view.View.{Lens}
+use Rattle.run_promises.specs.of_life_runs.First.{AreApart, lens_of, first_leads}
+use Rattle.run_promises.specs.of_life_runs.Led.{Exchanged, Leads, Turn, IsLed, IsLedFrame, gives_up_at, missed_behind}
+use Rattle.run_promises.specs.of_link_mails.Body.{Body}
+use Rattle.seen_slaves.specs.of_master_duty.Reply.{Reply}
+use Rattle.seen_slaves.specs.of_master_hand.Spoken.{Asked}
+use Rattle.run_promises.specs.of_master_node.Happened.{arrivals_at}
+use Rattle.run_promises.specs.of_master_node.Recalled.{AllKnow}
+use Rattle.run_promises.specs.of_master_tour.Toured.{Tour}
+use Rattle.seen_slaves.specs.of_plan_ring.PlanMet.{AllOpenAt}
+use Rattle.seen_slaves.specs.of_plan_ring.Lives.{AreLived}
+use Rattle.seen_slaves.specs.of_plan_ring.Round.{ring_of, ring_after, behind, AllRound}
+use Rattle.seen_slaves.proofs.of_plan_ring.Lives.{front_round, one_after}
+use Rattle.run_promises.specs.of_packets_heard.Recalled.{State, AllSettled, IsFirst, IsRecalledFrame, RecalledIn, has_entered}
+use Rattle.seen_slaves.specs.of_run_frames.Clocks.{Clocked}
+use Rattle.seen_slaves.specs.of_run_frames.Fates.{lost_of}
+use Rattle.seen_slaves.specs.of_run_frames.Led.{leads_behind}
+use Rattle.seen_slaves.specs.of_run_frames.Runs.{Progress}
+use Rattle.seen_slaves.specs.of_run_frames.Toured.{IsToured}
+use Rattle.run_promises.specs.of_segment_plan.declared.plan.Scenario.{Scenario}
+use Rattle.run_promises.specs.of_segment_ring.Ring.{RingState}
+use Rattle.run_promises.specs.of_segment_ring.declared.wire.Fate.TheVariants.{Pass, Lost}
+use Rattle.run_promises.specs.of_slave_server.Serving.{Serving}
+use Rattle.run_promises.specs.of_slave_node.Node.{Node}
+use Rattle.run_promises.specs.of_packets_heard.Toured as Visits
+use Rattle.seen_slaves.specs.of_idle_slaves.WaitEager.{AllRest, AllUnpassed, IsEagerFrame}
+use Rattle.seen_slaves.specs.of_plan_ring.Dues.{MailsAreDue}
 use Rattle.promised_run.specs.Runs.{ScriptsMay, remembered, waiting_at}
 use Rattle.promised_run.proofs.Counts.{came_more, entered_few, lost_more, lost_one}
 use Rattle.promised_run.proofs.Frames.{all_eager, all_known, all_quiet, all_remember, gets_none, lost_known}

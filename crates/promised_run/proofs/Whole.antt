@@ -2,33 +2,33 @@
 use Rattle.std.proofs.Common.{◌≡◌, ℕ, Bool, true, false, Option, Some, None, List, [], ◌∷◌, ◌++◌, map, length, refl, ap, sym, ◌∙◌, subst}
 use Rattle.std.specs.Prelude.{◌&&◌, if◌then◌else◌, All}
 use Rattle.std.proofs.lemmas.List.Elements.{All-head, All-tail}
-use Rattle.exchange_model.specs.Exchange.{Speech}
-use Rattle.exchange_model.specs.Rows.{Row}
-use Rattle.frame_view.specs.Shares.{AllBoth, came_at, given_where}
-use Rattle.life_model.specs.Lives.{Life, Era, Spot, Stand, era_back, era_lost, life_back, life_lost, passes}
-use Rattle.life_runs.specs.First.{first_leads, lens_of}
-use Rattle.life_runs.specs.Led.{Exchanged, gives_up_at, speech_at}
-use Rattle.link_mails.specs.Body.{Body}
-use Rattle.datagrams.specs.Datagram as Raw
-use Rattle.frame_view.specs.Seen.{seen}
-use Rattle.frame_view.specs.View.{Lens}
-use Rattle.master_duty.specs.Reply.{Reply}
-use Rattle.master_hand.specs.Spoken.{Asked, acknowledged, is_followed, is_passed}
-use Rattle.master_side.specs.Passing.{news_back, news_lost}
-use Rattle.master_tour.specs.Brings.{accepted_in}
-use Rattle.run_book.specs.declared.book.Book.{Book}
-use Rattle.run_record.specs.Led.{exchanged}
-use Rattle.segment_model.specs.Ends.{Passing}
-use Rattle.segment_model.specs.Record.{News}
-use Rattle.segment_model.specs.Slaves.{Datagram, Found}
-use Rattle.segment_plan.specs.declared.plan.Scenario.{Scenario}
-use Rattle.segment_ring.specs.declared.wire.Fate.{Fate}
-use Rattle.segment_ring.specs.declared.wire.Fate.TheVariants.{Pass, Lost}
-use Rattle.run_record.proofs.of_served_places.Behind.{reopens_keeps}
-use Rattle.run_record.proofs.of_served_places.Held.{all_has, next_has}
-use Rattle.life_runs.specs.Served.{Serves, ServedTurn, AllServedTurn, accepted_by, gives_it, served_behind, served_life}
-use Rattle.life_runs.specs.Told.{Passed, TellsOwn, replies_in, told_on}
-use Rattle.life_runs.proofs.Tells.{HasPassed, back_has, lost_has}
+use Rattle.run_promises.specs.of_exchange_model.Exchange.{Speech}
+use Rattle.run_promises.specs.of_exchange_model.Rows.{Row}
+use Rattle.seen_slaves.specs.of_frame_view.Shares.{AllBoth, came_at, given_where}
+use Rattle.run_promises.specs.of_life_model.Lives.{Life, Era, Spot, Stand, era_back, era_lost, life_back, life_lost, passes}
+use Rattle.run_promises.specs.of_life_runs.First.{first_leads, lens_of}
+use Rattle.run_promises.specs.of_life_runs.Led.{Exchanged, gives_up_at, speech_at}
+use Rattle.run_promises.specs.of_link_mails.Body.{Body}
+use Rattle.run_promises.specs.of_datagrams.Datagram as Raw
+use Rattle.seen_slaves.specs.of_frame_view.Seen.{seen}
+use Rattle.seen_slaves.specs.of_frame_view.View.{Lens}
+use Rattle.seen_slaves.specs.of_master_duty.Reply.{Reply}
+use Rattle.seen_slaves.specs.of_master_hand.Spoken.{Asked, acknowledged, is_followed, is_passed}
+use Rattle.seen_slaves.specs.of_master_side.Passing.{news_back, news_lost}
+use Rattle.run_promises.specs.of_master_tour.Brings.{accepted_in}
+use Rattle.gateway_run.specs.of_run_book.declared.book.Book.{Book}
+use Rattle.gateway_run.specs.of_run_record.Led.{exchanged}
+use Rattle.run_promises.specs.of_segment_model.Ends.{Passing}
+use Rattle.run_promises.specs.of_segment_model.Record.{News}
+use Rattle.run_promises.specs.of_segment_model.Slaves.{Datagram, Found}
+use Rattle.run_promises.specs.of_segment_plan.declared.plan.Scenario.{Scenario}
+use Rattle.run_promises.specs.of_segment_ring.declared.wire.Fate.{Fate}
+use Rattle.run_promises.specs.of_segment_ring.declared.wire.Fate.TheVariants.{Pass, Lost}
+use Rattle.seen_slaves.proofs.of_served_places.Behind.{reopens_keeps}
+use Rattle.seen_slaves.proofs.of_served_places.Held.{all_has, next_has}
+use Rattle.run_promises.specs.of_life_runs.Served.{Serves, ServedTurn, AllServedTurn, accepted_by, gives_it, served_behind, served_life}
+use Rattle.run_promises.specs.of_life_runs.Told.{Passed, TellsOwn, replies_in, told_on}
+use Rattle.gateway_run.proofs.of_life_runs.Tells.{HasPassed, back_has, lost_has}
 use Rattle.promised_run.specs.Through.{IsServedWhole, TellsWhole}
 
 -- all that was heard was told

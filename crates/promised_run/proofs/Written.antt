@@ -1,23 +1,23 @@
 -- EACH MAIL THAT WAS ACCEPTED OF A PLAN'S SLAVES WAS DUE: so the packets that came into hand stand in a book with the answers that the lives give, and where a budget was spent something was left to do.
 use Rattle.std.proofs.Common.{◌≢◌, ℕ, List, map}
-use Rattle.life_runs.specs.First.{first_leads, lens_of}
-use Rattle.life_runs.specs.Led.{Exchanged, Leads, IsLed}
-use Rattle.plan_ring.proofs.Lives.{front_round}
-use Rattle.plan_ring.specs.Dues.{MailsAreDue}
-use Rattle.plan_ring.specs.Round.{AllRound, ring_of}
+use Rattle.run_promises.specs.of_life_runs.First.{first_leads, lens_of}
+use Rattle.run_promises.specs.of_life_runs.Led.{Exchanged, Leads, IsLed}
+use Rattle.seen_slaves.proofs.of_plan_ring.Lives.{front_round}
+use Rattle.seen_slaves.specs.of_plan_ring.Dues.{MailsAreDue}
+use Rattle.seen_slaves.specs.of_plan_ring.Round.{AllRound, ring_of}
 use Rattle.promised_run.proofs.Recalled.{all_round}
 use Rattle.promised_run.specs.Due.{IsServedDue}
 use Rattle.promised_run.specs.Eager.{ServedMailsAreDue}
 use Rattle.promised_run.specs.Left.{IsLeft, IsServedLeft}
 use Rattle.promised_run.specs.Written.{AllWritten, IsServedWritten}
-use Rattle.run_book.specs.declared.book.Book.{Book}
-use Rattle.run_book.specs.declared.book.Ending.TheVariants as endings
-use Rattle.run_record.specs.Led.{LedBook, exchanged}
-use Rattle.run_record.specs.Ran.{HasFrames, HasSent}
-use Rattle.run_record.specs.Served.{ServeTo}
-use Rattle.run_record.specs.Written.{WereDue, WereServedDue}
-use Rattle.segment_plan.specs.declared.plan.Scenario.{Scenario}
-use Rattle.life_runs.specs.Served.{IsServedLed, Serves}
+use Rattle.gateway_run.specs.of_run_book.declared.book.Book.{Book}
+use Rattle.gateway_run.specs.of_run_book.declared.book.Ending.TheVariants as endings
+use Rattle.gateway_run.specs.of_run_record.Led.{LedBook, exchanged}
+use Rattle.gateway_run.specs.of_run_record.Ran.{HasFrames, HasSent}
+use Rattle.gateway_run.specs.of_run_record.Served.{ServeTo}
+use Rattle.gateway_run.specs.of_run_record.Written.{WereDue, WereServedDue}
+use Rattle.run_promises.specs.of_segment_plan.declared.plan.Scenario.{Scenario}
+use Rattle.run_promises.specs.of_life_runs.Served.{IsServedLed, Serves}
 
 module _ (plan : Scenario) (due : MailsAreDue plan) where
   -- over the frames of a run that went round the plan's ring

@@ -1,9 +1,9 @@
 -- A RUN AS A SERVING to which no mail is asked.
 use Rattle.std.specs.Prelude.{List}
-use Rattle.life_runs.specs.Led.{Leads}
-use Rattle.run_book.specs.declared.book.Book.{Book}
-use Rattle.segment_plan.specs.declared.plan.Scenario.{Scenario}
-use Rattle.life_runs.specs.Served.{IsRunOf, Serves}
+use Rattle.run_promises.specs.of_life_runs.Led.{Leads}
+use Rattle.gateway_run.specs.of_run_book.declared.book.Book.{Book}
+use Rattle.run_promises.specs.of_segment_plan.declared.plan.Scenario.{Scenario}
+use Rattle.run_promises.specs.of_life_runs.Served.{IsRunOf, Serves}
 use Rattle.promised_run.specs.Stood.{StoodBehind}
 
 -- BY ITS SERVER each slave of the ring behind all frames has carried out, epoch by epoch, just the first of what came into hand, and counts just the services by

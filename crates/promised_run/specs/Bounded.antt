@@ -1,11 +1,11 @@
 -- A RUN THAT IS NEVER CUT OFF.
 use Rattle.std.specs.Prelude.{◌≡◌, ◌≢◌, ◌<◌, ◌≤◌, length}
 use Rattle.promised_run.specs.Few.{AreFewLost}
-use Rattle.run_book.specs.declared.book.Book.{Book}
-use Rattle.run_book.specs.declared.book.Ending.TheVariants as endings
-use Rattle.run_record.specs.Session.{budget_of}
-use Rattle.segment_plan.specs.Bound.{bound_of}
-use Rattle.segment_plan.specs.declared.plan.Scenario.{Scenario}
+use Rattle.gateway_run.specs.of_run_book.declared.book.Book.{Book}
+use Rattle.gateway_run.specs.of_run_book.declared.book.Ending.TheVariants as endings
+use Rattle.gateway_run.specs.of_run_record.Session.{budget_of}
+use Rattle.run_promises.specs.of_segment_plan.Bound.{bound_of}
+use Rattle.run_promises.specs.of_segment_plan.declared.plan.Scenario.{Scenario}
 
 -- ITS FRAMES ARE FEWER THAN THE BOUND, unless memory runs out. With a budget of as many frames as the bound, as a plan has that gives none and whose bound is no more than a run may send, a run doesn't end by it, whatever
 -- frames are lost; and where no more in a row are lost than the retry limit, it ends with all done, unless memory runs out

@@ -1,23 +1,23 @@
 -- A SERVING WHOSE MASTER MAKES NO VISIT IN VAIN, as the count of its frames has it.
 use Rattle.std.specs.Prelude.{◌≤◌, ℕ, suc, ◌+◌, ◌*◌, Bool, true, false, Option, List, [], ◌∷◌, length}
 use Rattle.promised_run.specs.Runs.{is_waiting, waiting_at}
-use Rattle.eoe_switch.specs.declared.switching.SwitchEvent.{SwitchEvent}
-use Rattle.idle_slaves.specs.Eager.{Remembered}
-use Rattle.life_runs.specs.First.{first_leads, lens_of}
-use Rattle.life_runs.specs.Led.{Exchanged}
-use Rattle.link_mails.specs.Body.{Body}
-use Rattle.master_duty.specs.Reply.{Reply}
-use Rattle.master_hand.specs.Spoken.{Asked}
-use Rattle.master_side.specs.Recall.{Recall}
-use Rattle.run_frames.specs.Clocks.{Clocked}
-use Rattle.run_frames.specs.Fates.{lost_of}
-use Rattle.run_frames.specs.Runs.{Progress}
-use Rattle.run_work.specs.ServedGained.{asked_in}
-use Rattle.segment_plan.specs.Bound.{slowest}
-use Rattle.segment_plan.specs.declared.plan.Scenario.{Scenario}
-use Rattle.run_record.specs.of_served_places.Answered.{ServedAsks}
-use Rattle.run_record.specs.of_served_places.Toured.{IsServedToured}
-use Rattle.life_runs.specs.Served.{Keyed, Serves, all_serve}
+use Rattle.run_promises.specs.of_eoe_switch.declared.switching.SwitchEvent.{SwitchEvent}
+use Rattle.seen_slaves.specs.of_idle_slaves.Eager.{Remembered}
+use Rattle.run_promises.specs.of_life_runs.First.{first_leads, lens_of}
+use Rattle.run_promises.specs.of_life_runs.Led.{Exchanged}
+use Rattle.run_promises.specs.of_link_mails.Body.{Body}
+use Rattle.seen_slaves.specs.of_master_duty.Reply.{Reply}
+use Rattle.seen_slaves.specs.of_master_hand.Spoken.{Asked}
+use Rattle.seen_slaves.specs.of_master_side.Recall.{Recall}
+use Rattle.seen_slaves.specs.of_run_frames.Clocks.{Clocked}
+use Rattle.seen_slaves.specs.of_run_frames.Fates.{lost_of}
+use Rattle.seen_slaves.specs.of_run_frames.Runs.{Progress}
+use Rattle.run_promises.specs.of_run_work.ServedGained.{asked_in}
+use Rattle.run_promises.specs.of_segment_plan.Bound.{slowest}
+use Rattle.run_promises.specs.of_segment_plan.declared.plan.Scenario.{Scenario}
+use Rattle.seen_slaves.specs.of_served_places.Answered.{ServedAsks}
+use Rattle.seen_slaves.specs.of_served_places.Toured.{IsServedToured}
+use Rattle.run_promises.specs.of_life_runs.Served.{Keyed, Serves, all_serve}
 pub use Rattle.seen_slaves.specs.Dues.{ServedMailsAreDue}
 use Rattle.seen_slaves.specs.Eager.{ServedEagerIn}
 

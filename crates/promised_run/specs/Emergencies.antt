@@ -1,8 +1,8 @@
 -- THE EMERGENCIES OF A SLAVE, as a book has them.
 use Rattle.std.specs.Prelude.{◌≡◌, List}
-use Rattle.life_runs.specs.of_frame_view.Shares.{AllBoth}
-use Rattle.run_record.specs.AcceptedMails.{Accepted, emergencies_of}
-use Rattle.run_book.specs.declared.book.SlaveBook.{SlaveBook}
+use Rattle.seen_slaves.specs.of_frame_view.Shares.{AllBoth}
+use Rattle.gateway_run.specs.of_run_record.AcceptedMails.{Accepted, emergencies_of}
+use Rattle.gateway_run.specs.of_run_book.declared.book.SlaveBook.{SlaveBook}
 
 -- OF ONE SLAVE: its book reports just the emergencies among the mails that its life accepted, in order, each whole and with the frame whose return
 -- brought it

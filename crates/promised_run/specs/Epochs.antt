@@ -1,10 +1,10 @@
 -- THE EPOCHS OF A SLAVE, as a book has them.
 use Rattle.std.specs.Prelude.{None, List, [], ◌∷◌, ◌++◌, ⊤}
-use Rattle.life_runs.specs.Causes.{AllEndBy}
-use Rattle.life_runs.specs.Led.{Leads}
-use Rattle.life_runs.specs.Opened.{AllOpenIn}
-use Rattle.run_book.specs.declared.book.SlaveBook.{SlaveBook}
-use Rattle.run_record.specs.of_run_notes.Epochs.{HasEpochs}
+use Rattle.run_promises.specs.of_life_runs.Causes.{AllEndBy}
+use Rattle.run_promises.specs.of_life_runs.Led.{Leads}
+use Rattle.run_promises.specs.of_life_runs.Opened.{AllOpenIn}
+use Rattle.gateway_run.specs.of_run_book.declared.book.SlaveBook.{SlaveBook}
+use Rattle.gateway_run.specs.of_run_notes.Epochs.{HasEpochs}
 
 -- OF ONE SLAVE: the epochs of the book are just those of its life, each returned to Init and opened by the frames that showed it; each but the first has
 -- its cause in the one before it: a state service in hand that returns to Init, or a give-up at a frame that the book has; and each is opened in the slave's

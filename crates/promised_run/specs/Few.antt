@@ -1,11 +1,11 @@
 -- WHERE FEW FRAMES ARE LOST IN A ROW, as a plan loses them.
 use Rattle.std.specs.Prelude.{◌≡◌, ◌≢◌, ℕ, ◌+◌, ◌≤◌, List, [], ◌∷◌, ⊤}
-use Rattle.run_book.specs.declared.book.Book.{Book}
-use Rattle.run_book.specs.declared.book.Ending.TheVariants as endings
-use Rattle.run_book.specs.declared.book.SlaveBook.{SlaveBook}
-use Rattle.life_runs.specs.of_segment_ring.Schedule.{fate_at}
-use Rattle.life_runs.specs.of_segment_ring.declared.wire.Fate.{Fate}
-use Rattle.life_runs.specs.of_segment_ring.declared.wire.Fate.TheVariants.{Pass, Lost}
+use Rattle.gateway_run.specs.of_run_book.declared.book.Book.{Book}
+use Rattle.gateway_run.specs.of_run_book.declared.book.Ending.TheVariants as endings
+use Rattle.gateway_run.specs.of_run_book.declared.book.SlaveBook.{SlaveBook}
+use Rattle.run_promises.specs.of_segment_ring.Schedule.{fate_at}
+use Rattle.run_promises.specs.of_segment_ring.declared.wire.Fate.{Fate}
+use Rattle.run_promises.specs.of_segment_ring.declared.wire.Fate.TheVariants.{Pass, Lost}
 
 -- a frame with this fate is lost
 abbrev pub IsLost : Fate → Type 0

@@ -1,30 +1,30 @@
 -- WHAT EACH DATAGRAM OF A SERVING GOT, by what the servers of the slaves give for its mail.
 use Rattle.std.specs.Prelude.{◌≡◌, ℕ, zero, suc, Bool, true, false, Option, Some, None, List, [], ◌∷◌, slice_get, Ok}
-use Rattle.exchange_model.specs.Prefix.{IsPrefixOf}
-use Rattle.gateway_core.specs.Framing.{request_in}
+use Rattle.run_promises.specs.of_exchange_model.Prefix.{IsPrefixOf}
+use Rattle.gateway_run.specs.of_gateway_core.Framing.{request_in}
 use Rattle.gateway_run.specs.Replies.{IsSame, dones_of, mails_told}
 use Rattle.gateway_run.specs.Rooms.{owed_for}
 use Rattle.gateway_run.specs.Served.{HasAccount}
 use Rattle.gateway_run.specs.Since.{GaveSince, NoneSince}
-use Rattle.mailbox_mail.specs.Mail.{error_of}
-use Rattle.mailbox_mail.specs.declared.mail.Mail.{Mail}
-use Rattle.run_book.specs.of_master_node.Wants.{gave_of}
-use Rattle.run_book.specs.declared.book.Book.{Book}
-use Rattle.run_book.specs.declared.book.Ending.{Ending}
-use Rattle.run_book.specs.declared.book.GramIn.{GramIn}
-use Rattle.run_book.specs.of_master_tour.Made.{is_in}
-use Rattle.run_record.specs.Replay.{first_ring, ring_after}
-use Rattle.run_work.specs.Lives.{first_server}
-use Rattle.segment_model.specs.Ends.{Passing}
-use Rattle.segment_plan.specs.declared.plan.Scenario.{Scenario}
-use Rattle.segment_plan.specs.declared.slave.SlaveSpec.{SlaveSpec}
-use Rattle.run_record.specs.of_served_places.Rows.{passings}
-use Rattle.served_rings.specs.Given.{Given, given}
-use Rattle.served_rings.specs.Served.{AllServeSo, replies_to}
-use Rattle.life_runs.specs.Served.{Serves}
-use Rattle.slave_server.specs.Serving.{Serving}
-use Rattle.slave_server.specs.Spec.{profile_of}
-use Rattle.slave_node.specs.Node.{Node}
+use Rattle.gateway_run.specs.of_mailbox_mail.Mail.{error_of}
+use Rattle.gateway_run.specs.of_mailbox_mail.declared.mail.Mail.{Mail}
+use Rattle.run_promises.specs.of_master_node.Wants.{gave_of}
+use Rattle.gateway_run.specs.of_run_book.declared.book.Book.{Book}
+use Rattle.gateway_run.specs.of_run_book.declared.book.Ending.{Ending}
+use Rattle.gateway_run.specs.of_run_book.declared.book.GramIn.{GramIn}
+use Rattle.run_promises.specs.of_master_tour.Made.{is_in}
+use Rattle.gateway_run.specs.of_run_record.Replay.{first_ring, ring_after}
+use Rattle.run_promises.specs.of_run_work.Lives.{first_server}
+use Rattle.run_promises.specs.of_segment_model.Ends.{Passing}
+use Rattle.run_promises.specs.of_segment_plan.declared.plan.Scenario.{Scenario}
+use Rattle.run_promises.specs.of_segment_plan.declared.slave.SlaveSpec.{SlaveSpec}
+use Rattle.seen_slaves.specs.of_served_places.Rows.{passings}
+use Rattle.seen_slaves.specs.of_served_rings.Given.{Given, given}
+use Rattle.seen_slaves.specs.of_served_rings.Served.{AllServeSo, replies_to}
+use Rattle.run_promises.specs.of_life_runs.Served.{Serves}
+use Rattle.run_promises.specs.of_slave_server.Serving.{Serving}
+use Rattle.run_promises.specs.of_slave_server.Spec.{profile_of}
+use Rattle.run_promises.specs.of_slave_node.Node.{Node}
 use Rattle.promised_run.specs.Stood.{StoodBehind}
 
 -- the mails that a slave's server gives for a mail in its one step, as they are told

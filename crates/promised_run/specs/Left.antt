@@ -2,11 +2,11 @@
 use Rattle.std.specs.Prelude.{◌≡◌, ℕ}
 use Rattle.gateway_run.specs.Done.{ServedRestAll}
 use Rattle.gateway_run.specs.Served.{HasAccount}
-use Rattle.run_book.specs.declared.book.Book.{Book}
-use Rattle.run_book.specs.declared.book.Ending.TheVariants as endings
-pub use Rattle.run_record.specs.Led.{RestAll}
-use Rattle.run_record.specs.Led.{LedBook}
-use Rattle.segment_plan.specs.declared.plan.Scenario.{Scenario}
+use Rattle.gateway_run.specs.of_run_book.declared.book.Book.{Book}
+use Rattle.gateway_run.specs.of_run_book.declared.book.Ending.TheVariants as endings
+pub use Rattle.gateway_run.specs.of_run_record.Led.{RestAll}
+use Rattle.gateway_run.specs.of_run_record.Led.{LedBook}
+use Rattle.run_promises.specs.of_segment_plan.declared.plan.Scenario.{Scenario}
 
 -- SOMETHING WAS LEFT TO DO in a run, by the lives that its frames lead to
 abbrev pub LeavesSome : (plan : Scenario) (book : Book) → LedBook plan book book.ending → Type 0

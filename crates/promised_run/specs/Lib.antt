@@ -1,6 +1,7 @@
 pub use Rattle.gateway_run.specs as of_gateway_run
-pub use Rattle.run_record.specs.Ran
-pub use Rattle.run_record.specs.Session
+pub use Rattle.run_promises.specs.of_scenario as of_scenario
+pub use Rattle.gateway_run.specs.of_run_record.Ran
+pub use Rattle.gateway_run.specs.of_run_record.Session
 pub mod Alone
 pub mod Bounded
 pub mod Due

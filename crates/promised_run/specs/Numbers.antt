@@ -1,22 +1,22 @@
 -- WHEN THE EVENTS OF A SLAVE'S PORT CAME, as a book numbers them: by how many frames had been sent then.
 use Rattle.std.specs.Prelude.{◌≡◌, ℕ, zero, suc, if◌then◌else◌, Option, Some, None, List, [], ◌∷◌, ◌++◌, map, slice_get, All}
-use Rattle.life_runs.specs.Led.{Exchanged, Leads}
-use Rattle.life_runs.specs.of_link_mails.Body.{Body}
-use Rattle.life_runs.specs.of_master_duty.Reply.{Reply}
-use Rattle.life_runs.specs.of_master_hand.Spoken.{Asked}
-use Rattle.run_book.specs.declared.book.Begun.{Begun}
-use Rattle.run_book.specs.declared.book.Book.{Book}
-use Rattle.run_book.specs.declared.book.SlaveBook.{SlaveBook}
-use Rattle.run_book.specs.of_master_node.Forwards.{port_by}
-use Rattle.run_book.specs.of_master_node.Ports.{ports_behind, ports_of}
-use Rattle.run_book.specs.of_master_node.declared.event.Origin.{Origin}
-use Rattle.run_book.specs.of_master_node.declared.event.Origin.TheVariants.{Script, Forward, Gateway}
-use Rattle.run_record.specs.Led.{LeadTo}
-use Rattle.run_record.specs.of_packets_heard.Numbers.{NoneWaits, begins, comes_in, events_up_to, frames_heard, goes, number_behind, numbers_where}
-use Rattle.run_frames.specs.Came.{is_packet}
-use Rattle.run_frames.specs.of_life_model.Lives.{Era, Life}
-use Rattle.run_frames.specs.of_state_model.Accounts.{Started}
-use Rattle.segment_plan.specs.declared.plan.Scenario.{Scenario}
+use Rattle.run_promises.specs.of_life_runs.Led.{Exchanged, Leads}
+use Rattle.run_promises.specs.of_link_mails.Body.{Body}
+use Rattle.seen_slaves.specs.of_master_duty.Reply.{Reply}
+use Rattle.seen_slaves.specs.of_master_hand.Spoken.{Asked}
+use Rattle.gateway_run.specs.of_run_book.declared.book.Begun.{Begun}
+use Rattle.gateway_run.specs.of_run_book.declared.book.Book.{Book}
+use Rattle.gateway_run.specs.of_run_book.declared.book.SlaveBook.{SlaveBook}
+use Rattle.run_promises.specs.of_master_node.Forwards.{port_by}
+use Rattle.run_promises.specs.of_master_node.Ports.{ports_behind, ports_of}
+use Rattle.run_promises.specs.of_master_node.declared.event.Origin.{Origin}
+use Rattle.run_promises.specs.of_master_node.declared.event.Origin.TheVariants.{Script, Forward, Gateway}
+use Rattle.gateway_run.specs.of_run_record.Led.{LeadTo}
+use Rattle.run_promises.specs.of_packets_heard.Numbers.{NoneWaits, begins, comes_in, events_up_to, frames_heard, goes, number_behind, numbers_where}
+use Rattle.seen_slaves.specs.of_run_frames.Came.{is_packet}
+use Rattle.run_promises.specs.of_life_model.Lives.{Era, Life}
+use Rattle.run_promises.specs.of_state_model.Accounts.{Started}
+use Rattle.run_promises.specs.of_segment_plan.declared.plan.Scenario.{Scenario}
 
 -- the rows of epochs, in order: each service that came into hand, with the frame before which it did
 abbrev pub eras_rows : List (Era Body Asked Reply) → List (Started Asked)

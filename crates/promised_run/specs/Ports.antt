@@ -1,22 +1,22 @@
 -- THE PORT OF A SLAVE over a run: what came in there, what began there, and when it went down.
 use Rattle.std.specs.Prelude.{◌≡◌, ℕ, zero, suc, Bool, if◌then◌else◌, Some, List, [], ◌∷◌, ◌++◌, length, slice_get}
-use Rattle.life_runs.specs.Led.{Exchanged, Leads}
-use Rattle.run_book.specs.declared.book.Book.{Book}
-use Rattle.run_book.specs.of_link_mails.Body.{Body}
-use Rattle.run_book.specs.of_master_node.Forwards.{port_by}
-use Rattle.run_book.specs.of_master_node.Happened.{arrivals_at}
-use Rattle.run_book.specs.of_master_node.Ports.{ports_behind, ports_of}
-use Rattle.run_book.specs.of_master_node.Shows.{is_live_lead}
-use Rattle.run_book.specs.of_master_tour.Goes.{holds_at}
-use Rattle.run_record.specs.Led.{LeadTo}
-use Rattle.run_record.specs.of_arrayvec.ArrayVec.{ArrayVec}
-use Rattle.run_record.specs.of_eoe_switch.Switch.{switched}
-use Rattle.run_record.specs.of_eoe_switch.declared.switching.SwitchEvent.{SwitchEvent}
-use Rattle.run_record.specs.of_eoe_switch.declared.switching.SwitchEvent.TheVariants.{Down}
-use Rattle.run_record.specs.of_packets_heard.Over.{begun_at, forwarded_to, packets_begun}
-use Rattle.run_record.specs.of_packets_heard.Listed.{downs_at, long_ones}
-use Rattle.run_record.specs.of_packets_heard.Heard.{Times, ended, packets_of, times_in}
-use Rattle.segment_plan.specs.declared.plan.Scenario.{Scenario}
+use Rattle.run_promises.specs.of_life_runs.Led.{Exchanged, Leads}
+use Rattle.gateway_run.specs.of_run_book.declared.book.Book.{Book}
+use Rattle.run_promises.specs.of_link_mails.Body.{Body}
+use Rattle.run_promises.specs.of_master_node.Forwards.{port_by}
+use Rattle.run_promises.specs.of_master_node.Happened.{arrivals_at}
+use Rattle.run_promises.specs.of_master_node.Ports.{ports_behind, ports_of}
+use Rattle.run_promises.specs.of_master_node.Shows.{is_live_lead}
+use Rattle.run_promises.specs.of_master_tour.Goes.{holds_at}
+use Rattle.gateway_run.specs.of_run_record.Led.{LeadTo}
+use Rattle.gateway_run.specs.of_run_record.of_arrayvec.ArrayVec.{ArrayVec}
+use Rattle.run_promises.specs.of_eoe_switch.Switch.{switched}
+use Rattle.run_promises.specs.of_eoe_switch.declared.switching.SwitchEvent.{SwitchEvent}
+use Rattle.run_promises.specs.of_eoe_switch.declared.switching.SwitchEvent.TheVariants.{Down}
+use Rattle.run_promises.specs.of_packets_heard.Over.{begun_at, forwarded_to, packets_begun}
+use Rattle.run_promises.specs.of_packets_heard.Listed.{downs_at, long_ones}
+use Rattle.run_promises.specs.of_packets_heard.Heard.{Times, ended, packets_of, times_in}
+use Rattle.run_promises.specs.of_segment_plan.declared.plan.Scenario.{Scenario}
 
 -- the mails that the life of the slave at a place accepted, those of each time that it was open
 abbrev pub accepted_at : List Times → ℕ → List (List Body)

@@ -1,7 +1,7 @@
 -- THE PROMISE OF A RUN, by the frames of its book.
 use Rattle.std.specs.Prelude.{◌≡◌, ◌≢◌, List, map, ⊤}
-use Rattle.run_record.specs.AcceptedMails.{heard_in}
-use Rattle.life_runs.specs.Led.{Leads}
+use Rattle.gateway_run.specs.of_run_record.AcceptedMails.{heard_in}
+use Rattle.run_promises.specs.of_life_runs.Led.{Leads}
 use Rattle.run_promises.specs.Promise.{slaves_behind, Keeps}
 use Rattle.run_promises.specs.Rest.{NothingIsLeft, AllIsDone}
 use Rattle.promised_run.specs.Alone.{ServesAlone}
@@ -17,14 +17,14 @@ use Rattle.promised_run.specs.SentWhole.{HasSentWhole}
 use Rattle.promised_run.specs.Unsent.{AllUnsent}
 use Rattle.promised_run.specs.Visits.{AllVisit}
 use Rattle.promised_run.specs.Written.{AllWritten}
-use Rattle.run_book.specs.declared.book.Book.{Book}
-use Rattle.run_book.specs.declared.book.Ending.{Ending}
-use Rattle.run_book.specs.declared.book.Ending.TheVariants as endings
-use Rattle.run_record.specs.Led.{LedBook, exchanged}
-use Rattle.run_record.specs.Replay.{first_ring, ring_after}
-use Rattle.run_record.specs.of_packets_heard.Heard.{times_in}
-use Rattle.run_record.specs.of_run_notes.Switched.{HasPackets}
-use Rattle.segment_plan.specs.declared.plan.Scenario.{Scenario}
+use Rattle.gateway_run.specs.of_run_book.declared.book.Book.{Book}
+use Rattle.gateway_run.specs.of_run_book.declared.book.Ending.{Ending}
+use Rattle.gateway_run.specs.of_run_book.declared.book.Ending.TheVariants as endings
+use Rattle.gateway_run.specs.of_run_record.Led.{LedBook, exchanged}
+use Rattle.gateway_run.specs.of_run_record.Replay.{first_ring, ring_after}
+use Rattle.run_promises.specs.of_packets_heard.Heard.{times_in}
+use Rattle.gateway_run.specs.of_run_notes.Switched.{HasPackets}
+use Rattle.run_promises.specs.of_segment_plan.declared.plan.Scenario.{Scenario}
 
 -- WHERE A RUN IS OVER: done, all of each slave is done; with a slave given up, nothing is left of those that weren't given up for good
 abbrev pub LeavesNothing : Scenario → Book → List Leads → Ending → Type 0

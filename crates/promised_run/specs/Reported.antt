@@ -1,33 +1,33 @@
 -- EACH SERVICE OF A SCRIPT IS REPORTED with just what the frames give for it, and each reply is that of its application.
 use Rattle.std.specs.Prelude.{◌≡◌, ℕ, suc, not, Bool, true, false, Option, Some, None, List, [], ◌∷◌, ◌++◌, length, ⊤}
-use Rattle.segment_plan.specs.of_exchange_model.Exchange.{Exchange, Speech}
-use Rattle.run_promises.specs.of_plan_ring.Epochs.{IsKept, app_of}
-use Rattle.run_frames.specs.of_life_model.Eras.{era_frames}
-use Rattle.run_frames.specs.of_life_model.Lives.{Spot, Era, Life, returns_to_init}
-use Rattle.life_runs.specs.First.{lens_of, spot_of}
-use Rattle.life_runs.specs.Led.{Exchanged, Leads}
-use Rattle.life_runs.specs.of_link_mails.Body.{Body}
-use Rattle.life_runs.specs.of_master_duty.Reply.{Reply}
-use Rattle.life_runs.specs.of_master_hand.Spoken.{Asked, is_followed}
+use Rattle.run_promises.specs.of_exchange_model.Exchange.{Exchange, Speech}
+use Rattle.seen_slaves.specs.of_plan_ring.Epochs.{IsKept, app_of}
+use Rattle.run_promises.specs.of_life_model.Eras.{era_frames}
+use Rattle.run_promises.specs.of_life_model.Lives.{Spot, Era, Life, returns_to_init}
+use Rattle.run_promises.specs.of_life_runs.First.{lens_of, spot_of}
+use Rattle.run_promises.specs.of_life_runs.Led.{Exchanged, Leads}
+use Rattle.run_promises.specs.of_link_mails.Body.{Body}
+use Rattle.seen_slaves.specs.of_master_duty.Reply.{Reply}
+use Rattle.seen_slaves.specs.of_master_hand.Spoken.{Asked, is_followed}
 use Rattle.run_promises.specs.Plan.{first_app}
-use Rattle.run_book.specs.declared.book.SlaveBook.{SlaveBook}
+use Rattle.gateway_run.specs.of_run_book.declared.book.SlaveBook.{SlaveBook}
 use Rattle.run_promises.specs.Round.{all_seen}
 use Rattle.run_promises.specs.Slaves.{services_of}
-use Rattle.run_record.specs.of_run_notes.Reports.{noted_in}
-use Rattle.run_record.specs.of_run_frames.ScriptAnswers.{Noted, reply_by, outcome_reply, change_outcome, opened_anew}
-use Rattle.run_frames.specs.Came.{is_beside}
-use Rattle.run_frames.specs.of_segment_model.Ends.{Outcome}
-use Rattle.run_frames.specs.of_segment_model.Record.{Frame}
-use Rattle.segment_plan.specs.declared.plan.Scenario.{Scenario}
-use Rattle.segment_plan.specs.declared.slave.SlaveSpec.{SlaveSpec}
-use Rattle.run_promises.specs.of_plan_ring.Real.{real_clearing}
-use Rattle.run_promises.specs.of_slave_lives.Lived.{Behind, table_of}
-use Rattle.run_book.specs.of_slave_server.Serving.{Serving}
-use Rattle.run_book.specs.of_slave_node.Node.{Node}
-use Rattle.run_frames.specs.of_state_model.Stated.{Stated, Service, with_states}
-use Rattle.life_runs.specs.of_state_model.States.{Table}
-use Rattle.run_frames.specs.of_state_model.Accounts.{Started}
-use Rattle.run_frames.specs.of_state_model.Promise.{outcome_of}
+use Rattle.gateway_run.specs.of_run_notes.Reports.{noted_in}
+use Rattle.seen_slaves.specs.of_run_frames.ScriptAnswers.{Noted, reply_by, outcome_reply, change_outcome, opened_anew}
+use Rattle.seen_slaves.specs.of_run_frames.Came.{is_beside}
+use Rattle.run_promises.specs.of_segment_model.Ends.{Outcome}
+use Rattle.run_promises.specs.of_segment_model.Record.{Frame}
+use Rattle.run_promises.specs.of_segment_plan.declared.plan.Scenario.{Scenario}
+use Rattle.run_promises.specs.of_segment_plan.declared.slave.SlaveSpec.{SlaveSpec}
+use Rattle.seen_slaves.specs.of_plan_ring.Real.{real_clearing}
+use Rattle.seen_slaves.specs.of_slave_lives.Lived.{Behind, table_of}
+use Rattle.run_promises.specs.of_slave_server.Serving.{Serving}
+use Rattle.run_promises.specs.of_slave_node.Node.{Node}
+use Rattle.run_promises.specs.of_state_model.Stated.{Stated, Service, with_states}
+use Rattle.run_promises.specs.of_state_model.States.{Table}
+use Rattle.run_promises.specs.of_state_model.Accounts.{Started}
+use Rattle.run_promises.specs.of_state_model.Promise.{outcome_of}
 
 -- a service has a reply of its own, by mails or as a change of state: no packet, no mail that is passed on
 abbrev pub has_reply : {M R : Type 0} → Speech M Asked R → Service Asked → Bool

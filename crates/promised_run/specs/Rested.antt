@@ -2,20 +2,20 @@
 use Rattle.std.specs.Prelude.{◌≡◌, ◌⊎◌, ℕ, suc, true, List, [], ◌∷◌, ⊤}
 use Rattle.gateway_run.specs.Served.{HasAccount}
 use Rattle.gateway_run.specs.Since.{NoneSince}
-use Rattle.life_model.specs.Lives.{Stand}
-use Rattle.life_runs.specs.Causes.{since}
-use Rattle.life_runs.specs.First.{lens_of}
-use Rattle.run_book.specs.of_master_node.Wants.{gave_of}
-use Rattle.run_book.specs.declared.book.Book.{Book}
-use Rattle.run_record.specs.Led.{LeavesNone}
-use Rattle.run_record.specs.Replay.{first_ring, ring_after}
-use Rattle.segment_plan.specs.declared.plan.Scenario.{Scenario}
-use Rattle.segment_plan.specs.declared.slave.SlaveSpec.{SlaveSpec}
-use Rattle.served_rings.specs.Rests.{IsServedDone, IsServedIdle}
-use Rattle.served_rings.specs.StoodLives.{IsFirst, others}
-use Rattle.life_runs.specs.Served.{Serves}
-use Rattle.slave_server.specs.Serving.{Serving, next_mail}
-use Rattle.slave_node.specs.Node.{Node, is_settled}
+use Rattle.run_promises.specs.of_life_model.Lives.{Stand}
+use Rattle.run_promises.specs.of_life_runs.Causes.{since}
+use Rattle.run_promises.specs.of_life_runs.First.{lens_of}
+use Rattle.run_promises.specs.of_master_node.Wants.{gave_of}
+use Rattle.gateway_run.specs.of_run_book.declared.book.Book.{Book}
+use Rattle.gateway_run.specs.of_run_record.Led.{LeavesNone}
+use Rattle.gateway_run.specs.of_run_record.Replay.{first_ring, ring_after}
+use Rattle.run_promises.specs.of_segment_plan.declared.plan.Scenario.{Scenario}
+use Rattle.run_promises.specs.of_segment_plan.declared.slave.SlaveSpec.{SlaveSpec}
+use Rattle.seen_slaves.specs.of_served_rings.Rests.{IsServedDone, IsServedIdle}
+use Rattle.seen_slaves.specs.of_served_rings.StoodLives.{IsFirst, others}
+use Rattle.run_promises.specs.of_life_runs.Served.{Serves}
+use Rattle.run_promises.specs.of_slave_server.Serving.{Serving, next_mail}
+use Rattle.run_promises.specs.of_slave_node.Node.{Node, is_settled}
 use Rattle.promised_run.specs.Stood.{nodes_through}
 
 -- NOTHING IS LEFT OF A SLAVE: its master wants nothing of it, and no mail waits; it is settled; it wasn't given up since its newest epoch began, so no mail that

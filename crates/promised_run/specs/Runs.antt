@@ -1,27 +1,27 @@
 -- A RUN WHOSE MASTER MAKES NO VISIT IN VAIN, as the count of its frames has it.
 use Rattle.std.specs.Prelude.{◌≡◌, ◌≤◌, ℕ, suc, ◌+◌, Bool, true, false, Option, Some, List, [], ◌∷◌, length, slice_get}
 use Rattle.arrayvec.specs.ArrayVec.{ArrayVec}
-use Rattle.idle_slaves.specs.Eager.{Remembered}
-use Rattle.eoe_switch.specs.Switch.{switched}
-use Rattle.eoe_switch.specs.declared.switching.SwitchEvent.{SwitchEvent}
-use Rattle.life_runs.specs.First.{lens_of, first_leads, script_for}
-use Rattle.life_runs.specs.Led.{Exchanged, Leads}
-use Rattle.link_mails.specs.Body.{Body}
-use Rattle.master_duty.specs.Reply.{Reply}
-use Rattle.master_hand.specs.Spoken.{Asked}
-use Rattle.run_book.specs.of_master_node.Forwards.{port_by, waiting_by}
-use Rattle.run_book.specs.of_master_node.Ports.{ports_behind, ports_of}
-use Rattle.master_side.specs.Recall.{Recall}
-use Rattle.plan_ring.specs.Round.{ring_of, AllRound}
-use Rattle.plan_ring.specs.PlanRooms.{MayBegin}
-use Rattle.run_frames.specs.Clocks.{Clocked}
-use Rattle.run_frames.specs.Fates.{lost_of}
-use Rattle.run_frames.specs.Runs.{Progress}
-use Rattle.run_frames.specs.Toured.{IsToured, AskIn, WaitIn}
-use Rattle.segment_plan.specs.Bound.{slowest}
-use Rattle.segment_plan.specs.declared.plan.Scenario.{Scenario}
-use Rattle.segment_plan.specs.declared.service.Service.{Service}
-use Rattle.segment_plan.specs.declared.slave.SlaveSpec.{SlaveSpec}
+use Rattle.seen_slaves.specs.of_idle_slaves.Eager.{Remembered}
+use Rattle.run_promises.specs.of_eoe_switch.Switch.{switched}
+use Rattle.run_promises.specs.of_eoe_switch.declared.switching.SwitchEvent.{SwitchEvent}
+use Rattle.run_promises.specs.of_life_runs.First.{lens_of, first_leads, script_for}
+use Rattle.run_promises.specs.of_life_runs.Led.{Exchanged, Leads}
+use Rattle.run_promises.specs.of_link_mails.Body.{Body}
+use Rattle.seen_slaves.specs.of_master_duty.Reply.{Reply}
+use Rattle.seen_slaves.specs.of_master_hand.Spoken.{Asked}
+use Rattle.run_promises.specs.of_master_node.Forwards.{port_by, waiting_by}
+use Rattle.run_promises.specs.of_master_node.Ports.{ports_behind, ports_of}
+use Rattle.seen_slaves.specs.of_master_side.Recall.{Recall}
+use Rattle.seen_slaves.specs.of_plan_ring.Round.{ring_of, AllRound}
+use Rattle.seen_slaves.specs.of_plan_ring.PlanRooms.{MayBegin}
+use Rattle.seen_slaves.specs.of_run_frames.Clocks.{Clocked}
+use Rattle.seen_slaves.specs.of_run_frames.Fates.{lost_of}
+use Rattle.seen_slaves.specs.of_run_frames.Runs.{Progress}
+use Rattle.seen_slaves.specs.of_run_frames.Toured.{IsToured, AskIn, WaitIn}
+use Rattle.run_promises.specs.of_segment_plan.Bound.{slowest}
+use Rattle.run_promises.specs.of_segment_plan.declared.plan.Scenario.{Scenario}
+use Rattle.run_promises.specs.of_segment_plan.declared.service.Service.{Service}
+use Rattle.run_promises.specs.of_segment_plan.declared.slave.SlaveSpec.{SlaveSpec}
 
 -- the packets that wait for the slave at a place, behind these events
 abbrev pub waiting_at : Scenario → List SwitchEvent → ℕ → List (ArrayVec ℕ)

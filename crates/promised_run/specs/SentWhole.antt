@@ -3,19 +3,19 @@ use Rattle.std.specs.Prelude.{◌≡◌, ◌≢◌, ℕ, Some, List, map, slice_
 use Rattle.gateway_run.specs.Served.{HasAccount}
 use Rattle.promised_run.specs.Ports.{accepted_at}
 use Rattle.promised_run.specs.Stood.{StoodBehind}
-use Rattle.run_book.specs.declared.book.Book.{Book}
-use Rattle.run_book.specs.declared.book.Ending.TheVariants as endings
-use Rattle.run_book.specs.declared.book.SentFrame.{SentFrame}
-use Rattle.run_book.specs.of_master_node.Forwards.{port_by}
-use Rattle.run_book.specs.of_master_node.Happened.{arrivals_at}
-use Rattle.run_book.specs.of_master_node.Ports.{ports_behind}
-use Rattle.run_record.specs.Replay.{first_ring, ring_after}
-use Rattle.run_record.specs.of_arrayvec.ArrayVec.{ArrayVec}
-use Rattle.run_record.specs.of_packets_heard.Heard.{Times, packets_of}
-use Rattle.run_record.specs.of_packets_heard.Servings.{served_times}
-use Rattle.segment_plan.specs.declared.plan.Scenario.{Scenario}
+use Rattle.gateway_run.specs.of_run_book.declared.book.Book.{Book}
+use Rattle.gateway_run.specs.of_run_book.declared.book.Ending.TheVariants as endings
+use Rattle.gateway_run.specs.of_run_book.declared.book.SentFrame.{SentFrame}
+use Rattle.run_promises.specs.of_master_node.Forwards.{port_by}
+use Rattle.run_promises.specs.of_master_node.Happened.{arrivals_at}
+use Rattle.run_promises.specs.of_master_node.Ports.{ports_behind}
+use Rattle.gateway_run.specs.of_run_record.Replay.{first_ring, ring_after}
+use Rattle.gateway_run.specs.of_run_record.of_arrayvec.ArrayVec.{ArrayVec}
+use Rattle.run_promises.specs.of_packets_heard.Heard.{Times, packets_of}
+use Rattle.run_promises.specs.of_packets_heard.Servings.{served_times}
+use Rattle.run_promises.specs.of_segment_plan.declared.plan.Scenario.{Scenario}
 use Rattle.run_promises.specs.Whole.{AllSendWhole, heard_at}
-use Rattle.life_runs.specs.Served.{Serves}
+use Rattle.run_promises.specs.of_life_runs.Served.{Serves}
 
 -- BEHIND THESE FRAMES each epoch of each slave sent whole packets, by what the slave carried out of it: of these the first came in of the mails that were heard in
 -- its rows, each whole, and no fragment was dropped; and the mails accepted each time that the slave was open are those of its epochs, in order

@@ -3,10 +3,10 @@ use Rattle.std.specs.Prelude.{◌≢◌, ℕ, map}
 use Rattle.gateway_run.specs.Served.{HasAccount}
 use Rattle.promised_run.specs.Epochs.{AllCaused}
 use Rattle.promised_run.specs.Unsent.{AllUnsent}
-use Rattle.run_book.specs.declared.book.Book.{Book}
-use Rattle.run_book.specs.declared.book.Ending.TheVariants as endings
-use Rattle.run_book.specs.of_master_node.Serving.{run_lead}
-use Rattle.segment_plan.specs.declared.plan.Scenario.{Scenario}
+use Rattle.gateway_run.specs.of_run_book.declared.book.Book.{Book}
+use Rattle.gateway_run.specs.of_run_book.declared.book.Ending.TheVariants as endings
+use Rattle.run_promises.specs.of_master_node.Serving.{run_lead}
+use Rattle.run_promises.specs.of_segment_plan.declared.plan.Scenario.{Scenario}
 
 -- OF EACH SLAVE just the rest of the plan's script for it, behind the services that came into hand, wasn't sent; and each of its epochs but the first has its cause
 -- in the one before it, by which it opens its AL state, as the first opens the slave's start

@@ -3,16 +3,16 @@ use Rattle.std.specs.Prelude.{◌≡◌, ◌≢◌, ◌<◌, ◌≤◌, ℕ, suc
 use Rattle.gateway_run.specs.Done.{LeavesNone}
 use Rattle.gateway_run.specs.Replies.{dones_of}
 use Rattle.gateway_run.specs.Served.{HasAccount}
-use Rattle.run_book.specs.of_master_tour.Made.{is_in}
+use Rattle.run_promises.specs.of_master_tour.Made.{is_in}
 use Rattle.promised_run.specs.Few.{AreFewLost, NoneGivenUp}
-use Rattle.run_book.specs.declared.book.Book.{Book}
-use Rattle.run_book.specs.declared.book.Ending.{Ending}
-use Rattle.run_book.specs.declared.book.Ending.TheVariants as endings
-use Rattle.run_book.specs.declared.book.GramIn.{GramIn}
-use Rattle.run_record.specs.Session.{budget_of}
-use Rattle.run_work.specs.Fair.{AreFairGrams}
-use Rattle.segment_plan.specs.Bound.{bound_of}
-use Rattle.segment_plan.specs.declared.plan.Scenario.{Scenario}
+use Rattle.gateway_run.specs.of_run_book.declared.book.Book.{Book}
+use Rattle.gateway_run.specs.of_run_book.declared.book.Ending.{Ending}
+use Rattle.gateway_run.specs.of_run_book.declared.book.Ending.TheVariants as endings
+use Rattle.gateway_run.specs.of_run_book.declared.book.GramIn.{GramIn}
+use Rattle.gateway_run.specs.of_run_record.Session.{budget_of}
+use Rattle.run_promises.specs.of_run_work.Fair.{AreFairGrams}
+use Rattle.run_promises.specs.of_segment_plan.Bound.{bound_of}
+use Rattle.run_promises.specs.of_segment_plan.declared.plan.Scenario.{Scenario}
 
 -- none of the datagrams that were heard asks for a download to 2F01:01, which makes its slave send a packet of itself
 abbrev pub HearsFair : Book → Type 0

@@ -1,23 +1,23 @@
 -- THE PORTS OF A PLAN'S SLAVES over a serving: what came in there, what began there, when it went down, and the number of each of these.
 use Rattle.std.specs.Prelude.{◌≡◌, ◌≢◌, ℕ, if◌then◌else◌, Bool, false, Some, List, [], ◌∷◌, ◌++◌, map, slice_get}
 use Rattle.gateway_run.specs.Served.{HasAccount}
-use Rattle.life_runs.specs.Led.{Exchanged}
-use Rattle.life_runs.specs.of_master_hand.Spoken.{Asked, is_passed}
+use Rattle.run_promises.specs.of_life_runs.Led.{Exchanged}
+use Rattle.seen_slaves.specs.of_master_hand.Spoken.{Asked, is_passed}
 use Rattle.promised_run.specs.Numbers.{HasNumbers, given_up_in, packet_frames, rows_at, scripts_at}
 use Rattle.promised_run.specs.Ports.{HasPort, accepted_at}
-use Rattle.run_book.specs.declared.book.Book.{Book}
-use Rattle.run_book.specs.declared.book.Ending.TheVariants as endings
-use Rattle.run_book.specs.of_master_node.Forwards.{port_by}
-use Rattle.run_book.specs.of_master_node.Ports.{ports_behind, ports_of}
-use Rattle.run_book.specs.of_master_node.Serving.{run_lead}
-use Rattle.run_book.specs.of_master_node.Shows.{is_live_lead}
-use Rattle.run_book.specs.of_master_tour.Goes.{holds_at}
-use Rattle.run_record.specs.Served.{ServeTo}
-use Rattle.run_record.specs.of_packets_heard.Servings.{served_completed, served_packets, served_times}
-use Rattle.run_frames.specs.of_state_model.Stated.{Service}
-use Rattle.run_frames.specs.of_state_model.Accounts.{Started}
-use Rattle.segment_plan.specs.declared.plan.Scenario.{Scenario}
-use Rattle.life_runs.specs.Served.{Serves}
+use Rattle.gateway_run.specs.of_run_book.declared.book.Book.{Book}
+use Rattle.gateway_run.specs.of_run_book.declared.book.Ending.TheVariants as endings
+use Rattle.run_promises.specs.of_master_node.Forwards.{port_by}
+use Rattle.run_promises.specs.of_master_node.Ports.{ports_behind, ports_of}
+use Rattle.run_promises.specs.of_master_node.Serving.{run_lead}
+use Rattle.run_promises.specs.of_master_node.Shows.{is_live_lead}
+use Rattle.run_promises.specs.of_master_tour.Goes.{holds_at}
+use Rattle.gateway_run.specs.of_run_record.Served.{ServeTo}
+use Rattle.run_promises.specs.of_packets_heard.Servings.{served_completed, served_packets, served_times}
+use Rattle.run_promises.specs.of_state_model.Stated.{Service}
+use Rattle.run_promises.specs.of_state_model.Accounts.{Started}
+use Rattle.run_promises.specs.of_segment_plan.declared.plan.Scenario.{Scenario}
+use Rattle.run_promises.specs.of_life_runs.Served.{Serves}
 
 -- a mail that is passed on
 abbrev pub is_mail : Service Asked → Bool

@@ -1,29 +1,29 @@
 -- EACH SERVICE OF A SCRIPT IS REPORTED with just what the frames of its epoch give for it, also while mails are passed on beside it.
 use Rattle.std.specs.Prelude.{◌≡◌, ◌≢◌, ℕ, suc, ◌<◌, ◌≤◌, Option, Some, None, List, [], ◌∷◌, ◌++◌, map, length, ⊤}
-use Rattle.exchange_model.specs.Rows.{heard_all}
+use Rattle.run_promises.specs.of_exchange_model.Rows.{heard_all}
 use Rattle.gateway_run.specs.Served.{HasAccount}
-use Rattle.life_model.specs.Eras.{era_frames}
-use Rattle.life_model.specs.Lives.{Spot, Era, Life, Stand}
-use Rattle.life_runs.specs.First.{lens_of, spot_of}
-use Rattle.link_mails.specs.Body.{Body}
-use Rattle.master_duty.specs.Reply.{Reply}
-use Rattle.master_hand.specs.Spoken.{Asked}
-use Rattle.plan_ring.specs.Round.{all_seen}
+use Rattle.run_promises.specs.of_life_model.Eras.{era_frames}
+use Rattle.run_promises.specs.of_life_model.Lives.{Spot, Era, Life, Stand}
+use Rattle.run_promises.specs.of_life_runs.First.{lens_of, spot_of}
+use Rattle.run_promises.specs.of_link_mails.Body.{Body}
+use Rattle.seen_slaves.specs.of_master_duty.Reply.{Reply}
+use Rattle.seen_slaves.specs.of_master_hand.Spoken.{Asked}
+use Rattle.seen_slaves.specs.of_plan_ring.Round.{all_seen}
 use Rattle.promised_run.specs.Reported.{AreNoted}
-use Rattle.run_book.specs.declared.book.Book.{Book}
-use Rattle.run_book.specs.declared.book.Ending.{Ending}
-use Rattle.run_book.specs.declared.book.SlaveBook.{SlaveBook}
+use Rattle.gateway_run.specs.of_run_book.declared.book.Book.{Book}
+use Rattle.gateway_run.specs.of_run_book.declared.book.Ending.{Ending}
+use Rattle.gateway_run.specs.of_run_book.declared.book.SlaveBook.{SlaveBook}
 use Rattle.run_promises.specs.Slaves.{services_of}
-use Rattle.run_record.specs.Led.{exchanged}
-use Rattle.run_record.specs.of_run_notes.Reports.{noted_in}
-use Rattle.run_frames.specs.ScriptAnswers.{Noted, next_opened, opened_anew}
-use Rattle.segment_model.specs.Record.{Frame, heard}
-use Rattle.segment_model.specs.Seats.{rows_of}
-use Rattle.segment_plan.specs.declared.plan.Scenario.{Scenario}
-use Rattle.segment_plan.specs.declared.slave.SlaveSpec.{SlaveSpec}
-use Rattle.segment_plan.specs.of_exchange_model.Exchange.{Speech}
-use Rattle.served_rings.specs.ToldEras.{next_cleared}
-use Rattle.life_runs.specs.Served.{Serves}
+use Rattle.gateway_run.specs.of_run_record.Led.{exchanged}
+use Rattle.gateway_run.specs.of_run_notes.Reports.{noted_in}
+use Rattle.seen_slaves.specs.of_run_frames.ScriptAnswers.{Noted, next_opened, opened_anew}
+use Rattle.run_promises.specs.of_segment_model.Record.{Frame, heard}
+use Rattle.run_promises.specs.of_segment_model.Seats.{rows_of}
+use Rattle.run_promises.specs.of_segment_plan.declared.plan.Scenario.{Scenario}
+use Rattle.run_promises.specs.of_segment_plan.declared.slave.SlaveSpec.{SlaveSpec}
+use Rattle.run_promises.specs.of_exchange_model.Exchange.{Speech}
+use Rattle.seen_slaves.specs.of_served_rings.ToldEras.{next_cleared}
+use Rattle.run_promises.specs.of_life_runs.Served.{Serves}
 
 module _ (x : Speech Body Asked Reply) (spot : Spot) (fs : List (Frame Body)) where
   -- OF AN EPOCH from the frame that opened it to another, with the frame that opened its slave anew behind it: each service of the script that came into hand of it

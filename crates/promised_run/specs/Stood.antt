@@ -1,12 +1,12 @@
 -- WHAT THE SLAVES OF THE RING THAT REPLAYS FRAMES SERVED, and what stood as each epoch that is over ended.
 use Rattle.std.specs.Prelude.{ℕ, List, take}
-use Rattle.run_book.specs.declared.book.SentFrame.{SentFrame}
-use Rattle.run_record.specs.Replay.{first_ring, ring_after}
-use Rattle.segment_plan.specs.declared.plan.Scenario.{Scenario}
-use Rattle.served_rings.specs.Stood.{ServeStood}
-use Rattle.life_runs.specs.Served.{Serves}
-use Rattle.slave_server.specs.Serving.{Serving}
-use Rattle.slave_node.specs.Node.{Node}
+use Rattle.gateway_run.specs.of_run_book.declared.book.SentFrame.{SentFrame}
+use Rattle.gateway_run.specs.of_run_record.Replay.{first_ring, ring_after}
+use Rattle.run_promises.specs.of_segment_plan.declared.plan.Scenario.{Scenario}
+use Rattle.seen_slaves.specs.of_served_rings.Stood.{ServeStood}
+use Rattle.run_promises.specs.of_life_runs.Served.{Serves}
+use Rattle.run_promises.specs.of_slave_server.Serving.{Serving}
+use Rattle.run_promises.specs.of_slave_node.Node.{Node}
 
 -- the nodes of that ring behind each number of these frames
 abbrev pub nodes_through : Scenario → List SentFrame → ℕ → List (Node Serving)

@@ -1,17 +1,17 @@
 -- WHAT A SERVING PROMISES OF ITS SLAVES, at each moment of it.
 use Rattle.std.specs.Prelude.{◌≡◌, ℕ, Some, List, [], ◌∷◌, ◌++◌, length, map, All}
-use Rattle.frame_view.specs.Shares.{AllBoth}
-use Rattle.life_runs.specs.First.{lens_of}
-use Rattle.life_runs.specs.Led.{gives_up_at}
-use Rattle.run_book.specs.declared.book.Book.{Book}
-use Rattle.run_book.specs.declared.book.SentFrame.{SentFrame}
-use Rattle.run_record.specs.Led.{exchanged}
-use Rattle.run_record.specs.Served.{ServeTo}
-use Rattle.segment_plan.specs.declared.plan.Scenario.{Scenario}
-use Rattle.life_runs.specs.Came.{HasServed}
-use Rattle.segment_model.specs.Ends.{Passing}
-use Rattle.life_runs.specs.Served.{Serves, ServedTurn, IsServedFrame, TellsSo, served_behind}
-use Rattle.life_runs.specs.Told.{Passed, TellsOwn}
+use Rattle.seen_slaves.specs.of_frame_view.Shares.{AllBoth}
+use Rattle.run_promises.specs.of_life_runs.First.{lens_of}
+use Rattle.run_promises.specs.of_life_runs.Led.{gives_up_at}
+use Rattle.gateway_run.specs.of_run_book.declared.book.Book.{Book}
+use Rattle.gateway_run.specs.of_run_book.declared.book.SentFrame.{SentFrame}
+use Rattle.gateway_run.specs.of_run_record.Led.{exchanged}
+use Rattle.gateway_run.specs.of_run_record.Served.{ServeTo}
+use Rattle.run_promises.specs.of_segment_plan.declared.plan.Scenario.{Scenario}
+use Rattle.run_promises.specs.of_life_runs.Came.{HasServed}
+use Rattle.run_promises.specs.of_segment_model.Ends.{Passing}
+use Rattle.run_promises.specs.of_life_runs.Served.{Serves, ServedTurn, IsServedFrame, TellsSo, served_behind}
+use Rattle.run_promises.specs.of_life_runs.Told.{Passed, TellsOwn}
 use Rattle.promised_run.specs.Stood.{StoodBehind}
 
 -- BEHIND THESE FRAMES, of each slave as its master leads it: the slave of the ring that replays them has carried out, epoch by epoch, just the first of the rows

@@ -1,20 +1,20 @@
 -- A SERVING OF ONE TOUR, as the count of its frames has it.
 use Rattle.std.specs.Prelude.{◌≡◌, List, length, map}
-use Rattle.life_runs.specs.First.{lens_of, first_leads}
-use Rattle.life_runs.specs.Led.{Exchanged}
-use Rattle.link_mails.specs.Body.{Body}
-use Rattle.master_duty.specs.Reply.{Reply}
-use Rattle.master_hand.specs.Spoken.{Asked}
-use Rattle.run_book.specs.of_master_node.Serving.{run_lead}
-use Rattle.run_book.specs.of_master_node.of_master_tour.Toured.{Tour}
-use Rattle.run_frames.specs.Clocks.{Clocked}
-use Rattle.run_frames.specs.Led.{AreLed}
-use Rattle.run_frames.specs.Runs.{Progress}
-use Rattle.segment_plan.specs.Bound.{slowest}
-use Rattle.segment_plan.specs.declared.plan.Scenario.{Scenario}
-use Rattle.run_record.specs.of_served_places.Answered.{ServedAsks}
-use Rattle.run_record.specs.of_served_places.Toured.{IsServedToured}
-use Rattle.life_runs.specs.Served.{Serves, all_serve}
+use Rattle.run_promises.specs.of_life_runs.First.{lens_of, first_leads}
+use Rattle.run_promises.specs.of_life_runs.Led.{Exchanged}
+use Rattle.run_promises.specs.of_link_mails.Body.{Body}
+use Rattle.seen_slaves.specs.of_master_duty.Reply.{Reply}
+use Rattle.seen_slaves.specs.of_master_hand.Spoken.{Asked}
+use Rattle.run_promises.specs.of_master_node.Serving.{run_lead}
+use Rattle.run_promises.specs.of_master_tour.Toured.{Tour}
+use Rattle.seen_slaves.specs.of_run_frames.Clocks.{Clocked}
+use Rattle.seen_slaves.specs.of_run_frames.Led.{AreLed}
+use Rattle.seen_slaves.specs.of_run_frames.Runs.{Progress}
+use Rattle.run_promises.specs.of_segment_plan.Bound.{slowest}
+use Rattle.run_promises.specs.of_segment_plan.declared.plan.Scenario.{Scenario}
+use Rattle.seen_slaves.specs.of_served_places.Answered.{ServedAsks}
+use Rattle.seen_slaves.specs.of_served_places.Toured.{IsServedToured}
+use Rattle.run_promises.specs.of_life_runs.Served.{Serves, all_serve}
 
 -- how far the serving has come, and its slaves with the clocks of their processors: its frames are visits of one tour, which stands where the master's does,
 -- and ask by the inward half first

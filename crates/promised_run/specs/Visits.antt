@@ -1,26 +1,26 @@
 -- THE VISITS OF A BOOK: which slaves each of its frames carries, and in which order.
 use Rattle.std.specs.Prelude.{◌-◌, ℕ, nat_le, if◌then◌else◌, List, [], ◌∷◌, length, map, drop, ⊤}
 use Rattle.gateway_run.specs.Served.{HasAccount}
-use Rattle.life_runs.specs.of_frame_view.Seen.{seen}
-use Rattle.run_frames.specs.of_life_model.Tours.{Member, round}
-use Rattle.life_runs.specs.First.{lens_of, first_leads}
-use Rattle.life_runs.specs.Led.{Exchanged, Leads}
-use Rattle.run_record.specs.of_packets_heard.Served.{IsTourServed}
-use Rattle.run_book.specs.declared.book.Book.{Book}
-use Rattle.run_book.specs.declared.book.Ending.{Ending}
-use Rattle.run_book.specs.of_master_node.Serving.{run_lead}
-use Rattle.run_book.specs.of_master_node.Shows.{is_live_lead}
-use Rattle.run_book.specs.of_master_node.Wants.{gave_of}
-use Rattle.run_book.specs.of_master_tour.Sizes.{frame_size}
-use Rattle.run_book.specs.of_master_tour.Toured.{Tour}
-use Rattle.run_frames.specs.of_segment_model.Visits
-use Rattle.run_frames.specs.of_segment_model.Visits.{Stop, carried}
-use Rattle.segment_plan.specs.declared.plan.Scenario.{Scenario}
-use Rattle.segment_plan.specs.declared.slave.SlaveSpec.{SlaveSpec}
-use Rattle.run_record.specs.ServedLed.{ServedTouredTo}
-use Rattle.run_record.specs.of_packets_heard.Toured.{IsToured, stations_of}
-use Rattle.run_record.specs.of_packets_heard.Visits.{last_station}
-use Rattle.life_runs.specs.Served.{Serves}
+use Rattle.seen_slaves.specs.of_frame_view.Seen.{seen}
+use Rattle.run_promises.specs.of_life_model.Tours.{Member, round}
+use Rattle.run_promises.specs.of_life_runs.First.{lens_of, first_leads}
+use Rattle.run_promises.specs.of_life_runs.Led.{Exchanged, Leads}
+use Rattle.run_promises.specs.of_packets_heard.Served.{IsTourServed}
+use Rattle.gateway_run.specs.of_run_book.declared.book.Book.{Book}
+use Rattle.gateway_run.specs.of_run_book.declared.book.Ending.{Ending}
+use Rattle.run_promises.specs.of_master_node.Serving.{run_lead}
+use Rattle.run_promises.specs.of_master_node.Shows.{is_live_lead}
+use Rattle.run_promises.specs.of_master_node.Wants.{gave_of}
+use Rattle.run_promises.specs.of_master_tour.Sizes.{frame_size}
+use Rattle.run_promises.specs.of_master_tour.Toured.{Tour}
+use Rattle.run_promises.specs.of_segment_model.Visits
+use Rattle.run_promises.specs.of_segment_model.Visits.{Stop, carried}
+use Rattle.run_promises.specs.of_segment_plan.declared.plan.Scenario.{Scenario}
+use Rattle.run_promises.specs.of_segment_plan.declared.slave.SlaveSpec.{SlaveSpec}
+use Rattle.gateway_run.specs.of_run_record.ServedLed.{ServedTouredTo}
+use Rattle.run_promises.specs.of_packets_heard.Toured.{IsToured, stations_of}
+use Rattle.run_promises.specs.of_packets_heard.Visits.{last_station}
+use Rattle.run_promises.specs.of_life_runs.Served.{Serves}
 
 -- a slave of a plan as a stop of its tour
 abbrev pub stop_of : SlaveSpec → Stop

@@ -2,14 +2,16 @@
 //! of. Definitions and laws, no running code: the function here does nothing, and its contract states the law.
 
 ghost use Rattle.promised_run.specs.Tours.{IsCounted};
-ghost use Rattle.frame_view.specs.View.{Lens};
-ghost use Rattle.life_runs.specs.First.{lens_of, first_leads};
-ghost use Rattle.life_runs.specs.Led.{Exchanged, Leads};
-ghost use Rattle.run_book.specs.of_master_node.of_master_tour.Toured.{Tour};
-ghost use Rattle.run_record.specs.of_packets_heard.Toured.{IsToured};
-ghost use Rattle.segment_plan.specs.Sound.{IsPlan};
-ghost use Rattle.segment_plan.specs.declared.plan.Scenario.{Scenario};
+ghost use Rattle.seen_slaves.specs.of_frame_view.View.{Lens};
+ghost use Rattle.run_promises.specs.of_life_runs.First.{lens_of, first_leads};
+ghost use Rattle.run_promises.specs.of_life_runs.Led.{Exchanged, Leads};
+ghost use Rattle.run_promises.specs.of_master_tour.Toured.{Tour};
+ghost use Rattle.run_promises.specs.of_packets_heard.Toured.{IsToured};
+ghost use Rattle.run_promises.specs.of_segment_plan.Sound.{IsPlan};
+ghost use Rattle.run_promises.specs.of_segment_plan.declared.plan.Scenario.{Scenario};
 ghost use Rattle.std.specs.Prelude.{ℕ, List};
+
+use seen_slaves::frame_view;
 
 /// THE FRAMES OF A MASTER'S TOUR ARE THE VISITS THAT THE COUNT OF FRAMES SPEAKS OF, frame by frame, with the slaves that come again, as many that have
 /// ended their first bring-up, and as many frames lost in a row; and each asks by the inward half first.

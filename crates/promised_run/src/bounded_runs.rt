@@ -1,22 +1,24 @@
 //! The frames of a run are fewer than the bound. Laws, no running code: the functions here do nothing, and their contracts state the laws.
 
 ghost use Rattle.std.specs.Prelude.{◌≢◌, ◌<◌, ℕ, List, length, map};
-ghost use Rattle.link_mails.specs.Body.{Body};
-ghost use Rattle.master_duty.specs.Reply.{Reply};
-ghost use Rattle.master_hand.specs.Spoken.{Asked};
-ghost use Rattle.plan_ring.specs.Lives.{IsKnown};
-ghost use Rattle.plan_ring.specs.PlanRooms.{HasRoom};
-ghost use Rattle.run_book.specs.declared.book.Book.{Book};
-ghost use Rattle.run_book.specs.declared.book.Ending.{Ending};
-ghost use Rattle.run_book.specs.declared.book.Ending.TheVariants as endings;
-ghost use Rattle.run_frames.specs.Clocks.{Clocked};
-ghost use Rattle.run_frames.specs.Runs.{Progress};
-ghost use Rattle.run_record.specs.Led.{LedBook, exchanged};
-ghost use Rattle.run_record.specs.Ran.{HasFrames};
-ghost use Rattle.run_work.specs.Bounds.{IsPlanRun};
-ghost use Rattle.segment_plan.specs.Bound.{bound_of};
-ghost use Rattle.segment_plan.specs.Sound.{IsPlan};
-ghost use Rattle.segment_plan.specs.declared.plan.Scenario.{Scenario};
+ghost use Rattle.run_promises.specs.of_link_mails.Body.{Body};
+ghost use Rattle.seen_slaves.specs.of_master_duty.Reply.{Reply};
+ghost use Rattle.seen_slaves.specs.of_master_hand.Spoken.{Asked};
+ghost use Rattle.seen_slaves.specs.of_plan_ring.Lives.{IsKnown};
+ghost use Rattle.seen_slaves.specs.of_plan_ring.PlanRooms.{HasRoom};
+ghost use Rattle.gateway_run.specs.of_run_book.declared.book.Book.{Book};
+ghost use Rattle.gateway_run.specs.of_run_book.declared.book.Ending.{Ending};
+ghost use Rattle.gateway_run.specs.of_run_book.declared.book.Ending.TheVariants as endings;
+ghost use Rattle.seen_slaves.specs.of_run_frames.Clocks.{Clocked};
+ghost use Rattle.seen_slaves.specs.of_run_frames.Runs.{Progress};
+ghost use Rattle.gateway_run.specs.of_run_record.Led.{LedBook, exchanged};
+ghost use Rattle.gateway_run.specs.of_run_record.Ran.{HasFrames};
+ghost use Rattle.run_promises.specs.of_run_work.Bounds.{IsPlanRun};
+ghost use Rattle.run_promises.specs.of_segment_plan.Bound.{bound_of};
+ghost use Rattle.run_promises.specs.of_segment_plan.Sound.{IsPlan};
+ghost use Rattle.run_promises.specs.of_segment_plan.declared.plan.Scenario.{Scenario};
+
+use seen_slaves::run_work;
 
 /// THE FRAMES OF A BOOK ARE FEWER THAN THE BOUND, whatever frames are lost, unless memory ran out: its packets are those of one switch by the events of the book,
 /// where its frames are a run of the plan.

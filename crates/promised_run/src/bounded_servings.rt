@@ -2,32 +2,34 @@
 //! states the law.
 
 ghost use Rattle.arrayvec.specs.ArrayVec.{ArrayVec};
-ghost use Rattle.eoe_switch.specs.declared.switching.SwitchEvent.{SwitchEvent};
-ghost use Rattle.idle_slaves.specs.Eager.{Remembered};
-ghost use Rattle.life_runs.specs.First.{first_leads, lens_of};
-ghost use Rattle.life_runs.specs.Led.{Exchanged};
-ghost use Rattle.link_mails.specs.Body.{Body};
-ghost use Rattle.master_duty.specs.Reply.{Reply};
-ghost use Rattle.master_hand.specs.Spoken.{Asked};
-ghost use Rattle.run_book.specs.of_master_node.Happened.{arrivals_at};
-ghost use Rattle.run_book.specs.of_master_node.Ports.{IsAtPort, ports_behind, ports_of};
-ghost use Rattle.run_record.specs.of_packets_heard.Servings.{AreServedBegun, ServedListed};
-ghost use Rattle.plan_ring.specs.Lives.{IsKnown};
-ghost use Rattle.plan_ring.specs.Round.{AllRound, ring_of};
-ghost use Rattle.run_frames.specs.Clocks.{Clocked};
-ghost use Rattle.run_frames.specs.Fates.{lost_of};
-ghost use Rattle.run_frames.specs.Runs.{Progress};
-ghost use Rattle.run_work.specs.ServedGained.{asked_in};
-ghost use Rattle.segment_plan.specs.Bound.{bound_of, slowest};
-ghost use Rattle.segment_plan.specs.Sound.{IsPlan};
-ghost use Rattle.segment_plan.specs.declared.plan.Scenario.{Scenario};
-ghost use Rattle.served_rings.specs.Servings.{IsPlanServing};
+ghost use Rattle.run_promises.specs.of_eoe_switch.declared.switching.SwitchEvent.{SwitchEvent};
+ghost use Rattle.seen_slaves.specs.of_idle_slaves.Eager.{Remembered};
+ghost use Rattle.run_promises.specs.of_life_runs.First.{first_leads, lens_of};
+ghost use Rattle.run_promises.specs.of_life_runs.Led.{Exchanged};
+ghost use Rattle.run_promises.specs.of_link_mails.Body.{Body};
+ghost use Rattle.seen_slaves.specs.of_master_duty.Reply.{Reply};
+ghost use Rattle.seen_slaves.specs.of_master_hand.Spoken.{Asked};
+ghost use Rattle.run_promises.specs.of_master_node.Happened.{arrivals_at};
+ghost use Rattle.run_promises.specs.of_master_node.Ports.{IsAtPort, ports_behind, ports_of};
+ghost use Rattle.run_promises.specs.of_packets_heard.Servings.{AreServedBegun, ServedListed};
+ghost use Rattle.seen_slaves.specs.of_plan_ring.Lives.{IsKnown};
+ghost use Rattle.seen_slaves.specs.of_plan_ring.Round.{AllRound, ring_of};
+ghost use Rattle.seen_slaves.specs.of_run_frames.Clocks.{Clocked};
+ghost use Rattle.seen_slaves.specs.of_run_frames.Fates.{lost_of};
+ghost use Rattle.seen_slaves.specs.of_run_frames.Runs.{Progress};
+ghost use Rattle.run_promises.specs.of_run_work.ServedGained.{asked_in};
+ghost use Rattle.run_promises.specs.of_segment_plan.Bound.{bound_of, slowest};
+ghost use Rattle.run_promises.specs.of_segment_plan.Sound.{IsPlan};
+ghost use Rattle.run_promises.specs.of_segment_plan.declared.plan.Scenario.{Scenario};
+ghost use Rattle.seen_slaves.specs.of_served_rings.Servings.{IsPlanServing};
 ghost use Rattle.run_promises.specs.Quiet.{AsksQuiet};
-ghost use Rattle.run_record.specs.of_served_places.Answered.{ServedAsks};
-ghost use Rattle.run_record.specs.of_served_places.Toured.{IsServedToured};
-ghost use Rattle.life_runs.specs.Served.{IsServedLed, Serves, all_serve};
+ghost use Rattle.seen_slaves.specs.of_served_places.Answered.{ServedAsks};
+ghost use Rattle.seen_slaves.specs.of_served_places.Toured.{IsServedToured};
+ghost use Rattle.run_promises.specs.of_life_runs.Served.{IsServedLed, Serves, all_serve};
 ghost use Rattle.seen_slaves.specs.Eager.{ServedEagerIn};
 ghost use Rattle.std.specs.Prelude.{◌≡◌, ◌<◌, ◌≤◌, ◌+◌, ◌*◌, ◌++◌, ℕ, All, List, Option, length};
+
+use seen_slaves::served_rings;
 
 /// THE FRAMES OF A SERVING COUNT AS THOSE OF ITS PLAN, where they are the visits of one tour, each asks by the inward half first, its master makes no visit in vain
 /// where more could go on, and they went round the plan's ring: its slaves answer, and some waits yet while nothing is gained. So with quiet mails asked between

@@ -4,17 +4,20 @@
 ghost use Rattle.std.specs.Prelude.{◌≡◌, ◌++◌, ℕ, List};
 ghost use Rattle.arrayvec.specs.ArrayVec.{ArrayVec};
 ghost use Rattle.promised_run.specs.Runs.{HasRun};
-ghost use Rattle.life_runs.specs.First.{lens_of, first_leads};
-ghost use Rattle.life_runs.specs.Led.{Exchanged, Leads};
-ghost use Rattle.run_book.specs.of_master_node.Happened.{arrivals_at};
-ghost use Rattle.run_book.specs.of_master_node.of_master_tour.Toured.{Tour};
-ghost use Rattle.plan_ring.specs.Lives.{IsKnown};
-ghost use Rattle.plan_ring.specs.Round.{ring_of, AllRound};
-ghost use Rattle.plan_ring.specs.PlanRooms.{HasRoom};
-ghost use Rattle.run_record.specs.of_packets_heard.Recalled.{State, RecalledIn};
-ghost use Rattle.segment_plan.specs.Sound.{IsPlan};
-ghost use Rattle.segment_plan.specs.declared.plan.Scenario.{Scenario};
-ghost use Rattle.run_record.specs.of_packets_heard.Toured.{IsToured};
+ghost use Rattle.run_promises.specs.of_life_runs.First.{lens_of, first_leads};
+ghost use Rattle.run_promises.specs.of_life_runs.Led.{Exchanged, Leads};
+ghost use Rattle.run_promises.specs.of_master_node.Happened.{arrivals_at};
+ghost use Rattle.run_promises.specs.of_master_tour.Toured.{Tour};
+ghost use Rattle.seen_slaves.specs.of_plan_ring.Lives.{IsKnown};
+ghost use Rattle.seen_slaves.specs.of_plan_ring.Round.{ring_of, AllRound};
+ghost use Rattle.seen_slaves.specs.of_plan_ring.PlanRooms.{HasRoom};
+ghost use Rattle.run_promises.specs.of_packets_heard.Recalled.{State, RecalledIn};
+ghost use Rattle.run_promises.specs.of_segment_plan.Sound.{IsPlan};
+ghost use Rattle.run_promises.specs.of_segment_plan.declared.plan.Scenario.{Scenario};
+ghost use Rattle.run_promises.specs.of_packets_heard.Toured.{IsToured};
+
+use run_promises::plan_ring;
+use seen_slaves::{frame_view, idle_slaves};
 
 /// THE FRAMES OF A TOUR ARE A RUN OF THE PLAN whose count has a bound, where frame by frame its master makes no visit in vain by what it remembers: of those that
 /// gained nothing, with nothing to repair and no packet of the host, each leaves some slave waiting. And no more let packets of the host in than it has.

@@ -3,20 +3,23 @@
 
 ghost use Rattle.arrayvec.specs.ArrayVec.{ArrayVec};
 ghost use Rattle.promised_run.specs.Eager.{IsEagerServing, ServedMailsAreDue};
-ghost use Rattle.life_runs.specs.First.{first_leads, lens_of};
-ghost use Rattle.life_runs.specs.Led.{Exchanged};
-ghost use Rattle.run_book.specs.of_master_node.Happened.{arrivals_at};
-ghost use Rattle.run_book.specs.of_master_node.of_master_tour.Toured.{Tour};
-ghost use Rattle.run_record.specs.of_packets_heard.Recalled.{State};
-ghost use Rattle.run_record.specs.of_packets_heard.Served.{IsTourServed};
-ghost use Rattle.run_record.specs.of_packets_heard.ServedRecalled.{ServedRecalledIn};
-ghost use Rattle.plan_ring.specs.Lives.{IsKnown};
-ghost use Rattle.plan_ring.specs.PlanRooms.{HasRoom};
-ghost use Rattle.plan_ring.specs.Round.{AllRound, ring_of};
-ghost use Rattle.segment_plan.specs.Sound.{IsPlan};
-ghost use Rattle.segment_plan.specs.declared.plan.Scenario.{Scenario};
-ghost use Rattle.life_runs.specs.Served.{Serves, all_serve};
+ghost use Rattle.run_promises.specs.of_life_runs.First.{first_leads, lens_of};
+ghost use Rattle.run_promises.specs.of_life_runs.Led.{Exchanged};
+ghost use Rattle.run_promises.specs.of_master_node.Happened.{arrivals_at};
+ghost use Rattle.run_promises.specs.of_master_tour.Toured.{Tour};
+ghost use Rattle.run_promises.specs.of_packets_heard.Recalled.{State};
+ghost use Rattle.run_promises.specs.of_packets_heard.Served.{IsTourServed};
+ghost use Rattle.run_promises.specs.of_packets_heard.ServedRecalled.{ServedRecalledIn};
+ghost use Rattle.seen_slaves.specs.of_plan_ring.Lives.{IsKnown};
+ghost use Rattle.seen_slaves.specs.of_plan_ring.PlanRooms.{HasRoom};
+ghost use Rattle.seen_slaves.specs.of_plan_ring.Round.{AllRound, ring_of};
+ghost use Rattle.run_promises.specs.of_segment_plan.Sound.{IsPlan};
+ghost use Rattle.run_promises.specs.of_segment_plan.declared.plan.Scenario.{Scenario};
+ghost use Rattle.run_promises.specs.of_life_runs.Served.{Serves, all_serve};
 ghost use Rattle.std.specs.Prelude.{◌≡◌, ◌++◌, ℕ, List};
+
+use run_promises::plan_ring;
+use seen_slaves::{frame_view, served_rings};
 
 /// THE FRAMES OF A MASTER'S SERVING COUNT, where frame by frame the master makes no visit in vain by what it remembers: of those that gained nothing, with nothing to
 /// repair, each was made with something left to do, but for as many as the host has packets, and six for each mail that was asked. And no more let packets of the host in

@@ -1,19 +1,19 @@
 //! The frames of a serving are fewer than the bound. A law, no running code: the function here does nothing, and its contract states the law.
 
 ghost use Rattle.gateway_run.specs.Served.{HasAccount};
-ghost use Rattle.run_book.specs.of_master_node.Happened.{events_of};
-ghost use Rattle.run_record.specs.of_packets_heard.Recalled.{State};
-ghost use Rattle.run_record.specs.of_packets_heard.ServedRecalled.{ServedRecalledIn};
-ghost use Rattle.plan_ring.specs.Lives.{IsKnown};
-ghost use Rattle.plan_ring.specs.PlanRooms.{HasRoom};
-ghost use Rattle.run_book.specs.declared.book.Book.{Book};
-ghost use Rattle.run_book.specs.declared.book.Ending.{Ending};
-ghost use Rattle.run_book.specs.declared.book.GramIn.{GramIn};
-ghost use Rattle.run_record.specs.Ran.{HasSent};
-ghost use Rattle.run_work.specs.Fair.{AreFairGrams};
-ghost use Rattle.segment_plan.specs.Bound.{bound_of};
-ghost use Rattle.segment_plan.specs.Sound.{IsPlan};
-ghost use Rattle.segment_plan.specs.declared.plan.Scenario.{Scenario};
+ghost use Rattle.run_promises.specs.of_master_node.Happened.{events_of};
+ghost use Rattle.run_promises.specs.of_packets_heard.Recalled.{State};
+ghost use Rattle.run_promises.specs.of_packets_heard.ServedRecalled.{ServedRecalledIn};
+ghost use Rattle.seen_slaves.specs.of_plan_ring.Lives.{IsKnown};
+ghost use Rattle.seen_slaves.specs.of_plan_ring.PlanRooms.{HasRoom};
+ghost use Rattle.gateway_run.specs.of_run_book.declared.book.Book.{Book};
+ghost use Rattle.gateway_run.specs.of_run_book.declared.book.Ending.{Ending};
+ghost use Rattle.gateway_run.specs.of_run_book.declared.book.GramIn.{GramIn};
+ghost use Rattle.gateway_run.specs.of_run_record.Ran.{HasSent};
+ghost use Rattle.run_promises.specs.of_run_work.Fair.{AreFairGrams};
+ghost use Rattle.run_promises.specs.of_segment_plan.Bound.{bound_of};
+ghost use Rattle.run_promises.specs.of_segment_plan.Sound.{IsPlan};
+ghost use Rattle.run_promises.specs.of_segment_plan.declared.plan.Scenario.{Scenario};
 ghost use Rattle.std.specs.Prelude.{◌≡◌, ◌<◌, ◌≤◌, ℕ, length, map};
 
 /// THE FRAMES OF A SERVING OF A PLAN ARE FEWER THAN THE BOUND for so many datagrams, whatever frames are lost, where no datagram's mail begins a download to 2F01:01

@@ -3,15 +3,15 @@
 
 ghost use Rattle.std.specs.Prelude.{◌≤◌, ℕ, All, length, map};
 ghost use Rattle.gateway_run.specs.Served.{HasAccount};
-ghost use Rattle.run_book.specs.of_master_node.Toured.{tour_of};
-ghost use Rattle.run_book.specs.declared.book.Book.{Book};
-ghost use Rattle.run_book.specs.declared.book.Ending.{Ending};
-ghost use Rattle.run_book.specs.declared.book.GramIn.{GramIn};
-ghost use Rattle.run_record.specs.Led.{exchanged};
-ghost use Rattle.run_work.specs.Fair.{AreFairGrams, AsksFair};
-ghost use Rattle.run_work.specs.ServedGained.{asked_in};
-ghost use Rattle.segment_plan.specs.Sound.{IsPlan};
-ghost use Rattle.segment_plan.specs.declared.plan.Scenario.{Scenario};
+ghost use Rattle.run_promises.specs.of_master_node.Toured.{tour_of};
+ghost use Rattle.gateway_run.specs.of_run_book.declared.book.Book.{Book};
+ghost use Rattle.gateway_run.specs.of_run_book.declared.book.Ending.{Ending};
+ghost use Rattle.gateway_run.specs.of_run_book.declared.book.GramIn.{GramIn};
+ghost use Rattle.gateway_run.specs.of_run_record.Led.{exchanged};
+ghost use Rattle.run_promises.specs.of_run_work.Fair.{AreFairGrams, AsksFair};
+ghost use Rattle.run_promises.specs.of_run_work.ServedGained.{asked_in};
+ghost use Rattle.run_promises.specs.of_segment_plan.Sound.{IsPlan};
+ghost use Rattle.run_promises.specs.of_segment_plan.declared.plan.Scenario.{Scenario};
 ghost use Rattle.run_promises.specs.Quiet.{AsksQuiet};
 ghost use Rattle.promised_run.specs.TouredTours.{IsCounted};
 

@@ -3,7 +3,7 @@ use Rattle.std.proofs.Common.{◌≡◌, inl, inr, ℕ, zero, suc, ◌+◌, ◌-
 use Rattle.std.specs.Prelude.{if◌then◌else◌}
 use Rattle.std.proofs.lemmas.Bool.{cases_lt, leb-false}
 use Rattle.byteorder.specs.Endian.{little_bytes}
-use Rattle.eoe.specs.of_ec_fields.Fields.{bits_of}
+use Rattle.coe_codec.specs.of_ec_fields.Fields.{bits_of}
 use Rattle.eoe.specs.Message.{IsWhole, IsSpellable, first_of, second_of, octets_of, message_in, eoe_read, eoe_text}
 use Rattle.eoe.specs.Cutting.{blocks_of, fragment_at, fragments_from}
 use Rattle.exchange_model.specs.Areas.{Areas, AreMailboxes}

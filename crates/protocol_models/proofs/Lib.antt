@@ -1,3 +1,5 @@
+pub use Rattle.coe_codec.proofs as of_coe_codec
+pub use Rattle.eoe.proofs as of_eoe
 pub use Rattle.exchange_model.proofs as of_exchange_model
 pub mod Basics
 pub mod CoeCarries

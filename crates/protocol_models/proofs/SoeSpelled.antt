@@ -4,7 +4,7 @@ use Rattle.std.specs.Prelude.{if◌then◌else◌, is_none}
 use Rattle.std.proofs.lemmas.Bool.{cases_lt, lt-leb}
 use Rattle.std.proofs.Math.Nat.{div-le_of_le-mul}
 use Rattle.byteorder.specs.Endian.{little_bytes}
-use Rattle.soe_codec.specs.of_ec_fields.Fields.{bits_of}
+use Rattle.coe_codec.specs.of_ec_fields.Fields.{bits_of}
 use Rattle.soe_codec.specs.Message.{is_opcode, has_fragments, word_of, message_in, soe_read, soe_text}
 use Rattle.exchange_model.specs.Areas.{Areas, AreMailboxes}
 use Rattle.exchange_model.specs.Lifted.{EachOf, ReadsBack, Spells}

@@ -1,7 +1,7 @@
 -- The mails of EoE as octets: what a mailbox mail reads as, and what a mail is written as.
 use Rattle.std.specs.Prelude.{ℕ, if◌then◌else◌, List, [], ◌++◌, Result, Ok, Err}
 use Rattle.byteorder.specs.Endian.{little_bytes}
-use Rattle.eoe.specs.of_ec_fields.Fields.{number_at, bits_of}
+use Rattle.coe_codec.specs.of_ec_fields.Fields.{number_at, bits_of}
 pub use Rattle.mailbox_mail.specs.Bodies.{is_error, mail_with}
 use Rattle.mailbox_mail.specs.Mail.{error_of}
 use Rattle.mailbox_mail.specs.declared.mail.Mail.{Mail}

@@ -1,5 +1,10 @@
-pub use Rattle.exchange_model.specs as of_exchange_model
+pub use Rattle.coe_codec.specs as of_coe_codec
+pub use Rattle.coe_codec.specs.of_ec_fields as of_ec_fields
 pub use Rattle.eoe.specs as of_eoe
+pub use Rattle.exchange_model.specs as of_exchange_model
+pub use Rattle.foe_codec.specs as of_foe_codec
+pub use Rattle.mailbox_mail.specs as of_mailbox_mail
+pub use Rattle.soe_codec.specs as of_soe_codec
 pub mod CoeMails
 pub mod Tables
 pub mod CoeServer

@@ -1,6 +1,6 @@
 -- SoE services: what they mean on whole elements, the mails that a client sends for them, and the reply that the mails it hears complete.
 use Rattle.std.specs.Prelude.{ℕ, ◌==◌, ◌&&◌, ◌||◌, not, nat_le, nat_lt, Bool, false, List, [], ◌∷◌, ◌++◌, length, if◌then◌else◌, Option, None, Result, Ok, Err}
-use Rattle.soe_codec.specs.of_ec_fields.Fields.{number_at}
+use Rattle.coe_codec.specs.of_ec_fields.Fields.{number_at}
 use Rattle.mailbox_mail.specs.declared.outcome.ReplyKind.{ReplyKind}
 pub use Rattle.mailbox_mail.specs.Replies.{at_end}
 use Rattle.protocol_models.specs.Elements.{Target, Elements}

@@ -1,6 +1,6 @@
 -- The mails of SoE as octets: what a mailbox mail reads as, and what a mail is written as.
 use Rattle.std.specs.Prelude.{ℕ, ◌==◌, if◌then◌else◌, Bool, List, [], Result, Ok, Err}
-use Rattle.soe_codec.specs.of_ec_fields.Fields.{number_at, bits_of}
+use Rattle.coe_codec.specs.of_ec_fields.Fields.{number_at, bits_of}
 pub use Rattle.mailbox_mail.specs.Bodies.{is_error, mail_with}
 use Rattle.mailbox_mail.specs.Mail.{error_of}
 use Rattle.mailbox_mail.specs.declared.mail.Mail.{Mail}

@@ -1,1 +1,2 @@
+pub use Rattle.mailbox_mail.specs as of_mailbox_mail
 pub mod Reply

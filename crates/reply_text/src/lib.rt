@@ -3,4 +3,6 @@
 
 mod reply;
 
+pub use mailbox_mail;
+pub use mailbox_mail::ec_fields;
 pub use reply::reply_text;

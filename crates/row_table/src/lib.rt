@@ -7,6 +7,7 @@ mod page;
 mod row;
 mod table;
 
+pub use ec_fields;
 pub use page::Page;
 pub use row::Row;
 pub use table::{Bench, tell};

@@ -4,12 +4,12 @@ use Rattle.std.specs.Prelude.{IfSome, slice_get, slice_set}
 use Rattle.master_node.specs.of_frame_view.View.{Lens}
 use Rattle.run_book.specs.Heard.{Accepted, AllNoted, accepted_with, brought_of, brought_by, emergencies_of, emergencies_with, heard_on, heard_to}
 use Rattle.master_node.specs.of_life_runs.Led.{Exchanged, Turn}
-use Rattle.slave_node.specs.of_link_mails.Body.{Body}
+use Rattle.slave_server.specs.of_link_mails.Body.{Body}
 use Rattle.master_node.specs.of_master_hand.Brings.{as_list, emergency_in, emergencies_in}
 use Rattle.master_node.specs.of_master_tour.Brings.{accepted_in}
 use Rattle.run_book.specs.declared.book.Emergency.{Emergency}
-use Rattle.master_node.specs.of_segment_model.Slaves.{Datagram}
-use Rattle.segment_ring.specs.declared.wire.Fate.TheVariants.{Lost}
+use Rattle.slave_server.specs.of_segment_model.Slaves.{Datagram}
+use Rattle.master_node.specs.of_segment_ring.declared.wire.Fate.TheVariants.{Lost}
 
 -- OF PARTS
 with_append : (frame : ℕ) (xs ys : List (List ℕ)) → emergencies_with frame (xs ++ ys) ≡ emergencies_with frame xs ++ emergencies_with frame ys

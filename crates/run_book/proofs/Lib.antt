@@ -1,1 +1,2 @@
+pub use Rattle.master_node.proofs as of_master_node
 pub mod Heards

@@ -5,12 +5,12 @@ ghost use Rattle.std.specs.Prelude.{◌≡◌, ◌<◌, ◌≤◌, ◌++◌, ℕ
 ghost use Rattle.master_node.specs.of_frame_view.View.{Lens};
 ghost use Rattle.run_book.specs.Heard.{Accepted, AllNoted, brought_of, brought_by, emergencies_of, emergencies_with, heard_in, heard_on, heard_none, heard_to};
 ghost use Rattle.master_node.specs.of_life_runs.Led.{Exchanged, Leads, Turn, IsLed, IsLedFrame};
-ghost use Rattle.slave_node.specs.of_link_mails.Body.{Body};
+ghost use Rattle.slave_server.specs.of_link_mails.Body.{Body};
 ghost use Rattle.master_node.specs.of_master_hand.Brings.{as_list, emergencies_in};
 ghost use Rattle.master_node.specs.of_master_tour.Brings.{accepted_in};
 ghost use Rattle.run_book.specs.declared.book.Emergency.{Emergency};
-ghost use Rattle.master_node.specs.of_segment_model.Slaves.{Datagram};
-ghost use Rattle.segment_ring.specs.declared.wire.Fate.TheVariants.{Lost};
+ghost use Rattle.slave_server.specs.of_segment_model.Slaves.{Datagram};
+ghost use Rattle.master_node.specs.of_segment_ring.declared.wire.Fate.TheVariants.{Lost};
 
 /// FRAME BY FRAME the emergencies that are noted of each slave are just those among the mails accepted of it, in order, each with the frame that brought
 /// it: a return adds the one that it brought, slave by slave, and a loss none. Over a run the mails accepted are those of its frames, one after the other.

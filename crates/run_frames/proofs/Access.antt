@@ -1,19 +1,19 @@
 -- The access in hand of a repair: what comes into hand leaves it, and a lost frame leaves it or breaks it.
 use Rattle.std.proofs.Common.{◌≡◌, ◌⊎◌, ℕ, ◌≤◌, ◌==◌, ◌&&◌, not, Bool, true, false, Option, Some, None, List, [], ◌∷◌, ◌++◌, refl, sym, ap, ◌∙◌, subst, arith, if◌then◌else◌, inl, inr, eq-eqb}
 use Rattle.std.specs.Prelude.{nat_lt, length}
-use Rattle.exchange_model.specs.Exchange.{Speech}
-use Rattle.exchange_model.specs.Rows.{Row, begun}
-use Rattle.link_model.specs.Master.{InState}
-use Rattle.link_model.specs.Frames.{halves_without}
-use Rattle.segment_model.specs.Record.{News}
-use Rattle.segment_model.specs.Slaves.{Datagram, grams}
-use Rattle.segment_model.specs.Seats.{Side, side_begins, side_holds, is_over}
-use Rattle.state_model.specs.Accounts.{Pick}
-use Rattle.life_model.specs.Own.{own}
-use Rattle.life_model.specs.Lives.{Stand, Life, Spot, life_next, life_lost, gives_up, reopening}
-use Rattle.life_model.specs.Tally.{broken}
-use Rattle.life_model.proofs.Halving.{without}
-use Rattle.life_model.specs.Repairs.{Way, way_of, stand_way, half_way, whole_way, StandsAt}
+use Rattle.life_runs.specs.of_exchange_model.Exchange.{Speech}
+use Rattle.life_runs.specs.of_exchange_model.Rows.{Row, begun}
+use Rattle.life_runs.specs.of_link_model.Master.{InState}
+use Rattle.life_runs.specs.of_link_model.Frames.{halves_without}
+use Rattle.life_runs.specs.of_segment_model.Record.{News}
+use Rattle.life_runs.specs.of_segment_model.Slaves.{Datagram, grams}
+use Rattle.life_runs.specs.of_segment_model.Seats.{Side, side_begins, side_holds, is_over}
+use Rattle.life_runs.specs.of_state_model.Accounts.{Pick}
+use Rattle.life_runs.specs.of_life_model.Own.{own}
+use Rattle.life_runs.specs.of_life_model.Lives.{Stand, Life, Spot, life_next, life_lost, gives_up, reopening}
+use Rattle.life_runs.specs.of_life_model.Tally.{broken}
+use Rattle.life_runs.proofs.of_life_model.Halving.{without}
+use Rattle.life_runs.specs.of_life_model.Repairs.{Way, way_of, stand_way, half_way, whole_way, StandsAt}
 use Rattle.run_frames.specs.Goes.{is_same}
 
 -- the same access is in hand

@@ -1,28 +1,28 @@
 -- A frame that came back brought each slave what its access asks for: by what was sent, what comes back of it, and what the slaves answer.
 use Rattle.std.proofs.Common.{◌≡◌, ℕ, zero, suc, ◌==◌, Bool, true, false, Option, Some, List, [], ◌∷◌, ◌++◌, length, refl, sym, ap, ◌∙◌, subst, cond, eq-eqb, inl, inr}
 use Rattle.std.specs.Prelude.{◌⊎◌, if◌then◌else◌}
-use Rattle.datagrams.specs.declared.command.Command.{Command}
-use Rattle.datagrams.specs.declared.command.Command.TheVariants.{Fprd, Fpwr}
-use Rattle.datagrams.specs.Datagram as Raw
-use Rattle.frame_view.specs.Seen.{datagrams_seen}
-use Rattle.frame_view.specs.View.{Lens, datagram_seen, address_of, station_of}
+use Rattle.life_runs.specs.of_datagrams.declared.command.Command.{Command}
+use Rattle.life_runs.specs.of_datagrams.declared.command.Command.TheVariants.{Fprd, Fpwr}
+use Rattle.life_runs.specs.of_datagrams.Datagram as Raw
+use Rattle.life_runs.specs.of_frame_view.Seen.{datagrams_seen}
+use Rattle.life_runs.specs.of_frame_view.View.{Lens, datagram_seen, address_of, station_of}
 use Rattle.life_runs.specs.of_frame_view.Frames.{FrameFor, HasOne, GramFor, IsOpenGram}
 use Rattle.life_runs.specs.of_frame_view.Shares.{Asked, came_at, came_of}
 use Rattle.life_runs.proofs.of_frame_view.Frames.{own_none, own_one}
-use Rattle.life_model.specs.Lives.{Stand}
-use Rattle.life_model.specs.Own.{own}
-use Rattle.life_model.specs.Tours.{item_at}
+use Rattle.life_runs.specs.of_life_model.Lives.{Stand}
+use Rattle.life_runs.specs.of_life_model.Own.{own}
+use Rattle.life_runs.specs.of_life_model.Tours.{item_at}
 use Rattle.life_runs.specs.Led.{Leads, Turn, AllTurn}
-use Rattle.link_mails.specs.Body.{Body}
-use Rattle.link_model.specs.Frames as Link
-use Rattle.link_model.specs.Frames.{Gram, IsSent, in_ask}
-use Rattle.link_model.specs.Mails.{LinkMail}
-use Rattle.link_model.specs.Master.{InHalf, InState}
+use Rattle.life_runs.specs.of_link_mails.Body.{Body}
+use Rattle.life_runs.specs.of_link_model.Frames as Link
+use Rattle.life_runs.specs.of_link_model.Frames.{Gram, IsSent, in_ask}
+use Rattle.life_runs.specs.of_link_model.Mails.{LinkMail}
+use Rattle.life_runs.specs.of_link_model.Master.{InHalf, InState}
 use Rattle.life_runs.specs.of_master_duty.Reply.{Reply}
 use Rattle.life_runs.specs.of_master_hand.Spoken as Spoken
-use Rattle.segment_model.specs.Record.{is_for}
-use Rattle.segment_model.specs.Returned.{IsReturn, Returns}
-use Rattle.segment_model.specs.Slaves.{Datagram, grams}
+use Rattle.life_runs.specs.of_segment_model.Record.{is_for}
+use Rattle.life_runs.specs.of_segment_model.Returned.{IsReturn, Returns}
+use Rattle.life_runs.specs.of_segment_model.Slaves.{Datagram, grams}
 use Rattle.run_frames.specs.Answers.{AsksHalf, EachAsks, AsksFirst, AllAsk, HalfAnswers, EachAnswers, StandAnswers, AllAnswer}
 use Rattle.run_frames.specs.Brings.{AsksClear, HalfAsks, HalfBrings, StandBrings, Brings, AllBring}
 use Rattle.run_frames.specs.Clocks.{Clocked}

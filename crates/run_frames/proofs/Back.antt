@@ -1,17 +1,17 @@
 -- A slave and a frame that came back.
 use Rattle.std.proofs.Common.{◌≡◌, ◌⊎◌, ℕ, ◌≤◌, ◌==◌, ◌&&◌, Bool, true, false, Option, Some, None, List, [], ◌∷◌, refl, sym, ap, ◌∙◌, subst, if◌then◌else◌, inl, inr, eq-eqb}
 use Rattle.std.specs.Prelude.{◌||◌}
-use Rattle.exchange_model.specs.Exchange.{Speech}
-use Rattle.link_model.specs.Frames.{Ask, halves_after, halves_answered}
-use Rattle.link_model.specs.Link.{Halves}
-use Rattle.link_model.specs.Mails.{differs}
-use Rattle.link_model.specs.Master.{InState}
-use Rattle.segment_model.specs.Record.{News}
-use Rattle.segment_model.specs.Slaves.{Datagram, Found, grams}
-use Rattle.state_model.specs.Accounts.{Duty, Stage}
-use Rattle.life_model.specs.Lives.{Era, Life, Stand, Spot, Opening, life_back, era_back, opening_back, clears, opens, steps_on, is_shown, reopens, reopens_at, reopening, returns_to_init, opens_state}
-use Rattle.life_model.specs.Own.{own}
-use Rattle.life_model.specs.Repairs.{Way, way_of, half_way, opening_rest, whole_way, IsAt, IsDone, IsAnswered, GoesOn, awaits_at, awaited}
+use Rattle.life_runs.specs.of_exchange_model.Exchange.{Speech}
+use Rattle.life_runs.specs.of_link_model.Frames.{Ask, halves_after, halves_answered}
+use Rattle.life_runs.specs.of_link_model.Link.{Halves}
+use Rattle.life_runs.specs.of_link_model.Mails.{differs}
+use Rattle.life_runs.specs.of_link_model.Master.{InState}
+use Rattle.life_runs.specs.of_segment_model.Record.{News}
+use Rattle.life_runs.specs.of_segment_model.Slaves.{Datagram, Found, grams}
+use Rattle.life_runs.specs.of_state_model.Accounts.{Duty, Stage}
+use Rattle.life_runs.specs.of_life_model.Lives.{Era, Life, Stand, Spot, Opening, life_back, era_back, opening_back, clears, opens, steps_on, is_shown, reopens, reopens_at, reopening, returns_to_init, opens_state}
+use Rattle.life_runs.specs.of_life_model.Own.{own}
+use Rattle.life_runs.specs.of_life_model.Repairs.{Way, way_of, half_way, opening_rest, whole_way, IsAt, IsDone, IsAnswered, GoesOn, awaits_at, awaited}
 use Rattle.run_frames.specs.Brings.{AsksClear, HalfAsks, HalfBrings}
 
 -- ---- an opening

@@ -2,18 +2,18 @@
 use Rattle.std.proofs.Common.{◌≡◌, ℕ, Bool, true, false, Option, Some, None, List, [], ◌∷◌, ◌++◌, length, refl, ap, sym, ◌∙◌, subst, arith, append_assoc, append-nil}
 use Rattle.std.specs.Prelude.{◌==◌, ◌&&◌, not, option_map, is_some, if◌then◌else◌}
 use Rattle.std.proofs.lemmas.List.{map-append}
-use Rattle.life_model.specs.of_exchange_model.Areas.{Areas}
-use Rattle.life_model.specs.of_exchange_model.Exchange.{Speech, plain}
-use Rattle.life_model.specs.of_exchange_model.Rows.{Row, answer_after, row_heard}
-use Rattle.life_model.specs.Lives.{Era, Life, Stand, returns_to_init}
+use Rattle.life_runs.specs.of_exchange_model.Areas.{Areas}
+use Rattle.life_runs.specs.of_exchange_model.Exchange.{Speech, plain}
+use Rattle.life_runs.specs.of_exchange_model.Rows.{Row, answer_after, row_heard}
+use Rattle.life_runs.specs.of_life_model.Lives.{Era, Life, Stand, returns_to_init}
 use Rattle.life_runs.specs.of_link_mails.Body.{Body}
 use Rattle.life_runs.specs.of_master_duty.Reply.{Reply}
 use Rattle.life_runs.specs.of_master_hand.Spoken.{Asked, sdo, file, drive, net, passed, ends, handed, is_passed, hand_speech}
-use Rattle.life_model.specs.of_segment_model.Record.{is_for}
-use Rattle.life_model.specs.of_segment_model.Seats.{newest}
-use Rattle.life_model.specs.of_segment_model.Slaves.{Datagram}
-use Rattle.life_model.specs.of_state_model.Stated.{Service}
-use Rattle.life_model.specs.of_state_model.Accounts.{Account, Duty, Change, Progress, access_done, account_by, account_met, account_back}
+use Rattle.life_runs.specs.of_segment_model.Record.{is_for}
+use Rattle.life_runs.specs.of_segment_model.Seats.{newest}
+use Rattle.life_runs.specs.of_segment_model.Slaves.{Datagram}
+use Rattle.life_runs.specs.of_state_model.Stated.{Service}
+use Rattle.life_runs.specs.of_state_model.Accounts.{Account, Duty, Change, Progress, access_done, account_by, account_met, account_back}
 use Rattle.run_frames.specs.ScriptAnswers.{Came, Scripted, RowRests, Awaits, Changes, answers_in, side_answers, now_answer, reached_at, change_outcome, scripted_in, scripted_mails, era_scripted, eras_scripted, life_scripted}
 use Rattle.run_frames.proofs.Lists.{Answer, Over, scripted_state, scripted_one, steady, no_outcome}
 

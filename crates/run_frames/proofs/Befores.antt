@@ -3,16 +3,16 @@ use Rattle.std.proofs.Common.{ℕ, suc, ◌<◌, Bool, true, false, Option, Some
 use Rattle.std.specs.Prelude.{◌==◌, ◌&&◌, if◌then◌else◌}
 use Rattle.std.specs.List.{All}
 use Rattle.std.proofs.lemmas.List.Elements.{All-push, All-weaker}
-use Rattle.life_model.specs.of_exchange_model.Exchange.{Speech}
+use Rattle.life_runs.specs.of_exchange_model.Exchange.{Speech}
 use Rattle.life_runs.specs.of_frame_view.Shares.{given_where}
-use Rattle.life_model.specs.Lives.{Spot, Life, Stand, Opening, life_back, life_lost, era_back, opening_back, shows_clear, is_shown, last_step, clears, opens, steps_on, reopens, reopens_at, reopening, opens_state, returns_to_init}
+use Rattle.life_runs.specs.of_life_model.Lives.{Spot, Life, Stand, Opening, life_back, life_lost, era_back, opening_back, shows_clear, is_shown, last_step, clears, opens, steps_on, reopens, reopens_at, reopening, opens_state, returns_to_init}
 use Rattle.life_runs.specs.Led.{is_passed}
 use Rattle.life_runs.specs.of_link_mails.Body.{Body}
 use Rattle.life_runs.specs.of_master_duty.Reply.{Reply}
 use Rattle.life_runs.specs.of_master_hand.Spoken.{Asked, acknowledged, is_followed}
-use Rattle.life_model.specs.of_segment_model.Record.{News}
-use Rattle.life_model.specs.of_segment_model.Slaves.{Datagram, Found}
-use Rattle.life_model.specs.of_state_model.Accounts.{Duty, Stage}
+use Rattle.life_runs.specs.of_segment_model.Record.{News}
+use Rattle.life_runs.specs.of_segment_model.Slaves.{Datagram, Found}
+use Rattle.life_runs.specs.of_state_model.Accounts.{Duty, Stage}
 use Rattle.run_frames.specs.Steps.{OpenedBefore, IsBefore}
 use Rattle.run_frames.proofs.Anew.{WasBefore}
 

@@ -1,10 +1,10 @@
 -- The slaves of the first bring-up: those that have ended theirs have nothing to repair, all others are being opened.
 use Rattle.std.proofs.Common.{◌≡◌, ◌⊎◌, ℕ, zero, suc, ◌<◌, ◌≤◌, ◌&&◌, Bool, true, false, None, List, [], ◌∷◌, ◌++◌, length, refl, sym, ap, ◌∙◌, subst, arith, if◌then◌else◌, inl, inr}
 use Rattle.std.specs.Prelude.{⊤, nat_lt}
-use Rattle.exchange_model.specs.Exchange.{Speech}
-use Rattle.segment_model.specs.Slaves.{Datagram}
-use Rattle.life_model.specs.Lives.{Life, Spot, Stand, Opening, life_lost, reopening}
-use Rattle.life_model.specs.Repairs.{way_of}
+use Rattle.life_runs.specs.of_exchange_model.Exchange.{Speech}
+use Rattle.life_runs.specs.of_segment_model.Slaves.{Datagram}
+use Rattle.life_runs.specs.of_life_model.Lives.{Life, Spot, Stand, Opening, life_lost, reopening}
+use Rattle.life_runs.specs.of_life_model.Repairs.{way_of}
 use Rattle.run_frames.specs.Begins.{AllNew}
 use Rattle.run_frames.specs.Brings.{Brings, AllBring}
 use Rattle.run_frames.specs.Clocks.{Clocked}

@@ -2,30 +2,30 @@
 use Rattle.std.proofs.Common.{◌≡◌, ℕ, suc, Bool, true, false, Option, Some, None, List, [], ◌∷◌, ◌++◌, map, length, refl, ap, sym, ◌∙◌, subst, append_assoc, append-nil}
 use Rattle.std.specs.Prelude.{◌%◌, ◌&&◌}
 use Rattle.life_runs.specs.of_datagrams.Datagram as Raw
-use Rattle.life_model.specs.Script.{eras_started, life_started}
-use Rattle.life_model.proofs.Scripts.{back_same, lost_same}
-use Rattle.life_model.specs.of_exchange_model.Exchange.{Speech}
+use Rattle.life_runs.specs.of_life_model.Script.{eras_started, life_started}
+use Rattle.life_runs.proofs.of_life_model.Scripts.{back_same, lost_same}
+use Rattle.life_runs.specs.of_exchange_model.Exchange.{Speech}
 use Rattle.life_runs.specs.of_frame_view.View.{Lens}
 use Rattle.life_runs.specs.of_frame_view.Seen.{seen}
 use Rattle.life_runs.specs.of_frame_view.Frames.{Share}
 use Rattle.life_runs.specs.of_frame_view.Shares.{Lived, came_at, given_where}
-use Rattle.life_model.specs.Lives.{Spot, Life, Stand, granted, life_next, life_lost}
+use Rattle.life_runs.specs.of_life_model.Lives.{Spot, Life, Stand, granted, life_next, life_lost}
 use Rattle.life_runs.specs.First.{lens_of, script_for, first_leads, leads_from}
 use Rattle.life_runs.specs.Led as Led
 use Rattle.life_runs.specs.Led.{Exchanged, Leads, Turn, Comes, Took, IsTurn, AllTurn, IsLed, is_passed, speech_at, life_behind, gives_up_at}
 use Rattle.life_runs.specs.of_link_mails.Body.{Body}
 use Rattle.life_runs.specs.of_master_duty.Reply.{Reply}
 use Rattle.life_runs.specs.of_master_hand.Spoken.{Asked, acknowledged, is_followed}
-use Rattle.life_model.specs.of_segment_model.Ends.{Passing}
-use Rattle.life_model.specs.of_segment_model.Seats.{Side}
+use Rattle.life_runs.specs.of_segment_model.Ends.{Passing}
+use Rattle.life_runs.specs.of_segment_model.Seats.{Side}
 use Rattle.life_runs.specs.of_segment_plan.declared.plan.Scenario.{Scenario}
 use Rattle.life_runs.specs.of_segment_plan.declared.service.Service as Plan
 use Rattle.life_runs.specs.of_segment_plan.declared.slave.SlaveSpec.{SlaveSpec}
 use Rattle.life_runs.specs.of_segment_ring.declared.wire.Fate.{Fate}
 use Rattle.life_runs.specs.of_segment_ring.declared.wire.Fate.TheVariants.{Pass, Lost}
-use Rattle.life_model.specs.of_state_model.Stated.{Service}
-use Rattle.life_model.specs.of_state_model.Accounts.{Account, Duty, Pick, Started, account_begins}
-use Rattle.life_model.specs.of_state_model.Promise.{services_in}
+use Rattle.life_runs.specs.of_state_model.Stated.{Service}
+use Rattle.life_runs.specs.of_state_model.Accounts.{Account, Duty, Pick, Started, account_begins}
+use Rattle.life_runs.specs.of_state_model.Promise.{services_in}
 use Rattle.run_frames.specs.Came.{Came}
 use Rattle.run_frames.specs.Slaves.{HasCome, AllCome}
 use Rattle.run_frames.proofs.Firsts.{firsts}

@@ -2,11 +2,11 @@
 use Rattle.std.proofs.Common.{◌≡◌, ℕ, suc, ◌+◌, ◌-◌, ◌*◌, ◌<◌, ◌≤◌, Bool, true, false, Option, List, [], ◌∷◌, length, map, refl, ap, ◌∙◌, arith, if◌then◌else◌}
 use Rattle.std.specs.Prelude.{nat_lt}
 use Rattle.std.proofs.lemmas.Bool.{leb-true, leb-false}
-use Rattle.exchange_model.specs.Exchange.{Speech}
-use Rattle.segment_model.specs.Slaves.{Datagram}
-use Rattle.life_model.specs.Lives.{Spot}
-use Rattle.life_model.specs.Deadlines.{repair}
-use Rattle.life_model.specs.Tally.{Counts, new_tally, broken}
+use Rattle.life_runs.specs.of_exchange_model.Exchange.{Speech}
+use Rattle.life_runs.specs.of_segment_model.Slaves.{Datagram}
+use Rattle.life_runs.specs.of_life_model.Lives.{Spot}
+use Rattle.life_runs.specs.of_life_model.Deadlines.{repair}
+use Rattle.life_runs.specs.of_life_model.Tally.{Counts, new_tally, broken}
 use Rattle.run_frames.specs.Begins.{AllNew}
 use Rattle.run_frames.specs.Clocks.{Clocked, alone, in_round, one_by_one, repair_of, gains_all, reopened_all, tally_of}
 use Rattle.run_frames.specs.Goes.{Under, AllUnder, AllClocked, OneUnder, all_lost}

@@ -1,12 +1,12 @@
 -- No more frames are lost than the schedule has.
 use Rattle.std.proofs.Common.{◌≡◌, ℕ, zero, suc, ◌+◌, ◌<◌, ◌≤◌, ◌==◌, Bool, true, false, List, [], ◌∷◌, length, refl, ap, arith, if◌then◌else◌, eqb-true}
-use Rattle.link_mails.specs.Body.{Body}
-use Rattle.life_model.specs.Gains.{gains}
+use Rattle.life_runs.specs.of_link_mails.Body.{Body}
+use Rattle.life_runs.specs.of_life_model.Gains.{gains}
 use Rattle.life_runs.specs.Led.{Exchanged, Leads}
 use Rattle.life_runs.specs.of_master_duty.Reply.{Reply}
 use Rattle.life_runs.specs.of_master_hand.Spoken.{Asked}
-use Rattle.segment_ring.specs.Schedule.{fate_at}
-use Rattle.segment_ring.specs.declared.wire.Fate.TheVariants.{Lost}
+use Rattle.life_runs.specs.of_segment_ring.Schedule.{fate_at}
+use Rattle.life_runs.specs.of_segment_ring.declared.wire.Fate.TheVariants.{Lost}
 use Rattle.run_frames.specs.Clocks.{Clocked, reopened, gains_all, reopened_all}
 use Rattle.run_frames.specs.Fates.{AreFated, lost_by, lost_of, gained_in}
 use Rattle.run_frames.specs.Led.{AreLed}

@@ -9,7 +9,7 @@ use Rattle.life_runs.specs.Led.{Comes}
 use Rattle.life_runs.specs.of_master_hand.Spoken.{Asked, net}
 use Rattle.life_runs.specs.of_master_hand.Talk.{asked_of}
 use Rattle.life_runs.specs.of_segment_plan.declared.service.Service as Plan
-use Rattle.life_model.specs.of_state_model.Stated.{Service}
+use Rattle.life_runs.specs.of_state_model.Stated.{Service}
 use Rattle.run_frames.specs.Came.{Came, handed_over, AreThose, is_packet, AreFirst}
 
 -- no script has a packet

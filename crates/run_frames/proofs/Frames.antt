@@ -3,25 +3,25 @@ use Rattle.std.proofs.Common.{◌≡◌, inl, inr, ℕ, suc, ◌<◌, Bool, true
 use Rattle.std.specs.Prelude.{◌==◌, ◌&&◌, option_map, is_some, if◌then◌else◌}
 use Rattle.std.specs.List.{All}
 use Rattle.std.proofs.lemmas.List.{map-append}
-use Rattle.life_model.specs.of_exchange_model.Areas.{Areas}
-use Rattle.life_model.specs.of_exchange_model.Exchange.{Speech, plain}
-use Rattle.life_model.specs.of_exchange_model.Rows.{answer_after, row_heard}
-use Rattle.frame_view.specs.Seen.{seen}
+use Rattle.life_runs.specs.of_exchange_model.Areas.{Areas}
+use Rattle.life_runs.specs.of_exchange_model.Exchange.{Speech, plain}
+use Rattle.life_runs.specs.of_exchange_model.Rows.{answer_after, row_heard}
+use Rattle.life_runs.specs.of_frame_view.Seen.{seen}
 use Rattle.life_runs.proofs.Spans.{clear_leaves, cleared_stays, last_stays, steps_stay}
 use Rattle.life_runs.specs.Spans.{is_leaving, is_open}
-use Rattle.life_model.specs.Lives.{Spot, Era, Life, Stand, Opening, life_back, era_back, opening_back, shows_clear, is_shown, last_step, clears, opens, steps_on, reopens, reopens_at, reopening, opens_state, returns_to_init, new_side}
-use Rattle.life_model.specs.Own.{own}
+use Rattle.life_runs.specs.of_life_model.Lives.{Spot, Era, Life, Stand, Opening, life_back, era_back, opening_back, shows_clear, is_shown, last_step, clears, opens, steps_on, reopens, reopens_at, reopening, opens_state, returns_to_init, new_side}
+use Rattle.life_runs.specs.of_life_model.Own.{own}
 use Rattle.life_runs.specs.Led.{is_passed}
 use Rattle.life_runs.specs.of_link_mails.Body.{Body}
-use Rattle.life_model.specs.of_link_model.Frames.{all_accepted}
+use Rattle.life_runs.specs.of_link_model.Frames.{all_accepted}
 use Rattle.life_runs.specs.of_master_duty.Reply.{Reply}
 use Rattle.life_runs.specs.of_master_hand.Spoken.{Asked, acknowledged, is_followed, ends, hand_speech}
-use Rattle.life_model.specs.of_segment_model.Record.{News}
-use Rattle.life_model.specs.of_segment_model.Seats.{Side, newest}
-use Rattle.life_model.specs.of_segment_model.Slaves.{Datagram, Found, grams}
-use Rattle.life_model.specs.of_state_model.Accounts.{Account, Duty, Stage, Change, new_account}
-use Rattle.life_model.specs.of_state_model.Promise.{services_in, mails_in}
-use Rattle.life_model.proofs.of_state_model.Completed.{started_back}
+use Rattle.life_runs.specs.of_segment_model.Record.{News}
+use Rattle.life_runs.specs.of_segment_model.Seats.{Side, newest}
+use Rattle.life_runs.specs.of_segment_model.Slaves.{Datagram, Found, grams}
+use Rattle.life_runs.specs.of_state_model.Accounts.{Account, Duty, Stage, Change, new_account}
+use Rattle.life_runs.specs.of_state_model.Promise.{services_in, mails_in}
+use Rattle.life_runs.proofs.of_state_model.Completed.{started_back}
 use Rattle.run_frames.specs.ScriptAnswers.{Came, Scripted, EraRests, RowRests, RestsSo, Awaits, Changes, ComesAnew, IsStill, IsNew, FreshBy, answers_in, side_answers, now_answer, states_in, reached_at, opened_anew, scripted_in, era_scripted, eras_scripted, over_scripted, life_scripted}
 use Rattle.run_frames.proofs.Backs.{Held, answer_of, Went, AwaitsBack, past_scripted, changes_front, changes_scripted, changes_opened, change_with, change_reported, hand_back, no_hand, answers_rest, rests_heard, many_answers}
 use Rattle.run_frames.proofs.Anew.{anew_spared}

@@ -1,22 +1,22 @@
 -- A frame that a master leads, for the slaves as it is counted.
 use Rattle.std.proofs.Common.{◌≡◌, ℕ, ◌-◌, ◌==◌, ◌&&◌, Bool, true, false, List, [], ◌∷◌, map, refl, sym, ap, ◌∙◌, cond, if◌then◌else◌, inl, inr}
 use Rattle.std.specs.Prelude.{nat_le}
-use Rattle.datagrams.specs.Datagram as Raw
-use Rattle.datagrams.specs.Frame.{IsFrame, chained}
-use Rattle.frame_view.specs.Seen.{seen, datagrams_seen}
-use Rattle.frame_view.specs.View.{Lens, datagram_seen, address_of, place_of}
-use Rattle.frame_view.proofs.Octets.{seen_chained}
+use Rattle.life_runs.specs.of_datagrams.Datagram as Raw
+use Rattle.life_runs.specs.of_datagrams.Frame.{IsFrame, chained}
+use Rattle.life_runs.specs.of_frame_view.Seen.{seen, datagrams_seen}
+use Rattle.life_runs.specs.of_frame_view.View.{Lens, datagram_seen, address_of, place_of}
+use Rattle.life_runs.proofs.of_frame_view.Octets.{seen_chained}
 use Rattle.life_runs.specs.of_frame_view.Frames.{FrameFor, AllNotFor, IsNotFor}
 use Rattle.life_runs.specs.of_frame_view.Shares.{Asked as Asks, IsNext, came_at, given_where}
-use Rattle.life_model.specs.Lives.{Spot, Life, life_next, life_lost, life_back}
-use Rattle.life_model.specs.Own.{own}
+use Rattle.life_runs.specs.of_life_model.Lives.{Spot, Life, life_next, life_lost, life_back}
+use Rattle.life_runs.specs.of_life_model.Own.{own}
 use Rattle.life_runs.specs.Led.{Exchanged, Leads, Turn, IsTurn, AllTurn, speech_at, is_passed, led_behind, life_behind}
-use Rattle.link_mails.specs.Body.{Body}
+use Rattle.life_runs.specs.of_link_mails.Body.{Body}
 use Rattle.life_runs.specs.of_master_duty.Reply.{Reply}
 use Rattle.life_runs.specs.of_master_hand.Spoken.{Asked, acknowledged, is_followed}
-use Rattle.segment_model.specs.Record.{is_for}
-use Rattle.segment_model.specs.Slaves.{Datagram, Address}
-use Rattle.segment_ring.specs.declared.wire.Fate.TheVariants.{Pass, Lost}
+use Rattle.life_runs.specs.of_segment_model.Record.{is_for}
+use Rattle.life_runs.specs.of_segment_model.Slaves.{Datagram, Address}
+use Rattle.life_runs.specs.of_segment_ring.declared.wire.Fate.TheVariants.{Pass, Lost}
 use Rattle.run_frames.specs.Clocks.{Clocked}
 use Rattle.run_frames.specs.Goes.{Under, IsUnder, AllUnder, all_lost, all_back, given_if, lost_life, back_life}
 use Rattle.run_frames.specs.Led.{AreLed, under_of, unders}

@@ -1,5 +1,7 @@
+pub use Rattle.life_runs.proofs.of_frame_view as of_frame_view
 pub use Rattle.life_runs.proofs as of_life_runs
-pub use Rattle.life_model.proofs.of_state_model as of_state_model
+pub use Rattle.life_runs.proofs.of_master_tour as of_master_tour
+pub use Rattle.life_runs.proofs.of_state_model as of_state_model
 pub mod Access
 pub mod Answering
 mod Back

@@ -1,13 +1,13 @@
 -- Lists of scripted services, and of what is noted of them.
 use Rattle.std.proofs.Common.{◌≡◌, ℕ, suc, ◌+◌, Bool, true, false, Option, Some, None, List, [], ◌∷◌, ◌++◌, length, refl, ap, sym, ◌∙◌, arith, append_assoc, append-nil}
-use Rattle.life_model.specs.Lives.{Era, returns_to_init}
+use Rattle.life_runs.specs.of_life_model.Lives.{Era, returns_to_init}
 use Rattle.life_runs.specs.of_link_mails.Body.{Body}
 use Rattle.life_runs.specs.of_master_duty.Reply.{Reply}
 use Rattle.life_runs.specs.of_master_hand.Spoken.{Asked}
 use Rattle.run_frames.specs.Came.{is_beside}
-use Rattle.life_model.specs.of_state_model.Stated.{Service}
-use Rattle.life_model.specs.of_state_model.Accounts.{Started, Change}
-use Rattle.life_model.specs.of_state_model.Promise.{services_in, mails_in}
+use Rattle.life_runs.specs.of_state_model.Stated.{Service}
+use Rattle.life_runs.specs.of_state_model.Accounts.{Started, Change}
+use Rattle.life_runs.specs.of_state_model.Promise.{services_in, mails_in}
 use Rattle.run_frames.specs.ScriptAnswers.{Came, Scripted, Noted, IsReported, AllNoted, states_in, first_change, changes_behind, change_outcome, scripted_mails, scripted_by, scripted_in, opened_anew, era_scripted, next_opened, eras_scripted}
 
 abbrev pub Answer : Type 0

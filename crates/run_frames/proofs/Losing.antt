@@ -1,8 +1,8 @@
 -- What a lost frame puts off.
 use Rattle.std.proofs.Common.{◌≡◌, ◌⊎◌, ℕ, suc, ◌+◌, ◌≤◌, Bool, true, false, Option, Some, None, List, [], ◌∷◌, refl, sym, subst, arith, if◌then◌else◌, inl, inr}
-use Rattle.life_model.specs.Repairs.{Way, whole_way}
-use Rattle.life_model.specs.Tally.{broken}
-use Rattle.life_model.specs.Deadlines.{Standing, deadline, deadline_of, IsTimed}
+use Rattle.life_runs.specs.of_life_model.Repairs.{Way, whole_way}
+use Rattle.life_runs.specs.of_life_model.Tally.{broken}
+use Rattle.life_runs.specs.of_life_model.Deadlines.{Standing, deadline, deadline_of, IsTimed}
 use Rattle.run_frames.specs.Clocks.{one_by_one}
 use Rattle.run_frames.specs.Losses.{Stays, Loses, AllStay, OneLoses}
 

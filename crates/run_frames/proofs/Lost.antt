@@ -1,10 +1,10 @@
 -- A slave and a lost frame.
 use Rattle.std.proofs.Common.{◌≡◌, ℕ, suc, ◌<◌, ◌≤◌, ◌&&◌, Bool, true, false, List, [], ◌∷◌, map, refl, sym, subst, arith, inl, inr}
-use Rattle.exchange_model.specs.Exchange.{Speech}
-use Rattle.segment_model.specs.Slaves.{Datagram}
-use Rattle.life_model.specs.Lives.{Life, Spot, life_lost}
-use Rattle.life_model.specs.Deadlines.{IsTimed}
-use Rattle.life_model.specs.Repairs.{way_of, StandsAt}
+use Rattle.life_runs.specs.of_exchange_model.Exchange.{Speech}
+use Rattle.life_runs.specs.of_segment_model.Slaves.{Datagram}
+use Rattle.life_runs.specs.of_life_model.Lives.{Life, Spot, life_lost}
+use Rattle.life_runs.specs.of_life_model.Deadlines.{IsTimed}
+use Rattle.life_runs.specs.of_life_model.Repairs.{way_of, StandsAt}
 use Rattle.run_frames.specs.Clocks.{Clocked, standing, alone}
 use Rattle.run_frames.specs.Goes.{Under, IsUnder, AllUnder, IsClocked, HandAt, AllClocked, NoneUnder, OneUnder, clocked_behind, is_same, given_if, lost_life, all_lost}
 use Rattle.run_frames.specs.Losses.{Stays, Loses, AllStay, OneLoses}

@@ -1,16 +1,16 @@
 -- What a frame that came back makes of one slave.
 use Rattle.std.proofs.Common.{◌≡◌, ◌⊎◌, ℕ, suc, ◌+◌, ◌≤◌, ◌==◌, ◌&&◌, Bool, true, false, Option, Some, None, List, [], ◌∷◌, ◌++◌, refl, sym, ap, ◌∙◌, subst, arith, if◌then◌else◌, inl, inr, eqb-true}
 use Rattle.std.proofs.lemmas.Bool.{cases_lt}
-use Rattle.exchange_model.specs.Exchange.{Speech}
-use Rattle.link_model.specs.Frames.{halves_after}
-use Rattle.link_model.specs.Master.{InState}
-use Rattle.segment_model.specs.Slaves.{Datagram, Found, grams}
-use Rattle.state_model.specs.Accounts.{account_back}
-use Rattle.life_model.specs.Lives.{Era, Life, Stand, Spot, Opening, life_back, era_back, opening_back, shows_clear, last_step, clears, opens, steps_on, is_shown, reopens}
-use Rattle.life_model.specs.Own.{own}
-use Rattle.life_model.specs.Deadlines.{Mends, MendsIf, is_vain}
-use Rattle.life_model.specs.Gains.{gains}
-use Rattle.life_model.specs.Repairs.{Way, way_of, stand_way, half_way, opening_way, whole_way, StandsAt, IsAt, awaits_at}
+use Rattle.life_runs.specs.of_exchange_model.Exchange.{Speech}
+use Rattle.life_runs.specs.of_link_model.Frames.{halves_after}
+use Rattle.life_runs.specs.of_link_model.Master.{InState}
+use Rattle.life_runs.specs.of_segment_model.Slaves.{Datagram, Found, grams}
+use Rattle.life_runs.specs.of_state_model.Accounts.{account_back}
+use Rattle.life_runs.specs.of_life_model.Lives.{Era, Life, Stand, Spot, Opening, life_back, era_back, opening_back, shows_clear, last_step, clears, opens, steps_on, is_shown, reopens}
+use Rattle.life_runs.specs.of_life_model.Own.{own}
+use Rattle.life_runs.specs.of_life_model.Deadlines.{Mends, MendsIf, is_vain}
+use Rattle.life_runs.specs.of_life_model.Gains.{gains}
+use Rattle.life_runs.specs.of_life_model.Repairs.{Way, way_of, stand_way, half_way, opening_way, whole_way, StandsAt, IsAt, awaits_at}
 use Rattle.run_frames.specs.Brings.{OpeningBrings, HalfBrings, StandBrings, Brings}
 use Rattle.run_frames.specs.Clocks.{Clocked, standing, duty_reopens, eras_reopened, reopened}
 use Rattle.run_frames.specs.Goes.{Under, IsUnder, IsClocked, HandAt, clocked_behind, is_same}

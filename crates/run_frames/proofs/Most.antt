@@ -1,11 +1,11 @@
 -- No repair takes longer than a reopening.
 use Rattle.std.proofs.Common.{ℕ, zero, suc, ◌+◌, ◌≤◌, Bool, true, false, Option, Some, List, [], ◌∷◌, length, arith, if◌then◌else◌}
 use Rattle.std.specs.Prelude.{nat_le}
-use Rattle.link_model.specs.Master.{InState}
-use Rattle.life_model.specs.Lives.{Stand, Life, Opening}
-use Rattle.life_model.specs.Deadlines.{deadline, repair}
-use Rattle.life_model.specs.Repairs.{way_of, stand_way, half_way, opening_way, whole_way, StandsAt, IsAt}
-use Rattle.life_model.specs.Tally.{broken}
+use Rattle.life_runs.specs.of_link_model.Master.{InState}
+use Rattle.life_runs.specs.of_life_model.Lives.{Stand, Life, Opening}
+use Rattle.life_runs.specs.of_life_model.Deadlines.{deadline, repair}
+use Rattle.life_runs.specs.of_life_model.Repairs.{way_of, stand_way, half_way, opening_way, whole_way, StandsAt, IsAt}
+use Rattle.life_runs.specs.of_life_model.Tally.{broken}
 use Rattle.run_frames.specs.Clocks.{Clocked, standing, in_round, ahead_at}
 use Rattle.run_frames.specs.Goes.{AllClocked}
 use Rattle.run_frames.proofs.Clocking.{ahead_less}

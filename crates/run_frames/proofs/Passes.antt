@@ -1,22 +1,22 @@
 -- WHAT IS NOTED BEHIND A FRAME OF A RUN, whatever is awaited.
 use Rattle.std.proofs.Common.{◌≡◌, ◌⊎◌, inl, inr, ℕ, Bool, true, false, Option, Some, None, List, [], ◌∷◌, ◌++◌, length, length-append, refl, ap, sym, ◌∙◌, subst, arith}
 use Rattle.std.specs.Prelude.{is_some}
-use Rattle.life_model.specs.of_exchange_model.Areas.{Areas}
-use Rattle.frame_view.specs.View.{Lens}
-use Rattle.frame_view.specs.Seen.{seen}
+use Rattle.life_runs.specs.of_exchange_model.Areas.{Areas}
+use Rattle.life_runs.specs.of_frame_view.View.{Lens}
+use Rattle.life_runs.specs.of_frame_view.Seen.{seen}
 use Rattle.life_runs.specs.Spans.{is_open}
 use Rattle.life_runs.specs.of_frame_view.Shares.{Lived, came_at, lived_back, lived_lost}
-use Rattle.life_model.specs.Lives.{Life}
+use Rattle.life_runs.specs.of_life_model.Lives.{Life}
 use Rattle.life_runs.specs.Led.{Exchanged, Leads, Turn, is_passed, speech_at}
 use Rattle.life_runs.specs.of_link_mails.Body.{Body}
 use Rattle.life_runs.specs.of_master_duty.Reply.{Reply}
 use Rattle.life_runs.specs.of_master_hand.Spoken.{Asked, acknowledged, ends, is_followed}
-use Rattle.life_model.specs.of_segment_model.Ends.{Outcome}
-use Rattle.life_model.specs.of_segment_model.Record.{News}
-use Rattle.life_model.specs.of_segment_model.Slaves.{Datagram, Found}
+use Rattle.life_runs.specs.of_segment_model.Ends.{Outcome}
+use Rattle.life_runs.specs.of_segment_model.Record.{News}
+use Rattle.life_runs.specs.of_segment_model.Slaves.{Datagram, Found}
 use Rattle.life_runs.specs.of_segment_ring.declared.wire.Fate.{Fate}
 use Rattle.life_runs.specs.of_segment_ring.declared.wire.Fate.TheVariants.{Lost, Pass}
-use Rattle.life_model.specs.of_state_model.Accounts.{Change}
+use Rattle.life_runs.specs.of_state_model.Accounts.{Change}
 use Rattle.run_frames.specs.ScriptAnswers.{Came, Noted, IsReported, AllNoted, RowRests, RestsSo, Awaits, ComesAnew, IsGoing, Waits, StandsBy, FreshBy, IsNoted, now_answer, newest_answer, reply_by, reached_at, life_scripted, turned}
 use Rattle.run_frames.specs.Steps.{IsBefore, EndedSo, account_of, opened, with_begun, with_reply}
 use Rattle.run_frames.proofs.Backs.{Held, AwaitsBack, front_scripted, changes_front, awaits_scripted, changes_scripted, after_none, not_passed, last_change, change_reported}

@@ -1,13 +1,13 @@
 -- A slave that is open behind a frame that came back: it stays open, or a state service that has drained begins to reopen it.
 use Rattle.std.proofs.Common.{◌≡◌, ◌⊎◌, ℕ, suc, ◌≤◌, ◌==◌, ◌&&◌, not, Bool, true, false, Option, Some, None, List, [], ◌∷◌, refl, sym, ap, ◌∙◌, arith, if◌then◌else◌, inl, inr}
-use Rattle.exchange_model.specs.Exchange.{Speech}
-use Rattle.segment_model.specs.Record.{News, is_for}
-use Rattle.segment_model.specs.Slaves.{Datagram, Found}
-use Rattle.state_model.specs.Accounts.{Account, Duty, Stage, Progress, account_back, account_met, account_by, access_done}
-use Rattle.life_model.specs.Lives.{Era, Life, Stand, Spot, life_back, era_back, reopens, reopens_at, reopening, returns_to_init, opens_state}
-use Rattle.life_model.specs.Own.{own}
-use Rattle.life_model.specs.Gains.{gains, stage_gains, progress_gains, phase_gains}
-use Rattle.state_model.specs.States.{Phase}
+use Rattle.life_runs.specs.of_exchange_model.Exchange.{Speech}
+use Rattle.life_runs.specs.of_segment_model.Record.{News, is_for}
+use Rattle.life_runs.specs.of_segment_model.Slaves.{Datagram, Found}
+use Rattle.life_runs.specs.of_state_model.Accounts.{Account, Duty, Stage, Progress, account_back, account_met, account_by, access_done}
+use Rattle.life_runs.specs.of_life_model.Lives.{Era, Life, Stand, Spot, life_back, era_back, reopens, reopens_at, reopening, returns_to_init, opens_state}
+use Rattle.life_runs.specs.of_life_model.Own.{own}
+use Rattle.life_runs.specs.of_life_model.Gains.{gains, stage_gains, progress_gains, phase_gains}
+use Rattle.life_runs.specs.of_state_model.States.{Phase}
 use Rattle.run_frames.specs.Clocks.{goes_to_init, duty_reopens}
 
 -- it stays as it is, or is reopened

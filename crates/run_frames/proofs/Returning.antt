@@ -1,18 +1,18 @@
 -- A frame that came back, for all slaves of a ring.
 use Rattle.std.proofs.Common.{◌≡◌, ◌⊎◌, ℕ, suc, ◌+◌, ◌<◌, ◌≤◌, Bool, true, false, Option, Some, None, List, [], ◌∷◌, length, map, refl, sym, ap, ◌∙◌, subst, arith, if◌then◌else◌}
 use Rattle.std.specs.Prelude.{nat_le}
-use Rattle.exchange_model.specs.Exchange.{Speech}
-use Rattle.link_model.specs.Master.{InState}
-use Rattle.segment_model.specs.Record.{News}
-use Rattle.segment_model.specs.Slaves.{Datagram, Found}
-use Rattle.life_model.specs.Lives.{Life, Spot, Stand, Opening, life_back}
-use Rattle.life_model.specs.Deadlines.{Standing, deadline, deadline_of, repair, IsTimed, Mends, MendsIf, AllMend}
-use Rattle.life_model.specs.Gains.{gains}
-use Rattle.life_model.specs.Repairs.{Way, way_of, stand_way, opening_way}
-use Rattle.life_model.proofs.Gaining.{next_same, back_grows, lost_same, state_gains}
-use Rattle.life_model.proofs.Halving.{half_goes}
-use Rattle.life_model.proofs.Mending.{nearer_end, ring_ends}
-use Rattle.life_model.proofs.Openings.{opening_goes}
+use Rattle.life_runs.specs.of_exchange_model.Exchange.{Speech}
+use Rattle.life_runs.specs.of_link_model.Master.{InState}
+use Rattle.life_runs.specs.of_segment_model.Record.{News}
+use Rattle.life_runs.specs.of_segment_model.Slaves.{Datagram, Found}
+use Rattle.life_runs.specs.of_life_model.Lives.{Life, Spot, Stand, Opening, life_back}
+use Rattle.life_runs.specs.of_life_model.Deadlines.{Standing, deadline, deadline_of, repair, IsTimed, Mends, MendsIf, AllMend}
+use Rattle.life_runs.specs.of_life_model.Gains.{gains}
+use Rattle.life_runs.specs.of_life_model.Repairs.{Way, way_of, stand_way, opening_way}
+use Rattle.life_runs.proofs.of_life_model.Gaining.{next_same, back_grows, lost_same, state_gains}
+use Rattle.life_runs.proofs.of_life_model.Halving.{half_goes}
+use Rattle.life_runs.proofs.of_life_model.Mending.{nearer_end, ring_ends}
+use Rattle.life_runs.proofs.of_life_model.Openings.{opening_goes}
 use Rattle.run_frames.specs.Brings.{Brings, AllBring}
 use Rattle.run_frames.specs.Clocks.{Clocked, standing, alone, in_round, ahead_at, one_by_one, reopened, gains_all, reopened_all}
 use Rattle.run_frames.specs.Goes.{Under, IsUnder, AllUnder, IsClocked, AllClocked, NoneUnder, clocked_behind, back_life, all_back}

@@ -1,8 +1,8 @@
 -- The frames of a run count, one behind the other.
 use Rattle.std.proofs.Common.{◌≡◌, ℕ, suc, ◌+◌, ◌*◌, ◌<◌, ◌≤◌, Bool, true, false, zero, Option, List, length, refl, sym, ◌∙◌, subst, arith, inl, inr}
-use Rattle.exchange_model.specs.Exchange.{Speech}
-use Rattle.life_model.specs.Lives.{Spot}
-use Rattle.life_model.specs.Tally.{Tally, Counted, Counts, new_tally, quiet}
+use Rattle.life_runs.specs.of_exchange_model.Exchange.{Speech}
+use Rattle.life_runs.specs.of_life_model.Lives.{Spot}
+use Rattle.life_runs.specs.of_life_model.Tally.{Tally, Counted, Counts, new_tally, quiet}
 use Rattle.run_frames.specs.Clocks.{Clocked, ahead_at, repair_of, still_behind, tally_of}
 use Rattle.run_frames.specs.Goes.{Under, AllClocked, all_back, all_lost}
 use Rattle.run_frames.specs.Orders.{live_at, under_at, last_of, opened_on, AllRepaired}

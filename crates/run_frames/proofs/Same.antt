@@ -1,15 +1,15 @@
 -- What a lost frame leaves: the gains of a life, and how often state services began to reopen its slave.
 use Rattle.std.proofs.Common.{◌≡◌, ℕ, suc, ◌+◌, ◌*◌, ◌&&◌, Bool, true, false, Option, Some, None, List, [], ◌∷◌, ◌++◌, length, map, refl, sym, ap, ◌∙◌, subst, arith, if◌then◌else◌}
 use Rattle.std.specs.Prelude.{◌≤◌, nat_lt}
-use Rattle.exchange_model.specs.Exchange.{Speech}
-use Rattle.segment_model.specs.Record.{News}
-use Rattle.segment_model.specs.Seats.{Side}
-use Rattle.segment_model.specs.Slaves.{Datagram}
-use Rattle.state_model.specs.Stated.{Service}
-use Rattle.state_model.specs.Accounts.{Account, Duty, Pick, account_begins, state_begins, starts, is_free, is_acknowledged}
-use Rattle.life_model.specs.Lives.{Stand, Life, Spot, life_next, life_lost, gives_up, granted, new_life, reopening}
-use Rattle.life_model.specs.Deadlines.{deadline}
-use Rattle.life_model.specs.Gains.{gains}
+use Rattle.life_runs.specs.of_exchange_model.Exchange.{Speech}
+use Rattle.life_runs.specs.of_segment_model.Record.{News}
+use Rattle.life_runs.specs.of_segment_model.Seats.{Side}
+use Rattle.life_runs.specs.of_segment_model.Slaves.{Datagram}
+use Rattle.life_runs.specs.of_state_model.Stated.{Service}
+use Rattle.life_runs.specs.of_state_model.Accounts.{Account, Duty, Pick, account_begins, state_begins, starts, is_free, is_acknowledged}
+use Rattle.life_runs.specs.of_life_model.Lives.{Stand, Life, Spot, life_next, life_lost, gives_up, granted, new_life, reopening}
+use Rattle.life_runs.specs.of_life_model.Deadlines.{deadline}
+use Rattle.life_runs.specs.of_life_model.Gains.{gains}
 use Rattle.run_frames.specs.Begins.{AllNew}
 use Rattle.run_frames.specs.Clocks.{Clocked, alone, one_by_one, duty_reopens, reopened, gains_all, reopened_all}
 use Rattle.run_frames.specs.Goes.{Under, IsUnder, AllUnder, HandAt, given_if, lost_life, all_lost}

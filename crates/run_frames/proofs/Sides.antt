@@ -2,14 +2,14 @@
 use Rattle.std.proofs.Common.{◌≡◌, ℕ, Bool, true, false, Option, Some, None, List, [], ◌∷◌, ◌++◌, length, length-append, refl, ap, sym, ◌∙◌, subst, arith, append-nil}
 use Rattle.std.specs.Prelude.{◌&&◌, not, is_some, is_none, option_map, if◌then◌else◌}
 use Rattle.std.proofs.lemmas.List.{map-append}
-use Rattle.life_model.specs.of_exchange_model.Exchange.{Speech}
-use Rattle.life_model.specs.of_exchange_model.Rows.{Row, begun, row_told, left}
+use Rattle.life_runs.specs.of_exchange_model.Exchange.{Speech}
+use Rattle.life_runs.specs.of_exchange_model.Rows.{Row, begun, row_told, left}
 use Rattle.life_runs.specs.of_link_mails.Body.{Body}
 use Rattle.life_runs.specs.of_master_duty.Reply.{Reply}
 use Rattle.life_runs.specs.of_master_hand.Spoken.{Asked}
-use Rattle.life_model.specs.of_segment_model.Seats.{Side, newest, rows_of, is_none_left, is_over, next_mail, side_begins, side_holds}
-use Rattle.life_model.specs.of_state_model.Stated.{Service}
-use Rattle.life_model.specs.of_state_model.Accounts.{Account, Duty, Stage, mails_begin, is_free, is_acknowledged, starts, state_begins, account_begins}
+use Rattle.life_runs.specs.of_segment_model.Seats.{Side, newest, rows_of, is_none_left, is_over, next_mail, side_begins, side_holds}
+use Rattle.life_runs.specs.of_state_model.Stated.{Service}
+use Rattle.life_runs.specs.of_state_model.Accounts.{Account, Duty, Stage, mails_begin, is_free, is_acknowledged, starts, state_begins, account_begins}
 use Rattle.run_frames.specs.ScriptAnswers.{RowRests, answers_in, side_answers}
 use Rattle.run_frames.proofs.Lists.{Answer}
 

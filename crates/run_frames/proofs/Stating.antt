@@ -1,14 +1,14 @@
 -- Each reopening that a state service began is of a service that came into hand.
 use Rattle.std.proofs.Common.{◌≡◌, ℕ, ◌+◌, ◌≤◌, ◌==◌, ◌&&◌, not, Bool, true, false, Option, Some, None, List, [], ◌∷◌, ◌++◌, refl, sym, ap, subst, arith, if◌then◌else◌}
 use Rattle.std.specs.Prelude.{⊤}
-use Rattle.exchange_model.specs.Exchange.{Speech}
-use Rattle.segment_model.specs.Record.{News, is_for}
-use Rattle.segment_model.specs.Seats.{Side}
-use Rattle.segment_model.specs.Slaves.{Datagram, Found}
-use Rattle.state_model.specs.Stated.{Service}
-use Rattle.state_model.specs.Accounts.{Account, Duty, Stage, Pick, Started, Progress, account_begins, state_begins, starts, is_free, is_acknowledged, account_back, account_met, account_by, access_done}
-use Rattle.life_model.specs.Lives.{Era, Life, Stand, Spot, Opening, granted, new_life, life_next, life_back, life_lost, opening_back, shows_clear, last_step, is_shown, clears, opens, steps_on, era_back, reopens}
-use Rattle.life_model.specs.Own.{own}
+use Rattle.life_runs.specs.of_exchange_model.Exchange.{Speech}
+use Rattle.life_runs.specs.of_segment_model.Record.{News, is_for}
+use Rattle.life_runs.specs.of_segment_model.Seats.{Side}
+use Rattle.life_runs.specs.of_segment_model.Slaves.{Datagram, Found}
+use Rattle.life_runs.specs.of_state_model.Stated.{Service}
+use Rattle.life_runs.specs.of_state_model.Accounts.{Account, Duty, Stage, Pick, Started, Progress, account_begins, state_begins, starts, is_free, is_acknowledged, account_back, account_met, account_by, access_done}
+use Rattle.life_runs.specs.of_life_model.Lives.{Era, Life, Stand, Spot, Opening, granted, new_life, life_next, life_back, life_lost, opening_back, shows_clear, last_step, is_shown, clears, opens, steps_on, era_back, reopens}
+use Rattle.life_runs.specs.of_life_model.Own.{own}
 use Rattle.run_frames.specs.Begins.{AllNew}
 use Rattle.run_frames.specs.Clocks.{Clocked, goes_to_init, duty_reopens, eras_reopened, reopened, reopened_all}
 use Rattle.run_frames.specs.Goes.{Under, IsUnder, AllUnder, given_if, all_lost, all_back}
@@ -16,7 +16,7 @@ use Rattle.run_frames.specs.Runs as Runs
 use Rattle.run_frames.specs.Runs.{IsRun}
 use Rattle.run_frames.specs.States.{state_of, states_in, states_of, states_begun, states_all}
 use Rattle.run_frames.proofs.Back.{same_era}
-use Rattle.life_model.specs.Lives as Lives
+use Rattle.life_runs.specs.of_life_model.Lives as Lives
 
 -- one in hand
 abbrev in_hand : Option Duty → ℕ

@@ -3,11 +3,11 @@ use Rattle.std.proofs.Common.{◌≡◌, ℕ, suc, ◌+◌, ◌≤◌, Bool, tru
 use Rattle.std.specs.Prelude.{⊤, nat_lt, All}
 use Rattle.std.proofs.lemmas.Bool.{leb-true, leb-false}
 use Rattle.std.proofs.lemmas.List.Elements.{All-head, All-tail}
-use Rattle.frame_view.specs.Seen.{seen}
-use Rattle.frame_view.specs.View.{Lens}
+use Rattle.life_runs.specs.of_frame_view.Seen.{seen}
+use Rattle.life_runs.specs.of_frame_view.View.{Lens}
 use Rattle.life_runs.specs.First.{leads_from}
 use Rattle.life_runs.specs.Led.{Exchanged, Leads, IsLed, IsLedFrame, speech_at, is_passed, gives_up_at}
-use Rattle.link_mails.specs.Body.{Body}
+use Rattle.life_runs.specs.of_link_mails.Body.{Body}
 use Rattle.life_runs.specs.of_master_duty.Reply.{Reply}
 use Rattle.life_runs.specs.of_master_hand.Spoken.{Asked, acknowledged, is_followed}
 use Rattle.life_runs.specs.of_segment_plan.Bound.{slowest, slowest_of}

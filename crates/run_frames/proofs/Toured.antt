@@ -1,15 +1,15 @@
 -- A run whose frames are visits of one tour is one whose frames count.
 use Rattle.std.proofs.Common.{◌≡◌, ℕ, Option, None, List, [], ◌∷◌, ◌++◌, length, sym, subst}
 use Rattle.std.specs.Prelude.{nat_lt}
-use Rattle.frame_view.specs.Seen.{seen}
-use Rattle.frame_view.specs.View.{Lens}
+use Rattle.life_runs.specs.of_frame_view.Seen.{seen}
+use Rattle.life_runs.specs.of_frame_view.View.{Lens}
 use Rattle.life_runs.specs.Led.{Exchanged, Leads, Turn, IsLedFrame, speech_at, is_passed, gives_up_at}
-use Rattle.link_mails.specs.Body.{Body}
+use Rattle.life_runs.specs.of_link_mails.Body.{Body}
 use Rattle.life_runs.specs.of_master_duty.Reply.{Reply}
 use Rattle.life_runs.specs.of_master_hand.Spoken.{Asked, acknowledged, is_followed}
 use Rattle.run_frames.specs.Answers.{AllAsk, AllAnswer, AllReturned}
-use Rattle.segment_model.specs.Returned.{Returns}
-use Rattle.segment_ring.specs.declared.wire.Fate.TheVariants.{Pass}
+use Rattle.life_runs.specs.of_segment_model.Returned.{Returns}
+use Rattle.life_runs.specs.of_segment_ring.declared.wire.Fate.TheVariants.{Pass}
 use Rattle.run_frames.specs.Begins.{AllNew}
 use Rattle.run_frames.specs.Brings.{AllBring}
 use Rattle.run_frames.specs.Clocks.{Clocked}

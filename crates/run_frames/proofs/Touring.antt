@@ -2,9 +2,9 @@
 use Rattle.std.proofs.Common.{◌≡◌, ℕ, zero, suc, ◌<◌, ◌≤◌, ◌==◌, Bool, true, false, cond, Option, Some, None, List, [], ◌∷◌, length, filter, refl, sym, ap, ◌∙◌, subst, arith, if◌then◌else◌, eqb-true, eq-eqb}
 use Rattle.std.specs.Prelude.{⊤, nat_lt}
 use Rattle.std.proofs.lemmas.Bool.{leb-true, leb-false}
-use Rattle.exchange_model.specs.Exchange.{Speech}
-use Rattle.segment_model.specs.Slaves.{Datagram}
-use Rattle.life_model.specs.Lives.{Spot, Stand, life_lost}
+use Rattle.life_runs.specs.of_exchange_model.Exchange.{Speech}
+use Rattle.life_runs.specs.of_segment_model.Slaves.{Datagram}
+use Rattle.life_runs.specs.of_life_model.Lives.{Spot, Stand, life_lost}
 use Rattle.run_frames.specs.Clocks.{Clocked, start_of}
 use Rattle.run_frames.specs.Goes.{Under, IsUnder, AllUnder, NoneUnder, all_lost, lost_life}
 use Rattle.run_frames.specs.Orders.{is_live, is_opening, live_at, under_at, is_in, places_from, live_round, AreFirst, IsRound, CarriesOne, opened_on}

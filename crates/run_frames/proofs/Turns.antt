@@ -4,26 +4,26 @@ use Rattle.std.specs.Prelude.{nat_lt, is_some, if◌then◌else◌}
 use Rattle.std.specs.List.{All}
 use Rattle.std.proofs.lemmas.Bool.{ltb-true, ltb-false}
 use Rattle.std.proofs.lemmas.List.{map-append}
-use Rattle.datagrams.specs.Datagram as Raw
+use Rattle.life_runs.specs.of_datagrams.Datagram as Raw
 use Rattle.life_runs.specs.of_protocol_models.EoeClient as EoeClient
-use Rattle.life_model.specs.of_exchange_model.Areas.{Areas}
-use Rattle.life_model.specs.of_exchange_model.Exchange.{Speech}
-use Rattle.life_model.specs.of_exchange_model.Rows.{Row}
-use Rattle.frame_view.specs.View.{Lens}
+use Rattle.life_runs.specs.of_exchange_model.Areas.{Areas}
+use Rattle.life_runs.specs.of_exchange_model.Exchange.{Speech}
+use Rattle.life_runs.specs.of_exchange_model.Rows.{Row}
+use Rattle.life_runs.specs.of_frame_view.View.{Lens}
 use Rattle.life_runs.specs.Spans.{SameEpochs, is_leaving, is_open}
-use Rattle.life_model.specs.Lives.{Era, Life, Stand, granted, life_next, returns_to_init}
+use Rattle.life_runs.specs.of_life_model.Lives.{Era, Life, Stand, granted, life_next, returns_to_init}
 use Rattle.life_runs.specs.Led.{Leads, Turn, Comes, Took, IsTurn, is_passed, speech_at}
 use Rattle.life_runs.specs.of_link_mails.Body.{Body}
 use Rattle.life_runs.specs.of_master_duty.Reply.{Reply}
 use Rattle.life_runs.specs.of_master_hand.Spoken.{Asked, sdo, file, drive, net, handed, acknowledged, is_followed}
 use Rattle.life_runs.specs.of_master_hand.Talk.{asked_of}
 use Rattle.run_frames.specs.Came.{is_beside}
-use Rattle.life_model.specs.of_segment_model.Ends.{Passing}
-use Rattle.life_model.specs.of_segment_model.Seats.{newest, rows_of}
-use Rattle.segment_plan.specs.declared.service.Service as Plan
-use Rattle.life_model.specs.of_state_model.Stated.{Service}
-use Rattle.life_model.specs.of_state_model.Accounts.{Duty, Stage, Pick, is_free, starts, Started}
-use Rattle.life_model.specs.of_state_model.Promise.{services_in, mails_in}
+use Rattle.life_runs.specs.of_segment_model.Ends.{Passing}
+use Rattle.life_runs.specs.of_segment_model.Seats.{newest, rows_of}
+use Rattle.life_runs.specs.of_segment_plan.declared.service.Service as Plan
+use Rattle.life_runs.specs.of_state_model.Stated.{Service}
+use Rattle.life_runs.specs.of_state_model.Accounts.{Duty, Stage, Pick, is_free, starts, Started}
+use Rattle.life_runs.specs.of_state_model.Promise.{services_in, mails_in}
 use Rattle.run_frames.specs.ScriptAnswers.{Came, Noted, AllNoted, EraRests, NewestBeside, RestsSo, Awaits, Changes, ComesAnew, IsStill, IsAwaiting, Waits, StandsBy, IsNew, IsSpared, FreshBy, IsNoted, answers_in, side_answers, states_in, now_answer, scripted_in, scripted_mails, era_scripted, eras_scripted, over_scripted, life_scripted, turned}
 use Rattle.run_frames.specs.Steps.{awaited, with_begun, ComesBy, IsBefore, Turns, TurnsBy, TurnsSo}
 use Rattle.run_frames.proofs.Backs.{past_scripted}

@@ -2,9 +2,9 @@
 use Rattle.std.proofs.Common.{◌≡◌, ℕ, ◌<◌, ◌≤◌, Bool, Option, List, length, sym, subst, inl, inr}
 use Rattle.std.specs.Prelude.{nat_lt}
 use Rattle.std.proofs.lemmas.Bool.{cases_lt}
-use Rattle.exchange_model.specs.Exchange.{Speech}
-use Rattle.life_model.specs.Lives.{Spot}
-use Rattle.segment_model.specs.Slaves.{Datagram}
+use Rattle.life_runs.specs.of_exchange_model.Exchange.{Speech}
+use Rattle.life_runs.specs.of_life_model.Lives.{Spot}
+use Rattle.life_runs.specs.of_segment_model.Slaves.{Datagram}
 use Rattle.run_frames.specs.Clocks.{Clocked}
 use Rattle.run_frames.specs.Goes.{Under, AllUnder, all_lost}
 use Rattle.run_frames.specs.Orders.{CarriesOne, IsRound, live_round, opened_on}

@@ -1,6 +1,6 @@
 -- A slave that waits gains within a step and two rounds.
 use Rattle.std.proofs.Common.{◌≡◌, ◌⊎◌, ℕ, zero, suc, ◌+◌, ◌*◌, ◌<◌, ◌≤◌, ◌%◌, ◌==◌, ◌&&◌, Bool, true, false, Option, List, [], ◌∷◌, length, refl, sym, ◌∙◌, subst, arith, if◌then◌else◌, inl, inr}
-use Rattle.life_model.specs.Tally.{quiet}
+use Rattle.life_runs.specs.of_life_model.Tally.{quiet}
 use Rattle.run_frames.specs.Clocks.{Clocked, clock_at, ahead_at}
 use Rattle.run_frames.specs.Goes.{Under, AllClocked}
 use Rattle.run_frames.specs.Orders.{is_live, live_at, under_at}

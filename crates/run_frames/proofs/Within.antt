@@ -1,11 +1,11 @@
 -- How many frames a run has.
 use Rattle.std.proofs.Common.{◌≡◌, ◌≤◌, ◌<◌, ℕ, ◌+◌, ◌*◌, Bool, List, length, subst, arith}
-use Rattle.exchange_model.specs.Exchange.{Speech}
-use Rattle.life_model.proofs.Paying.{within}
-use Rattle.life_model.specs.Lives.{Spot}
+use Rattle.life_runs.specs.of_exchange_model.Exchange.{Speech}
+use Rattle.life_runs.proofs.of_life_model.Paying.{within}
+use Rattle.life_runs.specs.of_life_model.Lives.{Spot}
 use Rattle.life_runs.specs.First.{lens_of}
 use Rattle.life_runs.specs.Led.{Leads, speech_at, is_passed}
-use Rattle.link_mails.specs.Body.{Body}
+use Rattle.life_runs.specs.of_link_mails.Body.{Body}
 use Rattle.life_runs.specs.of_master_duty.Reply.{Reply}
 use Rattle.life_runs.specs.of_master_hand.Spoken.{Asked, acknowledged, is_followed}
 use Rattle.life_runs.specs.of_segment_plan.Bound.{slowest as slowest_pace}

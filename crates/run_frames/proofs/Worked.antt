@@ -1,11 +1,11 @@
 -- Worked rows: a slave that is brought up alone, whose processor makes a step behind each third frame, and a ring of two.
 use Rattle.std.proofs.Common.{◌≡◌, ℕ, Bool, true, false, Option, Some, None, zero, suc, ◌<◌, ◌&&◌, inl, List, [], ◌∷◌, refl, sym, ap, subst, arith}
-use Rattle.exchange_model.specs.Exchange.{Speech}
-use Rattle.segment_model.specs.Slaves.{Datagram, Address, Access, Found}
-use Rattle.link_model.specs.Frames.{Ask}
-use Rattle.life_model.specs.Lives.{Spot, Stand, Opening, new_life, life_next, is_shown}
-use Rattle.life_model.specs.Repairs.{awaits_at, awaited}
-use Rattle.life_model.specs.Tally.{new_tally, broken}
+use Rattle.life_runs.specs.of_exchange_model.Exchange.{Speech}
+use Rattle.life_runs.specs.of_segment_model.Slaves.{Datagram, Address, Access, Found}
+use Rattle.life_runs.specs.of_link_model.Frames.{Ask}
+use Rattle.life_runs.specs.of_life_model.Lives.{Spot, Stand, Opening, new_life, life_next, is_shown}
+use Rattle.life_runs.specs.of_life_model.Repairs.{awaits_at, awaited}
+use Rattle.life_runs.specs.of_life_model.Tally.{new_tally, broken}
 use Rattle.run_frames.specs.Clocks.{Clocked, clock_at, ahead_at, repair_of, still_behind, tally_of}
 use Rattle.run_frames.specs.Goes.{Under, all_back, all_lost, back_life, clocked_behind}
 use Rattle.run_frames.specs.Brings.{AsksClear, StandBrings}

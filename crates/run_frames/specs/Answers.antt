@@ -1,21 +1,21 @@
 -- WHAT A FRAME ASKS AN OPEN SLAVE IN DOUBT, and what its slaves answer to what awaits them.
 use Rattle.std.specs.Prelude.{◌≡◌, ◌==◌, ◌&&◌, ℕ, Bool, true, false, Option, Some, List, [], ◌∷◌, ⊤}
-use Rattle.frame_view.specs.Seen.{seen}
-use Rattle.frame_view.specs.View.{Lens}
+use Rattle.life_runs.specs.of_frame_view.Seen.{seen}
+use Rattle.life_runs.specs.of_frame_view.View.{Lens}
 use Rattle.life_runs.specs.of_frame_view.Shares.{came_at}
-use Rattle.life_model.specs.Repairs.{awaits_at, awaited}
-use Rattle.life_model.specs.Lives.{Opening, Stand, is_shown}
-use Rattle.life_model.specs.Own.{own}
+use Rattle.life_runs.specs.of_life_model.Repairs.{awaits_at, awaited}
+use Rattle.life_runs.specs.of_life_model.Lives.{Opening, Stand, is_shown}
+use Rattle.life_runs.specs.of_life_model.Own.{own}
 use Rattle.life_runs.specs.Led.{Exchanged, Turn}
-use Rattle.link_mails.specs.Body.{Body}
-use Rattle.link_model.specs.Frames.{Ask, in_ask}
-use Rattle.link_model.specs.Mails.{differs}
-use Rattle.link_model.specs.Master.{InState}
+use Rattle.life_runs.specs.of_link_mails.Body.{Body}
+use Rattle.life_runs.specs.of_link_model.Frames.{Ask, in_ask}
+use Rattle.life_runs.specs.of_link_model.Mails.{differs}
+use Rattle.life_runs.specs.of_link_model.Master.{InState}
 use Rattle.life_runs.specs.of_master_duty.Reply.{Reply}
 use Rattle.life_runs.specs.of_master_hand.Spoken.{Asked}
-use Rattle.segment_model.specs.Returned.{Returns}
-use Rattle.segment_model.specs.Slaves.{Datagram, Found}
-use Rattle.segment_ring.specs.declared.wire.Fate.TheVariants.{Pass}
+use Rattle.life_runs.specs.of_segment_model.Returned.{Returns}
+use Rattle.life_runs.specs.of_segment_model.Slaves.{Datagram, Found}
+use Rattle.life_runs.specs.of_segment_ring.declared.wire.Fate.TheVariants.{Pass}
 use Rattle.run_frames.specs.Clocks.{Clocked}
 
 -- ---- what the master asks

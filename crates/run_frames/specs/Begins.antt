@@ -1,6 +1,6 @@
 -- A RING BEFORE ITS FIRST FRAME.
 use Rattle.std.specs.Prelude.{◌≡◌, List, [], ◌∷◌, ⊤}
-use Rattle.life_model.specs.Lives.{new_life}
+use Rattle.life_runs.specs.of_life_model.Lives.{new_life}
 use Rattle.run_frames.specs.Clocks.{Clocked}
 
 -- each slave is to be brought up to its start state

@@ -1,7 +1,7 @@
 -- What the services that began count, by whatever each counts at its slave.
 use Rattle.std.specs.Prelude.{ℕ, ◌+◌, List, [], ◌∷◌, take, sum_by, slice_get, unwrap_or, option_map}
-use Rattle.segment_plan.specs.declared.service.Service.{Service}
-use Rattle.segment_plan.specs.declared.slave.SlaveSpec.{SlaveSpec}
+use Rattle.life_runs.specs.of_segment_plan.declared.service.Service.{Service}
+use Rattle.life_runs.specs.of_segment_plan.declared.slave.SlaveSpec.{SlaveSpec}
 use Rattle.life_runs.specs.Led.{Leads}
 
 module _ (work : SlaveSpec → Service → ℕ) where

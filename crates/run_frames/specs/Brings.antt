@@ -1,12 +1,12 @@
 -- WHAT A FRAME THAT CAME BACK BROUGHT A SLAVE: its repair goes on by what the access in hand asks for.
 use Rattle.std.specs.Prelude.{◌≡◌, ℕ, ◌==◌, ◌&&◌, Bool, true, false, Option, Some, None, List, [], ◌∷◌, ⊤}
-use Rattle.link_model.specs.Frames.{Ask, in_ask}
-use Rattle.link_model.specs.Mails.{LinkMail, differs}
-use Rattle.link_model.specs.Master.{InState}
-use Rattle.segment_model.specs.Slaves.{Datagram, Found}
-use Rattle.life_model.specs.Lives.{Opening, Stand, is_shown}
-use Rattle.life_model.specs.Own.{own}
-use Rattle.life_model.specs.Repairs.{awaits_at, awaited}
+use Rattle.life_runs.specs.of_link_model.Frames.{Ask, in_ask}
+use Rattle.life_runs.specs.of_link_model.Mails.{LinkMail, differs}
+use Rattle.life_runs.specs.of_link_model.Master.{InState}
+use Rattle.life_runs.specs.of_segment_model.Slaves.{Datagram, Found}
+use Rattle.life_runs.specs.of_life_model.Lives.{Opening, Stand, is_shown}
+use Rattle.life_runs.specs.of_life_model.Own.{own}
+use Rattle.life_runs.specs.of_life_model.Repairs.{awaits_at, awaited}
 use Rattle.run_frames.specs.Clocks.{Clocked}
 use Rattle.run_frames.specs.Goes.{Under}
 

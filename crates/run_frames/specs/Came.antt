@@ -5,7 +5,7 @@ use Rattle.life_runs.specs.Led.{Comes}
 use Rattle.life_runs.specs.of_master_hand.Spoken.{Asked, net, passed}
 use Rattle.life_runs.specs.of_master_hand.Talk.{asked_of}
 use Rattle.life_runs.specs.of_segment_plan.declared.service.Service as Plan
-use Rattle.life_model.specs.of_state_model.Stated.{Service}
+use Rattle.life_runs.specs.of_state_model.Stated.{Service}
 
 -- THE NEXT OF THE SCRIPT, or a packet, one by one, and so many of the script; `room` is the length of the slave's mailbox 0
 pub data Came (room : ℕ) (script : List Plan.Service) : ℕ → List (Service Asked) → Type 0 where

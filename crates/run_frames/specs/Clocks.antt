@@ -1,11 +1,11 @@
 -- THE SLAVES OF A RING BETWEEN TWO FRAMES: how the repair of each stands, and in how many frames all is repaired.
 use Rattle.std.specs.Prelude.{ℕ, suc, ◌+◌, ◌-◌, ◌%◌, nat_le, nat_lt, Bool, if◌then◌else◌, Option, Some, None, List, [], ◌∷◌, map, length}
-use Rattle.state_model.specs.Accounts.{Stage, Duty}
-use Rattle.life_model.specs.Lives.{Era, Life, Spot, returns_to_init}
-use Rattle.life_model.specs.Deadlines.{Standing, deadline, repair}
-use Rattle.life_model.specs.Gains.{gains}
-use Rattle.life_model.specs.Repairs.{way_of}
-use Rattle.life_model.specs.Tally.{Tally}
+use Rattle.life_runs.specs.of_state_model.Accounts.{Stage, Duty}
+use Rattle.life_runs.specs.of_life_model.Lives.{Era, Life, Spot, returns_to_init}
+use Rattle.life_runs.specs.of_life_model.Deadlines.{Standing, deadline, repair}
+use Rattle.life_runs.specs.of_life_model.Gains.{gains}
+use Rattle.life_runs.specs.of_life_model.Repairs.{way_of}
+use Rattle.life_runs.specs.of_life_model.Tally.{Tally}
 
 -- a slave: its place, its life, behind how many frames its processor makes a step, and whether it made one since the access in hand is in hand
 pub record Clocked (M Q R : Type 0) : Type 0 where

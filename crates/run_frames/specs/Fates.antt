@@ -1,10 +1,10 @@
 -- THE FRAMES OF A RUN THAT WERE LOST, and what its lives have gained.
 use Rattle.std.specs.Prelude.{◌≡◌, ℕ, suc, ◌+◌, List, [], ◌∷◌, ⊤}
-use Rattle.life_model.specs.Gains.{gains}
+use Rattle.life_runs.specs.of_life_model.Gains.{gains}
 use Rattle.life_runs.specs.Led.{Exchanged, Leads}
-use Rattle.segment_ring.specs.Schedule.{fate_at}
-use Rattle.segment_ring.specs.declared.wire.Fate.{Fate}
-use Rattle.segment_ring.specs.declared.wire.Fate.TheVariants.{Pass, Lost}
+use Rattle.life_runs.specs.of_segment_ring.Schedule.{fate_at}
+use Rattle.life_runs.specs.of_segment_ring.declared.wire.Fate.{Fate}
+use Rattle.life_runs.specs.of_segment_ring.declared.wire.Fate.TheVariants.{Pass, Lost}
 use Rattle.run_frames.specs.Clocks.{reopened}
 
 -- each frame, from this number on, has its fate by the schedule

@@ -1,13 +1,13 @@
 -- ONE FRAME OF A RUN, for each slave of its ring.
 use Rattle.std.specs.Prelude.{◌≡◌, ◌≤◌, ℕ, suc, ◌%◌, ◌==◌, ◌&&◌, not, Bool, true, false, if◌then◌else◌, Option, Some, None, List, [], ◌∷◌, ⊤}
-use Rattle.exchange_model.specs.Exchange.{Speech}
-use Rattle.segment_model.specs.Record.{News}
-use Rattle.segment_model.specs.Slaves.{Datagram, Found}
-use Rattle.state_model.specs.Accounts.{Pick}
-use Rattle.life_model.specs.Lives.{Stand, Life, Spot, life_next, life_back, life_lost, gives_up}
-use Rattle.life_model.specs.Own.{own}
-use Rattle.life_model.specs.Gains.{gains}
-use Rattle.life_model.specs.Repairs.{Way, way_of, StandsAt}
+use Rattle.life_runs.specs.of_exchange_model.Exchange.{Speech}
+use Rattle.life_runs.specs.of_segment_model.Record.{News}
+use Rattle.life_runs.specs.of_segment_model.Slaves.{Datagram, Found}
+use Rattle.life_runs.specs.of_state_model.Accounts.{Pick}
+use Rattle.life_runs.specs.of_life_model.Lives.{Stand, Life, Spot, life_next, life_back, life_lost, gives_up}
+use Rattle.life_runs.specs.of_life_model.Own.{own}
+use Rattle.life_runs.specs.of_life_model.Gains.{gains}
+use Rattle.life_runs.specs.of_life_model.Repairs.{Way, way_of, StandsAt}
 use Rattle.run_frames.specs.Clocks.{Clocked, duty_reopens}
 
 -- the same access of a repair

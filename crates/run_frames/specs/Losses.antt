@@ -1,8 +1,8 @@
 -- A LOST FRAME OF THE FIRST BRING-UP, for the repair of each slave.
 use Rattle.std.specs.Prelude.{◌≡◌, ◌≤◌, ℕ, true, List, [], ◌∷◌, ⊤}
-use Rattle.life_model.specs.Deadlines.{Standing, IsTimed, Ticks}
-use Rattle.life_model.specs.Repairs.{whole_way}
-use Rattle.life_model.specs.Tally.{broken}
+use Rattle.life_runs.specs.of_life_model.Deadlines.{Standing, IsTimed, Ticks}
+use Rattle.life_runs.specs.of_life_model.Repairs.{whole_way}
+use Rattle.life_runs.specs.of_life_model.Tally.{broken}
 
 -- the repair stays at its access, and the slave is no further away than it was
 pub record Stays (a b : Standing) : Type 0 where

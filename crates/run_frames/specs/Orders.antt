@@ -1,7 +1,7 @@
 -- THE ORDER IN WHICH A MASTER VISITS THE SLAVES OF ITS RING, by places.
 use Rattle.std.specs.Prelude.{◌≡◌, ◌≤◌, ℕ, zero, suc, ◌+◌, ◌-◌, ◌==◌, nat_lt, Bool, true, false, if◌then◌else◌, Option, Some, None, List, [], ◌∷◌, ◌++◌, filter, length, ◌<◌, ⊤}
-use Rattle.life_model.specs.Lives.{Stand, Opening}
-use Rattle.life_model.specs.Repairs.{way_of}
+use Rattle.life_runs.specs.of_life_model.Lives.{Stand, Opening}
+use Rattle.life_runs.specs.of_life_model.Repairs.{way_of}
 use Rattle.run_frames.specs.Clocks.{Clocked, start_of}
 use Rattle.run_frames.specs.Goes.{Under, NoneUnder}
 

@@ -1,8 +1,8 @@
 -- A RUN, frame by frame, for each slave of its ring.
 use Rattle.std.specs.Prelude.{◌≡◌, ◌≤◌, ◌<◌, ℕ, suc, Bool, Option, List, length}
-use Rattle.exchange_model.specs.Exchange.{Speech}
-use Rattle.segment_model.specs.Slaves.{Datagram}
-use Rattle.life_model.specs.Lives.{Spot}
+use Rattle.life_runs.specs.of_exchange_model.Exchange.{Speech}
+use Rattle.life_runs.specs.of_segment_model.Slaves.{Datagram}
+use Rattle.life_runs.specs.of_life_model.Lives.{Spot}
 use Rattle.run_frames.specs.Begins.{AllNew}
 use Rattle.run_frames.specs.Brings.{AllBring}
 use Rattle.run_frames.specs.Clocks.{Clocked, repair_of, still_behind}

@@ -1,21 +1,21 @@
 -- WHAT BECAME OF THE SCRIPTED SERVICES OF A SLAVE: as its life has it, and as it is noted.
 use Rattle.std.specs.Prelude.{◌≡◌, ◌⊎◌, ◌<◌, ◌&&◌, ℕ, suc, nat_lt, nat_le, Bool, true, false, is_some, if◌then◌else◌, Option, Some, None, List, [], ◌∷◌, ◌++◌, map, length, ⊤}
 use Rattle.std.specs.List.{All}
-use Rattle.life_model.specs.of_exchange_model.Areas.{Areas}
-use Rattle.life_model.specs.of_exchange_model.Rows.{Row}
+use Rattle.life_runs.specs.of_exchange_model.Areas.{Areas}
+use Rattle.life_runs.specs.of_exchange_model.Rows.{Row}
 use Rattle.life_runs.specs.Spans.{is_leaving, is_open}
-use Rattle.life_model.specs.Lives.{Era, Life, Stand, Opening, returns_to_init, new_side}
+use Rattle.life_runs.specs.of_life_model.Lives.{Era, Life, Stand, Opening, returns_to_init, new_side}
 use Rattle.life_runs.specs.Led.{Leads, Turn}
 use Rattle.life_runs.specs.of_link_mails.Body.{Body}
 use Rattle.life_runs.specs.of_mailbox_mail.declared.outcome.ReplyKind.{ReplyKind}
 use Rattle.life_runs.specs.of_master_duty.Reply.{Reply}
 use Rattle.life_runs.specs.of_master_hand.Spoken.{Asked, handed}
 use Rattle.run_frames.specs.Came.{is_beside}
-use Rattle.life_model.specs.of_segment_model.Ends.{Outcome}
-use Rattle.life_model.specs.of_segment_model.Seats.{Side, rows_of}
-use Rattle.life_model.specs.of_state_model.Stated.{Service}
-use Rattle.life_model.specs.of_state_model.Accounts.{Started, Duty, Change, new_account}
-use Rattle.life_model.specs.of_state_model.Promise.{services_in, mails_in}
+use Rattle.life_runs.specs.of_segment_model.Ends.{Outcome}
+use Rattle.life_runs.specs.of_segment_model.Seats.{Side, rows_of}
+use Rattle.life_runs.specs.of_state_model.Stated.{Service}
+use Rattle.life_runs.specs.of_state_model.Accounts.{Started, Duty, Change, new_account}
+use Rattle.life_runs.specs.of_state_model.Promise.{services_in, mails_in}
 
 -- what a scripted service has come to: one that goes by mails, the answer of its row, with the number of the frame that brought it; a change of state,
 -- its outcome, with that number

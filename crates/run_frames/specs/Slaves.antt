@@ -1,6 +1,6 @@
 -- WHAT CAME INTO HAND of each slave of a plan, behind any frames of a run.
 use Rattle.std.specs.Prelude.{◌≡◌, ℕ, suc, List, [], ◌∷◌, ⊤}
-use Rattle.life_model.specs.Script.{life_started}
+use Rattle.life_runs.specs.of_life_model.Script.{life_started}
 use Rattle.life_runs.specs.First.{lens_of, spot_of, script_for}
 use Rattle.life_runs.specs.Led.{Leads}
 use Rattle.life_runs.specs.of_segment_plan.declared.plan.Scenario.{Scenario}

@@ -1,8 +1,8 @@
 -- HOW MANY STATE SERVICES CAME INTO HAND in a life.
 use Rattle.std.specs.Prelude.{ℕ, ◌+◌, List, [], ◌∷◌}
-use Rattle.life_model.specs.Lives.{Era, Life}
-use Rattle.state_model.specs.Stated.{Service}
-use Rattle.state_model.specs.Accounts.{Started}
+use Rattle.life_runs.specs.of_life_model.Lives.{Era, Life}
+use Rattle.life_runs.specs.of_state_model.Stated.{Service}
+use Rattle.life_runs.specs.of_state_model.Accounts.{Started}
 use Rattle.run_frames.specs.Clocks.{Clocked}
 
 -- a service by mails counts none

@@ -2,20 +2,20 @@
 use Rattle.std.specs.Prelude.{◌≡◌, ◌⊎◌, ◌<◌, ℕ, suc, Bool, true, false, nat_lt, is_some, Option, Some, None, List, [], ◌∷◌, ◌++◌, ⊤}
 use Rattle.std.specs.List.{All}
 use Rattle.life_runs.specs.Spans.{is_open, SameEpochs, EpochsBack, EpochsLost}
-use Rattle.life_model.specs.Lives.{Era, Life, Stand}
+use Rattle.life_runs.specs.of_life_model.Lives.{Era, Life, Stand}
 use Rattle.life_runs.specs.Led.{Comes, Leads, Took, Turn, speech_at}
 use Rattle.life_runs.specs.of_frame_view.View.{Lens}
 use Rattle.life_runs.specs.of_frame_view.Shares.{IsNext}
 use Rattle.life_runs.specs.of_mailbox_mail.declared.mail.Mail.{Mail}
 use Rattle.life_runs.specs.of_segment_plan.declared.service.Service as Plan
 use Rattle.life_runs.specs.of_master_duty.Reply.{Reply}
-use Rattle.life_model.specs.of_segment_model.Ends.{Outcome}
-use Rattle.life_model.specs.of_state_model.Accounts.{Account, Change}
+use Rattle.life_runs.specs.of_segment_model.Ends.{Outcome}
+use Rattle.life_runs.specs.of_state_model.Accounts.{Account, Change}
 use Rattle.run_frames.specs.ScriptAnswers.{Noted, IsNoted, Waits, newest_answer, reply_by}
-use Rattle.life_model.specs.of_exchange_model.Rows.{Row}
+use Rattle.life_runs.specs.of_exchange_model.Rows.{Row}
 use Rattle.life_runs.specs.of_link_mails.Body.{Body}
 use Rattle.life_runs.specs.of_master_hand.Spoken.{Asked, acknowledged, is_followed, is_passed, passed}
-use Rattle.life_model.specs.of_state_model.Stated.{Service}
+use Rattle.life_runs.specs.of_state_model.Stated.{Service}
 
 -- the frames at which a slave was given up
 abbrev pub gives : Leads → List ℕ

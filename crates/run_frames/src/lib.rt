@@ -7,18 +7,18 @@ pub mod script_runs;
 pub mod script_work;
 
 ghost use Rattle.std.specs.Prelude.{◌≡◌, ◌≤◌, ◌<◌, ℕ, suc, ◌+◌, ◌-◌, ◌*◌, Bool, Option, List, length};
-ghost use Rattle.exchange_model.specs.Exchange.{Speech};
+ghost use Rattle.life_runs.specs.of_exchange_model.Exchange.{Speech};
 ghost use Rattle.life_runs.specs.First.{lens_of, first_leads};
 ghost use Rattle.life_runs.specs.Led.{Exchanged, Leads, IsLed};
-ghost use Rattle.link_mails.specs.Body.{Body};
+ghost use Rattle.life_runs.specs.of_link_mails.Body.{Body};
 ghost use Rattle.life_runs.specs.of_master_duty.Reply.{Reply};
 ghost use Rattle.life_runs.specs.of_master_hand.Spoken.{Asked};
-ghost use Rattle.segment_model.specs.Slaves.{Datagram};
+ghost use Rattle.life_runs.specs.of_segment_model.Slaves.{Datagram};
 ghost use Rattle.life_runs.specs.of_segment_plan.Bound.{slowest};
 ghost use Rattle.life_runs.specs.of_segment_plan.Sound.{IsPlan};
 ghost use Rattle.life_runs.specs.of_segment_plan.declared.plan.Scenario.{Scenario};
-ghost use Rattle.life_model.specs.Lives.{Spot};
-ghost use Rattle.life_model.specs.Tally.{Counts, Counted, new_tally, quiet};
+ghost use Rattle.life_runs.specs.of_life_model.Lives.{Spot};
+ghost use Rattle.life_runs.specs.of_life_model.Tally.{Counts, Counted, new_tally, quiet};
 ghost use Rattle.run_frames.specs.Answers.{AllReturned};
 ghost use Rattle.run_frames.specs.Begins.{AllNew};
 ghost use Rattle.run_frames.specs.Brings.{AllBring};
@@ -30,6 +30,9 @@ ghost use Rattle.run_frames.specs.Led.{AreLed, IsTallied};
 ghost use Rattle.run_frames.specs.Runs.{Progress, IsRun};
 ghost use Rattle.run_frames.specs.States.{states_all};
 ghost use Rattle.run_frames.specs.Toured.{IsToured, AskIn, AnswerIn, WaitIn};
+
+pub use life_runs;
+pub use life_runs::{datagrams, frame_view};
 
 /// BEFORE THE FIRST FRAME the tally of a ring is new: each slave is brought up by five accesses and the wait for one step, one slave behind the other.
 pub fn begins_law<M, Q, R>()

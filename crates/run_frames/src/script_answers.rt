@@ -2,8 +2,8 @@
 //! here does nothing, and its contract states a law.
 
 ghost use Rattle.std.specs.Prelude.{ℕ, Bool, List};
-ghost use Rattle.datagrams.specs.Datagram as Raw;
-ghost use Rattle.frame_view.specs.View.{Lens};
+ghost use Rattle.life_runs.specs.of_datagrams.Datagram as Raw;
+ghost use Rattle.life_runs.specs.of_frame_view.View.{Lens};
 ghost use Rattle.life_runs.specs.Led.{Exchanged, Leads, Turn, IsTurn, life_behind};
 ghost use Rattle.run_frames.specs.ScriptAnswers.{turned};
 ghost use Rattle.run_frames.specs.Steps.{IsBefore, TurnsSo, PassesSo, LosesSo};

@@ -2,10 +2,10 @@
 //! states the law.
 
 ghost use Rattle.std.specs.Prelude.{◌≤◌, ℕ, List};
-ghost use Rattle.frame_view.specs.View.{Lens};
-ghost use Rattle.segment_plan.specs.declared.plan.Scenario.{Scenario};
-ghost use Rattle.segment_plan.specs.declared.service.Service.{Service};
-ghost use Rattle.segment_plan.specs.declared.slave.SlaveSpec.{SlaveSpec};
+ghost use Rattle.life_runs.specs.of_frame_view.View.{Lens};
+ghost use Rattle.life_runs.specs.of_segment_plan.declared.plan.Scenario.{Scenario};
+ghost use Rattle.life_runs.specs.of_segment_plan.declared.service.Service.{Service};
+ghost use Rattle.life_runs.specs.of_segment_plan.declared.slave.SlaveSpec.{SlaveSpec};
 ghost use Rattle.life_runs.specs.Led.{Leads, Exchanged, IsLed};
 ghost use Rattle.life_runs.specs.First.{first_leads};
 ghost use Rattle.run_frames.specs.Begun.{work_begun, work_in};

@@ -2,8 +2,8 @@
 use Rattle.std.proofs.Common.{◌≡◌, ℕ, zero, suc, ◌-◌, Bool, true, false, Option, Some, None, List, [], ◌∷◌, map, length, refl, ap, sym, ◌∙◌, arith}
 use Rattle.std.specs.Prelude.{◌&&◌, not, slice_get, slice_set, if◌then◌else◌}
 use Rattle.std.proofs.lemmas.List.{map-append}
-use Rattle.master_node.specs.of_life_runs.Spans.{Span, is_leaving, is_open, opened_at, spans_behind, SameEpochs, EpochsBack, EpochsLost}
-use Rattle.master_node.specs.of_life_runs.Led.{Leads}
+use Rattle.run_frames.specs.of_life_runs.Spans.{Span, is_leaving, is_open, opened_at, spans_behind, SameEpochs, EpochsBack, EpochsLost}
+use Rattle.run_frames.specs.of_life_runs.Led.{Leads}
 use Rattle.run_book.specs.declared.book.Epoch.{Epoch}
 use Rattle.run_notes.specs.Epochs.{span_in, IsMarked}
 use Rattle.run_notes.specs.Notes.{epochs_cleared, last_opened, epochs_opened, epochs_stood}

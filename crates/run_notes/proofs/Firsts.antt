@@ -1,7 +1,7 @@
 -- What stands at the slaves before anything happened.
 use Rattle.std.proofs.Common.{◌≡◌, ℕ, zero, suc, ◌+◌, ◌<◌, List, [], ◌∷◌, length, drop, refl, ap, sym, ◌∙◌, arith}
-use Rattle.segment_plan.specs.declared.slave.SlaveSpec.{SlaveSpec}
-use Rattle.segment_plan.specs.declared.service.Service.{Service}
+use Rattle.run_book.specs.of_segment_plan.declared.slave.SlaveSpec.{SlaveSpec}
+use Rattle.run_book.specs.of_segment_plan.declared.service.Service.{Service}
 use Rattle.run_notes.specs.Notes.{new_notes}
 use Rattle.run_notes.specs.Slaves.{scripted, first_notes}
 

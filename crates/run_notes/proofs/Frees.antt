@@ -1,12 +1,12 @@
 -- Of a slave of which a packet, or a mail that is passed on, came into hand nothing is awaited.
 use Rattle.std.proofs.Common.{◌≡◌, inl, inr, ℕ, zero, suc, true, false, List, [], ◌∷◌, ◌++◌, refl, sym, ap, ◌∙◌, subst}
-use Rattle.master_node.specs.declared.event.Event.{Event}
-use Rattle.master_node.specs.declared.event.Origin.TheVariants.{Script, Forward, Gateway}
-use Rattle.master_node.specs.of_life_runs.Led.{Leads}
-use Rattle.master_node.specs.of_life_runs.Spans.{is_open}
-use Rattle.master_node.specs.of_master_duty.of_state_model.Stated.{Service}
-use Rattle.master_node.specs.of_master_hand.Spoken.{Asked}
-use Rattle.master_node.specs.of_state_model.Accounts.{Started}
+use Rattle.run_book.specs.of_master_node.declared.event.Event.{Event}
+use Rattle.run_book.specs.of_master_node.declared.event.Origin.TheVariants.{Script, Forward, Gateway}
+use Rattle.run_frames.specs.of_life_runs.Led.{Leads}
+use Rattle.run_frames.specs.of_life_runs.Spans.{is_open}
+use Rattle.run_frames.specs.of_state_model.Stated.{Service}
+use Rattle.run_frames.specs.of_master_hand.Spoken.{Asked}
+use Rattle.run_frames.specs.of_state_model.Accounts.{Started}
 use Rattle.run_notes.specs.Packets.{AllBeside, AllFree, BesideAt, BesideFor, CameBeside, FreeAt, FreeFor}
 use Rattle.run_notes.specs.Reports.{AllReport, Reports, waits_of}
 use Rattle.run_notes.specs.declared.notes.Awaited.{Awaited}

@@ -1,17 +1,16 @@
 -- What is noted of give-ups, slave by slave.
 use Rattle.std.proofs.Common.{◌≡◌, ◌≤◌, ◌<◌, ℕ, zero, suc, Bool, true, false, Some, List, [], ◌∷◌, ◌++◌, map, length, get_or, refl, ap, sym, ◌∙◌, subst, arith}
 use Rattle.std.specs.Prelude.{nat_lt, if◌then◌else◌, IfSome, slice_get, slice_set, slice_index_or}
-use Rattle.master_node.specs.of_life_runs.Led.{Leads}
-use Rattle.master_node.specs.Wants.{gave_of, IsCounted, AllCounted}
+use Rattle.run_frames.specs.of_life_runs.Led.{Leads}
+use Rattle.run_book.specs.of_master_node.Wants.{gave_of, IsCounted, AllCounted}
 use Rattle.run_notes.specs.declared.notes.Notes.{Notes}
-use Rattle.run_notes.specs.Slaves.{gaves_noted}
-use Rattle.master_node.specs.Shows.{lived_of}
-use Rattle.master_node.specs.Told.{HasLives}
-use Rattle.master_node.specs.declared.node.MasterNode.{MasterNode}
-use Rattle.segment_ring.specs.declared.wire.Fate.{Fate}
-use Rattle.segment_ring.specs.declared.wire.Fate.TheVariants.{Pass, Lost}
+use Rattle.run_notes.specs.Slaves.{gaves_noted, gave_at, gaves_behind, GaveBy, SameSlaves}
+use Rattle.run_book.specs.of_master_node.Shows.{lived_of}
+use Rattle.run_book.specs.of_master_node.Told.{HasLives}
+use Rattle.run_book.specs.of_master_node.declared.node.MasterNode.{MasterNode}
+use Rattle.run_frames.specs.of_segment_ring.declared.wire.Fate.{Fate}
+use Rattle.run_frames.specs.of_segment_ring.declared.wire.Fate.TheVariants.{Pass, Lost}
 use Rattle.run_notes.specs.declared.standing.Log.{Log}
-use Rattle.run_notes.specs.Slaves.{gave_at, gaves_behind, GaveBy, SameSlaves}
 
 -- this frame more, where a slave was given up more often than before
 abbrev pub with_more : ℕ → List ℕ → List ℕ → List ℕ

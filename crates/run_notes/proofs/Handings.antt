@@ -3,12 +3,12 @@ use Rattle.std.proofs.Common.{◌≡◌, ◌==◌, ◌<◌, ◌≤◌, ◌+◌, 
 use Rattle.std.specs.Prelude.{if◌then◌else◌, slice_get, slice_set, slice_index_or}
 use Rattle.std.proofs.lemmas.Bool.{eq-eqb, eqb-true}
 use Rattle.std.proofs.lemmas.List.{take_all}
-use Rattle.mailbox_mail.specs.declared.outcome.ReplyKind.{ReplyKind}
-use Rattle.master_node.specs.declared.changed.Changed.{Changed}
-use Rattle.master_node.specs.declared.event.Event.{Event}
-use Rattle.master_node.specs.declared.event.Origin.{Origin}
-use Rattle.master_node.specs.declared.event.Origin.TheVariants.{Script, Forward, Gateway}
-use Rattle.master_node.specs.declared.told.Told.{Told}
+use Rattle.run_frames.specs.of_mailbox_mail.declared.outcome.ReplyKind.{ReplyKind}
+use Rattle.run_book.specs.of_master_node.declared.changed.Changed.{Changed}
+use Rattle.run_book.specs.of_master_node.declared.event.Event.{Event}
+use Rattle.run_book.specs.of_master_node.declared.event.Origin.{Origin}
+use Rattle.run_book.specs.of_master_node.declared.event.Origin.TheVariants.{Script, Forward, Gateway}
+use Rattle.run_book.specs.of_master_node.declared.told.Told.{Told}
 use Rattle.run_book.specs.declared.book.Answer.TheVariants.{InDoubt}
 use Rattle.run_notes.specs.Handed.{AllDoubts, Doubts, EachNotes, GoesBy, MailsBehind, MailsGo, MailsStay, kinds_in, kinds_of, services_noted, services_of, told_only}
 use Rattle.run_notes.specs.Notes.{answered, answers_doubted, awaits_nothing, began, began_script, began_where, change_noted, changed_noted, stood, told_noted}

@@ -3,14 +3,14 @@ use Rattle.std.proofs.Common.{◌≡◌, ◌<◌, ◌+◌, ℕ, zero, suc, Optio
 use Rattle.std.specs.Prelude.{IfSome, slice_get, slice_set, slice_index_or}
 use Rattle.run_book.proofs.Heards as Heards
 use Rattle.run_book.specs.Heard.{AllNoted, brought_of, emergencies_of, heard_none, heard_to}
-use Rattle.master_node.specs.of_life_runs.First.{leads_from}
-use Rattle.master_node.specs.of_life_runs.Led.{Turn}
-use Rattle.slave_node.specs.of_link_mails.Body.{Body}
-use Rattle.master_node.specs.of_master_hand.Brings.{as_list, emergencies_in}
-use Rattle.master_node.proofs.Lists.{both_length}
-use Rattle.master_node.specs.Brought.{StopBrought, HasBrought}
-use Rattle.master_node.specs.declared.node.MasterNode.{MasterNode}
-use Rattle.master_node.specs.of_master_tour.Brings.{accepted_in}
+use Rattle.run_frames.specs.of_life_runs.First.{leads_from}
+use Rattle.run_frames.specs.of_life_runs.Led.{Turn}
+use Rattle.run_book.specs.of_link_mails.Body.{Body}
+use Rattle.run_frames.specs.of_master_hand.Brings.{as_list, emergencies_in}
+use Rattle.run_book.proofs.of_master_node.Lists.{both_length}
+use Rattle.run_book.specs.of_master_node.Brought.{StopBrought, HasBrought}
+use Rattle.run_book.specs.of_master_node.declared.node.MasterNode.{MasterNode}
+use Rattle.run_frames.specs.of_master_tour.Brings.{accepted_in}
 use Rattle.run_book.specs.declared.book.Emergency.{Emergency}
 use Rattle.run_notes.specs.Heard as Spec
 use Rattle.run_notes.specs.Heard.{emergencies_noted, HeardNext, HeardBy}
@@ -18,13 +18,13 @@ use Rattle.run_notes.specs.Notes.{alarmed}
 use Rattle.run_notes.specs.Slaves.{first_notes, slave_rows}
 use Rattle.run_notes.specs.declared.notes.Notes.{Notes}
 use Rattle.run_notes.specs.declared.standing.Log.{Log}
-use Rattle.master_node.specs.of_segment_model.Slaves.{Datagram}
-use Rattle.segment_plan.specs.declared.service.Service as Plan
-use Rattle.segment_plan.specs.declared.slave.SlaveSpec.{SlaveSpec}
-use Rattle.segment_ring.specs.declared.wire.Fate.{Fate}
-use Rattle.segment_ring.specs.declared.wire.Fate.TheVariants.{Pass, Lost}
+use Rattle.run_frames.specs.of_segment_model.Slaves.{Datagram}
+use Rattle.run_book.specs.of_segment_plan.declared.service.Service as Plan
+use Rattle.run_book.specs.of_segment_plan.declared.slave.SlaveSpec.{SlaveSpec}
+use Rattle.run_frames.specs.of_segment_ring.declared.wire.Fate.{Fate}
+use Rattle.run_frames.specs.of_segment_ring.declared.wire.Fate.TheVariants.{Pass, Lost}
 use Rattle.run_book.specs.of_slave_server.declared.server.SlaveServer.{SlaveServer}
-use Rattle.slave_node.specs.Node.{Node}
+use Rattle.run_book.specs.of_slave_node.Node.{Node}
 
 -- BEFORE THE FIRST FRAME
 pub first_heard : (services : List (ℕ × Plan.Service)) (number place : ℕ) (ss : List SlaveSpec) → AllNoted (heard_none (leads_from services place ss)) (emergencies_noted (first_notes services number ss))

@@ -1,5 +1,4 @@
 pub use Rattle.run_book.proofs as of_run_book
-pub use Rattle.run_frames.proofs as of_run_frames
 pub mod Counted
 pub mod Epochs
 pub mod Firsts

@@ -3,16 +3,16 @@ use Rattle.std.proofs.Common.{◌≡◌, ◌<◌, ◌≤◌, ◌+◌, ◌==◌, 
 use Rattle.std.specs.Prelude.{if◌then◌else◌, slice_set, slice_index_or, ⊤}
 use Rattle.std.proofs.lemmas.Bool.{eq-eqb, eqb-true}
 use Rattle.std.proofs.lemmas.List.{take_all}
-use Rattle.master_node.specs.declared.event.Event.{Event}
-use Rattle.master_node.specs.declared.event.Origin.{Origin}
-use Rattle.master_node.specs.declared.event.Origin.TheVariants.{Script, Forward, Gateway}
+use Rattle.run_book.specs.of_master_node.declared.event.Event.{Event}
+use Rattle.run_book.specs.of_master_node.declared.event.Origin.{Origin}
+use Rattle.run_book.specs.of_master_node.declared.event.Origin.TheVariants.{Script, Forward, Gateway}
 use Rattle.run_book.specs.declared.book.Begun.{Begun}
 use Rattle.run_notes.specs.Notes.{awaits_nothing, began, began_script}
 use Rattle.run_notes.specs.Packets.{AllFree, FreeAt, FreeBy, FreeFor, NotesBeside, SameBeside, StayFree, begun_in, begun_noted, beside_at, beside_row, mail_row, mails_at, noted_began, packet_row, packets_at, rows_at, rows_by, rows_of, rows_with}
 use Rattle.run_notes.specs.Slaves.{slave_rows}
 use Rattle.run_notes.specs.declared.notes.Awaited.{Awaited}
 use Rattle.run_notes.specs.declared.notes.Notes.{Notes}
-use Rattle.slave_node.specs.Node.{Node}
+use Rattle.run_book.specs.of_slave_node.Node.{Node}
 use Rattle.run_book.specs.of_slave_server.declared.server.SlaveServer.{SlaveServer}
 
 -- where the rows of a slave stay, those of all do

@@ -2,35 +2,35 @@
 use Rattle.std.proofs.Common.{◌≡◌, ◌⊎◌, inl, inr, ◌<◌, ◌≤◌, ℕ, zero, suc, Bool, true, false, Option, Some, None, List, [], ◌∷◌, ◌++◌, length, length-append, get_or, refl, ap, sym, ◌∙◌, subst, arith}
 use Rattle.std.specs.Prelude.{IfSome, slice_get, slice_set, slice_index_or, nat_lt, is_some, if◌then◌else◌}
 use Rattle.std.proofs.lemmas.Bool.{ltb-true, ltb-false, lt-ltb, le-ltb}
-use Rattle.segment_plan.specs.of_exchange_model.Rows.{Row}
-use Rattle.master_node.specs.of_frame_view.Shares.{AllBoth}
-use Rattle.master_node.specs.of_life_model.Lives.{Stand}
-use Rattle.master_node.specs.of_life_runs.Led.{Leads}
+use Rattle.run_frames.specs.of_exchange_model.Rows.{Row}
+use Rattle.run_frames.specs.of_frame_view.Shares.{AllBoth}
+use Rattle.run_frames.specs.of_life_model.Lives.{Stand}
+use Rattle.run_frames.specs.of_life_runs.Led.{Leads}
 use Rattle.run_notes.specs.Reports.{noted_in, waits_of, Reports, AllReport, KeepsReports, ReportsTo, IsBooked}
-use Rattle.slave_node.specs.of_link_mails.Body.{Body}
-use Rattle.master_node.specs.of_master_duty.Reply.{Reply}
-use Rattle.mailbox_mail.specs.declared.outcome.ReplyKind.{ReplyKind}
-use Rattle.master_node.specs.of_master_hand.Spoken.{Asked, is_passed}
-use Rattle.master_node.specs.Changed.{TellsChange}
-use Rattle.master_node.specs.Told.{Tells}
-use Rattle.master_node.specs.Wants.{gave_of, IsCounted, AllCounted}
-use Rattle.master_node.specs.declared.changed.Changed.{Changed}
-use Rattle.master_node.specs.declared.told.Told.{Told}
-use Rattle.master_node.specs.of_master_side.Shown.{HasOver}
+use Rattle.run_book.specs.of_link_mails.Body.{Body}
+use Rattle.run_frames.specs.of_master_duty.Reply.{Reply}
+use Rattle.run_frames.specs.of_mailbox_mail.declared.outcome.ReplyKind.{ReplyKind}
+use Rattle.run_frames.specs.of_master_hand.Spoken.{Asked, is_passed}
+use Rattle.run_book.specs.of_master_node.Changed.{TellsChange}
+use Rattle.run_book.specs.of_master_node.Told.{Tells}
+use Rattle.run_book.specs.of_master_node.Wants.{gave_of, IsCounted, AllCounted}
+use Rattle.run_book.specs.of_master_node.declared.changed.Changed.{Changed}
+use Rattle.run_book.specs.of_master_node.declared.told.Told.{Told}
+use Rattle.run_frames.specs.of_master_side.Shown.{HasOver}
 use Rattle.run_notes.specs.Notes.{began_script, answered, told_noted, changed_noted, change_noted, given_up, stood}
 use Rattle.run_notes.specs.Slaves.{slave_rows}
-use Rattle.master_node.specs.of_life_runs.Spans.{is_leaving, is_open}
+use Rattle.run_frames.specs.of_life_runs.Spans.{is_leaving, is_open}
 use Rattle.run_notes.specs.Epochs.{HasEpochs}
 use Rattle.run_notes.specs.Unsent.{IsSpent}
 use Rattle.run_frames.specs.ScriptAnswers.{IsNoted, Waits, now_answer}
 use Rattle.run_frames.specs.Steps.{EndedSo, TurnsSo, PassesSo, LosesSo}
-use Rattle.master_node.specs.of_segment_model.Ends.{Outcome}
-use Rattle.master_node.specs.of_state_model.Accounts.{Account, Change}
+use Rattle.run_frames.specs.of_segment_model.Ends.{Outcome}
+use Rattle.run_frames.specs.of_state_model.Accounts.{Account, Change}
 use Rattle.run_notes.specs.declared.notes.Awaited.{Awaited}
 use Rattle.run_notes.specs.declared.notes.Notes.{Notes}
 use Rattle.run_notes.proofs.Reports.{turn_same, turn_more, pass_still, pass_waits, pass_goes, pass_replied, pass_changed, pass_some, pass_anew, lost_still, lost_given, end_noted, end_spent, end_epochs}
 use Rattle.run_book.specs.of_slave_server.declared.server.SlaveServer.{SlaveServer}
-use Rattle.slave_node.specs.Node.{Node}
+use Rattle.run_book.specs.of_slave_node.Node.{Node}
 
 abbrev Held : Type 0
 Held = Row Body Asked Reply

@@ -2,13 +2,13 @@
 use Rattle.std.proofs.Common.{◌≡◌, ◌⊎◌, inl, inr, ℕ, zero, suc, ◌-◌, Bool, true, false, Option, Some, None, List, [], ◌∷◌, ◌++◌, length, length-append, refl, ap, sym, ◌∙◌, subst, arith, append_assoc, append-nil, replicate}
 use Rattle.std.proofs.lemmas.Bool.{ltb-true}
 use Rattle.std.specs.Prelude.{◌&&◌, nat_lt, is_some, if◌then◌else◌}
-use Rattle.master_node.specs.of_life_model.Lives.{Stand}
-use Rattle.master_node.specs.of_life_runs.Led.{Leads}
-use Rattle.mailbox_mail.specs.declared.outcome.ReplyKind.{ReplyKind}
-use Rattle.master_node.specs.of_master_duty.Reply.{Reply}
-use Rattle.master_node.specs.Wants.{gave_of}
-use Rattle.master_node.specs.declared.event.Origin.{Origin}
-use Rattle.master_node.specs.declared.event.Origin.TheVariants.{Script, Forward, Gateway}
+use Rattle.run_frames.specs.of_life_model.Lives.{Stand}
+use Rattle.run_frames.specs.of_life_runs.Led.{Leads}
+use Rattle.run_frames.specs.of_mailbox_mail.declared.outcome.ReplyKind.{ReplyKind}
+use Rattle.run_frames.specs.of_master_duty.Reply.{Reply}
+use Rattle.run_book.specs.of_master_node.Wants.{gave_of}
+use Rattle.run_book.specs.of_master_node.declared.event.Origin.{Origin}
+use Rattle.run_book.specs.of_master_node.declared.event.Origin.TheVariants.{Script, Forward, Gateway}
 use Rattle.run_book.specs.declared.book.Answer.{Answer}
 use Rattle.run_book.specs.declared.book.Answer.TheVariants.{Replied, InDoubt, NotSent}
 use Rattle.run_book.specs.declared.book.Begun.{Begun}
@@ -16,7 +16,7 @@ use Rattle.run_book.specs.declared.book.Reply.{Reply as Booked}
 use Rattle.run_notes.specs.Notes.{answers_doubted, awaits_nothing, awaited_by, began, began_where, began_script, answered, answered_where, given_up, epochs_stood, stood, ended}
 use Rattle.run_notes.specs.Reports.{reply_in, noted_of, noted_in, waits_of, unanswered, LastScript, Reports}
 use Rattle.run_notes.specs.Slaves.{slave_row}
-use Rattle.master_node.specs.of_life_runs.Spans.{is_leaving, is_open}
+use Rattle.run_frames.specs.of_life_runs.Spans.{is_leaving, is_open}
 use Rattle.run_notes.specs.Epochs.{IsMarked, HasEpochs}
 use Rattle.run_notes.proofs.Epochs.{marked_turn, marked_back, marked_lost, marked_given}
 use Rattle.run_notes.specs.Unsent.{first_numbers, IsNumbered, IsSpent}
@@ -25,9 +25,9 @@ use Rattle.run_notes.specs.declared.notes.Awaited.{Awaited}
 use Rattle.run_notes.specs.declared.notes.Notes.{Notes}
 use Rattle.run_frames.specs.ScriptAnswers.{Noted, AllNoted, IsNoted, Waits, life_scripted, newest_answer, reply_by}
 use Rattle.run_frames.specs.Steps.{EndedSo, TurnsSo, PassesSo, LosesSo, account_of, awaited, with_begun, with_reply}
-use Rattle.master_node.specs.of_segment_model.Ends.{Outcome}
+use Rattle.run_frames.specs.of_segment_model.Ends.{Outcome}
 use Rattle.run_book.specs.of_slave_server.declared.server.SlaveServer.{SlaveServer}
-use Rattle.slave_node.specs.Node.{Node}
+use Rattle.run_book.specs.of_slave_node.Node.{Node}
 
 -- ONE ANSWER MORE, which is no reply
 of_more : (o : Origin) (frame : ℕ) (reply : Option (Reply × ℕ)) (ns ms : List Noted) → noted_of o frame reply (ns ++ ms) ≡ noted_of o frame reply ns ++ ms

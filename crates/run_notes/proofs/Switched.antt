@@ -5,14 +5,14 @@ use Rattle.std.proofs.lemmas.List.{map-append, length-map, take-append-drop, tak
 use Rattle.std.proofs.lemmas.List.Elements.{All-nil, All-cons, All-head, All-tail, All-get_or}
 use Rattle.std.proofs.Math.Seq.{take-suc}
 use Rattle.arrayvec.specs.ArrayVec.{ArrayVec}
-use Rattle.eoe_switch.specs.Switch.{switched}
-use Rattle.master_node.proofs.Happenings.{events_push, handed_push}
-use Rattle.master_node.specs.Happened.{events_of, handed_by, handed_in, arrivals_at, NoneWaits, HasHappened, HappensSo}
-use Rattle.master_node.specs.declared.happened.Happening.{Happening}
-use Rattle.master_node.specs.declared.lan.Lan.{Lan}
+use Rattle.run_book.specs.of_eoe_switch.Switch.{switched}
+use Rattle.run_book.proofs.of_master_node.Happenings.{events_push, handed_push}
+use Rattle.run_book.specs.of_master_node.Happened.{events_of, handed_by, handed_in, arrivals_at, NoneWaits, HasHappened, HappensSo}
+use Rattle.run_book.specs.of_master_node.declared.happened.Happening.{Happening}
+use Rattle.run_book.specs.of_master_node.declared.lan.Lan.{Lan}
 use Rattle.run_book.specs.Ports.{ports_of, IsAtPort}
 use Rattle.run_book.specs.declared.book.Book.{Book}
-use Rattle.segment_plan.specs.declared.plan.Scenario.{Scenario}
+use Rattle.run_book.specs.of_segment_plan.declared.plan.Scenario.{Scenario}
 use Rattle.run_notes.specs.declared.standing.Log.{Log}
 use Rattle.run_notes.specs.Slaves.{SameSlaves}
 use Rattle.run_notes.specs.Switched.{octets_of, Stamp, rows_of, numbers_of, stamp, stamped, NeverFall, HasNoted, NotesSwitch, SameSwitch, IsSwitched, HasPackets}

@@ -3,11 +3,11 @@ use Rattle.std.proofs.Common.{◌≡◌, ◌<◌, ◌≤◌, ℕ, suc, ◌-◌, 
 use Rattle.std.specs.Prelude.{◌&&◌, not, nat_le, if◌then◌else◌, Option, Some, None, slice_get}
 use Rattle.std.proofs.lemmas.Bool.{le-leb, lt-leb}
 use Rattle.std.proofs.lemmas.List.{length-map, map-append}
-use Rattle.master_node.specs.declared.changed.Changed.{Changed}
-use Rattle.master_node.specs.declared.event.Origin.{Origin}
-use Rattle.master_node.specs.declared.event.Origin.TheVariants.{Script, Forward, Gateway}
-use Rattle.master_node.specs.declared.told.Told.{Told}
-use Rattle.mailbox_mail.specs.declared.outcome.ReplyKind.{ReplyKind}
+use Rattle.run_book.specs.of_master_node.declared.changed.Changed.{Changed}
+use Rattle.run_book.specs.of_master_node.declared.event.Origin.{Origin}
+use Rattle.run_book.specs.of_master_node.declared.event.Origin.TheVariants.{Script, Forward, Gateway}
+use Rattle.run_book.specs.of_master_node.declared.told.Told.{Told}
+use Rattle.run_frames.specs.of_mailbox_mail.declared.outcome.ReplyKind.{ReplyKind}
 use Rattle.run_book.specs.declared.book.Answer.{Answer}
 use Rattle.run_book.specs.declared.book.Answer.TheVariants.{Replied, InDoubt}
 use Rattle.run_book.specs.declared.book.Begun.{Begun}
@@ -23,7 +23,7 @@ use Rattle.run_notes.specs.Times.{AllBelow, Goes, IsTimed, Time, behind, between
 use Rattle.run_notes.specs.declared.notes.Awaited.{Awaited}
 use Rattle.run_notes.specs.declared.notes.Notes.{Notes}
 use Rattle.run_notes.proofs.Counted.{below_push, below_up, count_more, counted_opened, counted_push, counted_same, counted_up, gave_none, newest_answered, newest_gave, newest_given, newest_later, newest_more, newest_next, newest_push, rises_answer, rises_frames, rises_more, rises_push, rises_up, up_to_all, up_to_push}
-use Rattle.slave_node.specs.Node.{Node}
+use Rattle.run_book.specs.of_slave_node.Node.{Node}
 use Rattle.run_book.specs.of_slave_server.declared.server.SlaveServer.{SlaveServer}
 
 never_awaits : {P : Type 0} → true ≡ false → P

@@ -3,10 +3,10 @@ use Rattle.std.proofs.Common.{◌≡◌, ◌⊎◌, inl, inr, ◌==◌, ◌<◌,
 use Rattle.std.specs.Prelude.{nat_lt, if◌then◌else◌, Option, Some, None, slice_get, slice_set, slice_index_or}
 use Rattle.std.proofs.lemmas.Bool.{lt-ltb, le-ltb, ltb-true, ltb-false, eqb-true, eq-eqb}
 use Rattle.std.proofs.lemmas.List.Elements.{All-get_or, All-cons, All-head, All-nil}
-use Rattle.eoe_switch.specs.declared.switching.SwitchEvent.{SwitchEvent}
-use Rattle.eoe_switch.specs.declared.switching.SwitchEvent.TheVariants.{Arrive, Begun, Down}
-use Rattle.master_node.specs.Made.{AreOfMaking, IsOfMaking}
-use Rattle.master_node.specs.declared.happened.Happening.{Happening}
+use Rattle.run_book.specs.of_eoe_switch.declared.switching.SwitchEvent.{SwitchEvent}
+use Rattle.run_book.specs.of_eoe_switch.declared.switching.SwitchEvent.TheVariants.{Arrive, Begun, Down}
+use Rattle.run_book.specs.of_master_node.Made.{AreOfMaking, IsOfMaking}
+use Rattle.run_book.specs.of_master_node.declared.happened.Happening.{Happening}
 use Rattle.run_book.specs.declared.book.Book.{Book}
 use Rattle.run_book.specs.declared.book.SlaveBook.{SlaveBook}
 use Rattle.run_notes.specs.Counted.{AreDated, IsDated, comes_from, is_from, is_there, numbers_from}
@@ -18,9 +18,9 @@ use Rattle.run_notes.specs.declared.notes.Notes.{Notes}
 use Rattle.run_notes.specs.declared.standing.Log.{Log}
 use Rattle.run_notes.proofs.Handings.{each_set, none_got}
 use Rattle.run_notes.proofs.Times.{time_back, time_first, time_made, time_over, time_received, time_row, time_same}
-use Rattle.segment_plan.specs.declared.service.Service.{Service}
-use Rattle.segment_plan.specs.declared.slave.SlaveSpec.{SlaveSpec}
-use Rattle.slave_node.specs.Node.{Node}
+use Rattle.run_book.specs.of_segment_plan.declared.service.Service.{Service}
+use Rattle.run_book.specs.of_segment_plan.declared.slave.SlaveSpec.{SlaveSpec}
+use Rattle.run_book.specs.of_slave_node.Node.{Node}
 use Rattle.run_book.specs.of_slave_server.declared.server.SlaveServer.{SlaveServer}
 
 -- ---- one slave

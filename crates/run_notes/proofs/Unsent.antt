@@ -2,15 +2,15 @@
 use Rattle.std.proofs.Common.{◌≡◌, ℕ, suc, ◌+◌, ◌-◌, Bool, true, false, List, [], ◌∷◌, ◌++◌, length, refl, ap, sym, ◌∙◌, arith, append-nil}
 use Rattle.std.specs.Prelude.{◌==◌, if◌then◌else◌, ⊤}
 use Rattle.std.proofs.lemmas.List.Recursion.{is_count_by}
-use Rattle.master_node.specs.of_life_runs.First.{script_for}
-use Rattle.master_node.specs.declared.event.Origin.{Origin}
-use Rattle.master_node.specs.declared.event.Origin.TheVariants.{Script, Forward, Gateway}
+use Rattle.run_frames.specs.of_life_runs.First.{script_for}
+use Rattle.run_book.specs.of_master_node.declared.event.Origin.{Origin}
+use Rattle.run_book.specs.of_master_node.declared.event.Origin.TheVariants.{Script, Forward, Gateway}
 use Rattle.run_book.specs.declared.book.Answer.{Answer}
 use Rattle.run_book.specs.declared.book.Begun.{Begun}
 use Rattle.run_notes.specs.Notes.{left_behind}
 use Rattle.run_notes.specs.Slaves.{scripted}
 use Rattle.run_notes.specs.Unsent.{with_number, numbers_in, WasSent, AllSent, IsNumbered}
-use Rattle.segment_plan.specs.declared.service.Service as Plan
+use Rattle.run_book.specs.of_segment_plan.declared.service.Service as Plan
 
 -- ONE ANSWER MORE
 pub sent_more : (answers : List Answer) (answer : Answer) → AllSent answers → WasSent answer → AllSent (answers ++ answer ∷ [])

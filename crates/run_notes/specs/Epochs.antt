@@ -1,7 +1,7 @@
 -- WHAT A BOOK SAYS OF A SLAVE'S EPOCHS, beside its life.
 use Rattle.std.specs.Prelude.{◌≡◌, Bool, List, map}
-use Rattle.master_node.specs.of_life_runs.Spans.{Span, spans_of, is_leaving, is_open}
-use Rattle.master_node.specs.of_life_runs.Led.{Leads}
+use Rattle.run_frames.specs.of_life_runs.Spans.{Span, spans_of, is_leaving, is_open}
+use Rattle.run_frames.specs.of_life_runs.Led.{Leads}
 use Rattle.run_book.specs.declared.book.Epoch.{Epoch}
 use Rattle.run_book.specs.declared.book.SlaveBook.{SlaveBook}
 

@@ -1,9 +1,9 @@
 -- THE ANSWERS OF ROWS BESIDE THE SCRIPTS, of packets and of mails that are passed on: as they are noted, as a book has them, and what a frame leaves of them.
 use Rattle.std.specs.Prelude.{◌≡◌, ◌≤◌, ◌+◌, ◌==◌, ◌&&◌, ℕ, Bool, true, false, if◌then◌else◌, Option, Some, None, List, [], ◌∷◌, ◌++◌, length, map, slice_get, ⊤}
-use Rattle.mailbox_mail.specs.declared.outcome.ReplyKind.{ReplyKind}
-use Rattle.master_node.specs.declared.event.Event.{Event}
-use Rattle.master_node.specs.declared.event.Origin.{Origin}
-use Rattle.master_node.specs.declared.event.Origin.TheVariants.{Script, Forward, Gateway}
+use Rattle.run_frames.specs.of_mailbox_mail.declared.outcome.ReplyKind.{ReplyKind}
+use Rattle.run_book.specs.of_master_node.declared.event.Event.{Event}
+use Rattle.run_book.specs.of_master_node.declared.event.Origin.{Origin}
+use Rattle.run_book.specs.of_master_node.declared.event.Origin.TheVariants.{Script, Forward, Gateway}
 use Rattle.run_book.specs.declared.book.Answer.{Answer}
 use Rattle.run_book.specs.declared.book.Answer.TheVariants.{Replied, InDoubt}
 use Rattle.run_book.specs.declared.book.Begun.{Begun}

@@ -1,17 +1,17 @@
 -- WHAT IS NOTED OF A SLAVE'S EMERGENCIES, beside the mails that its life accepted.
 use Rattle.std.specs.Prelude.{◌≡◌, ℕ, suc, List, map}
 use Rattle.run_book.specs.Heard.{Accepted, AllNoted, brought_of, heard_on, heard_to}
-use Rattle.master_node.specs.of_life_runs.Led.{Turn}
-use Rattle.master_node.specs.Brought.{HasBrought}
-use Rattle.master_node.specs.declared.node.MasterNode.{MasterNode}
+use Rattle.run_frames.specs.of_life_runs.Led.{Turn}
+use Rattle.run_book.specs.of_master_node.Brought.{HasBrought}
+use Rattle.run_book.specs.of_master_node.declared.node.MasterNode.{MasterNode}
 use Rattle.run_book.specs.declared.book.Emergency.{Emergency}
 use Rattle.run_book.specs.declared.book.SlaveBook.{SlaveBook}
 use Rattle.run_notes.specs.declared.notes.Notes.{Notes}
 use Rattle.run_notes.specs.declared.standing.Log.{Log}
-use Rattle.master_node.specs.of_segment_model.Slaves.{Datagram}
-use Rattle.slave_node.specs.of_link_mails.Body.{Body}
-use Rattle.segment_ring.specs.declared.wire.Fate.{Fate}
-use Rattle.segment_ring.specs.declared.wire.Fate.TheVariants.{Pass, Lost}
+use Rattle.run_frames.specs.of_segment_model.Slaves.{Datagram}
+use Rattle.run_book.specs.of_link_mails.Body.{Body}
+use Rattle.run_frames.specs.of_segment_ring.declared.wire.Fate.{Fate}
+use Rattle.run_frames.specs.of_segment_ring.declared.wire.Fate.TheVariants.{Pass, Lost}
 
 -- the emergencies of each slave: by what is noted of them, by the rows of a book
 abbrev pub emergencies_noted : List Notes → List (List Emergency)

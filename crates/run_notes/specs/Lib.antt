@@ -1,6 +1,4 @@
 pub use Rattle.run_book.specs as of_run_book
-pub use Rattle.eoe_switch.specs as of_eoe_switch
-pub use Rattle.run_frames.specs as of_run_frames
 pub mod Notes
 pub mod Unsent
 pub mod Rising

@@ -1,10 +1,10 @@
 -- What became of a slave so far, one event after the other.
 use Rattle.std.specs.Prelude.{ℕ, suc, ◌-◌, ◌&&◌, not, Bool, true, false, if◌then◌else◌, nat_lt, List, [], ◌∷◌, ◌++◌, length, replicate, slice_get, slice_set, Option, Some, None, is_some}
-use Rattle.master_node.specs.declared.event.Origin.{Origin}
-use Rattle.master_node.specs.declared.event.Origin.TheVariants.{Script, Forward, Gateway}
-use Rattle.mailbox_mail.specs.declared.outcome.ReplyKind.{ReplyKind}
-use Rattle.master_node.specs.declared.changed.Changed.{Changed}
-use Rattle.master_node.specs.declared.told.Told.{Told}
+use Rattle.run_book.specs.of_master_node.declared.event.Origin.{Origin}
+use Rattle.run_book.specs.of_master_node.declared.event.Origin.TheVariants.{Script, Forward, Gateway}
+use Rattle.run_frames.specs.of_mailbox_mail.declared.outcome.ReplyKind.{ReplyKind}
+use Rattle.run_book.specs.of_master_node.declared.changed.Changed.{Changed}
+use Rattle.run_book.specs.of_master_node.declared.told.Told.{Told}
 use Rattle.run_book.specs.declared.book.Answer.{Answer}
 use Rattle.run_book.specs.declared.book.Answer.TheVariants.{Replied, InDoubt, NotSent}
 use Rattle.run_book.specs.declared.book.Epoch.{Epoch}

@@ -1,15 +1,15 @@
 -- THE ROWS BESIDE THE SCRIPTS, of packets and of mails that are passed on, that came into hand of slaves: as they are noted and as a book has them.
 use Rattle.std.specs.Prelude.{◌≡◌, ◌<◌, ◌==◌, ℕ, zero, suc, true, if◌then◌else◌, List, [], ◌∷◌, ◌++◌, length, map, IfSome, slice_get, ⊤}
-use Rattle.master_node.specs.Listing.{events_in}
-use Rattle.master_node.specs.declared.event.Event.{Event}
-use Rattle.master_node.specs.declared.event.Origin.{Origin}
-use Rattle.master_node.specs.declared.event.Origin.TheVariants.{Script, Forward, Gateway}
-use Rattle.master_node.specs.declared.node.MasterNode.{MasterNode}
-use Rattle.master_node.specs.of_life_model.Lives.{Stand}
-use Rattle.master_node.specs.of_life_runs.Led.{Leads}
-use Rattle.master_node.specs.of_master_duty.of_state_model.Stated.{Service}
-use Rattle.master_node.specs.of_master_hand.Spoken.{Asked}
-use Rattle.master_node.specs.of_state_model.Accounts.{Started}
+use Rattle.run_book.specs.of_master_node.Listing.{events_in}
+use Rattle.run_book.specs.of_master_node.declared.event.Event.{Event}
+use Rattle.run_book.specs.of_master_node.declared.event.Origin.{Origin}
+use Rattle.run_book.specs.of_master_node.declared.event.Origin.TheVariants.{Script, Forward, Gateway}
+use Rattle.run_book.specs.of_master_node.declared.node.MasterNode.{MasterNode}
+use Rattle.run_frames.specs.of_life_model.Lives.{Stand}
+use Rattle.run_frames.specs.of_life_runs.Led.{Leads}
+use Rattle.run_frames.specs.of_state_model.Stated.{Service}
+use Rattle.run_frames.specs.of_master_hand.Spoken.{Asked}
+use Rattle.run_frames.specs.of_state_model.Accounts.{Started}
 use Rattle.run_book.specs.declared.book.Begun.{Begun}
 use Rattle.run_book.specs.declared.book.SlaveBook.{SlaveBook}
 use Rattle.run_notes.specs.Notes.{began_where}

@@ -1,14 +1,14 @@
 -- WHAT IS NOTED OF A SLAVE'S SERVICES, beside its life.
 use Rattle.std.specs.Prelude.{◌≡◌, ◌+◌, ℕ, zero, suc, Bool, true, false, if◌then◌else◌, Option, Some, None, List, [], ◌∷◌, ◌++◌, length, ⊤}
-use Rattle.master_node.specs.of_frame_view.View.{Lens}
-use Rattle.master_node.specs.of_frame_view.Shares.{AllBoth}
-use Rattle.master_node.specs.of_life_runs.Led.{Leads}
-use Rattle.master_node.specs.of_master_duty.Reply.{Reply}
-use Rattle.master_node.specs.Told.{HasLeads}
-use Rattle.master_node.specs.Wants.{gave_of, AllCounted}
-use Rattle.master_node.specs.declared.event.Origin.{Origin}
-use Rattle.master_node.specs.declared.event.Origin.TheVariants.{Script, Forward, Gateway}
-use Rattle.master_node.specs.declared.node.MasterNode.{MasterNode}
+use Rattle.run_frames.specs.of_frame_view.View.{Lens}
+use Rattle.run_frames.specs.of_frame_view.Shares.{AllBoth}
+use Rattle.run_frames.specs.of_life_runs.Led.{Leads}
+use Rattle.run_frames.specs.of_master_duty.Reply.{Reply}
+use Rattle.run_book.specs.of_master_node.Told.{HasLeads}
+use Rattle.run_book.specs.of_master_node.Wants.{gave_of, AllCounted}
+use Rattle.run_book.specs.of_master_node.declared.event.Origin.{Origin}
+use Rattle.run_book.specs.of_master_node.declared.event.Origin.TheVariants.{Script, Forward, Gateway}
+use Rattle.run_book.specs.of_master_node.declared.node.MasterNode.{MasterNode}
 use Rattle.run_book.specs.declared.book.Answer.{Answer}
 use Rattle.run_book.specs.declared.book.Answer.TheVariants.{Replied, InDoubt, NotSent}
 use Rattle.run_book.specs.declared.book.Begun.{Begun}
@@ -22,8 +22,8 @@ use Rattle.run_notes.specs.Epochs.{IsMarked}
 use Rattle.run_notes.specs.Unsent.{IsNumbered}
 use Rattle.run_frames.specs.ScriptAnswers.{Noted, AllNoted, IsNoted, Waits, life_scripted}
 use Rattle.run_frames.specs.Steps.{TurnsSo, PassesSo, LosesSo}
-use Rattle.segment_ring.specs.declared.wire.Fate.{Fate}
-use Rattle.segment_ring.specs.declared.wire.Fate.TheVariants.{Pass, Lost}
+use Rattle.run_frames.specs.of_segment_ring.declared.wire.Fate.{Fate}
+use Rattle.run_frames.specs.of_segment_ring.declared.wire.Fate.TheVariants.{Pass, Lost}
 
 -- the reply that an answer reports, where it reports one, with its frame
 abbrev pub reply_in : Answer → Option (Reply × ℕ)

@@ -1,8 +1,8 @@
 -- WHAT IS NOTED OF ALL SLAVES of a run: how it begins, what each event leaves of it, and the rows that it gives a book.
 use Rattle.std.specs.Prelude.{◌≡◌, ℕ, zero, suc, map, ◌+◌, ◌==◌, nat_lt, if◌then◌else◌, List, [], ◌∷◌, ◌++◌, length, All, count_by, slice_get}
-use Rattle.segment_plan.specs.declared.service.Service.{Service}
-use Rattle.segment_plan.specs.declared.slave.SlaveSpec.{SlaveSpec}
-use Rattle.slave_node.specs.Node.{Node}
+use Rattle.run_book.specs.of_segment_plan.declared.service.Service.{Service}
+use Rattle.run_book.specs.of_segment_plan.declared.slave.SlaveSpec.{SlaveSpec}
+use Rattle.run_book.specs.of_slave_node.Node.{Node}
 use Rattle.run_book.specs.of_slave_server.declared.server.SlaveServer.{SlaveServer}
 use Rattle.run_book.specs.Ports.{IsAtPort}
 use Rattle.run_book.specs.declared.book.Book.{Book}
@@ -10,14 +10,14 @@ use Rattle.run_book.specs.declared.book.SlaveBook.{SlaveBook}
 use Rattle.run_notes.specs.declared.notes.Notes.{Notes}
 use Rattle.run_notes.specs.declared.standing.Log.{Log}
 use Rattle.run_notes.specs.Notes.{new_notes, ended}
-use Rattle.master_node.specs.declared.node.MasterNode.{MasterNode}
-use Rattle.master_node.specs.Shows.{lived_of}
-use Rattle.master_node.specs.Told.{HasLives}
-use Rattle.master_node.specs.Wants.{gave_of, AllCounted}
-use Rattle.master_node.specs.of_life_runs.Led.{Leads}
-use Rattle.master_node.specs.of_frame_view.View.{Lens}
-use Rattle.segment_ring.specs.declared.wire.Fate.{Fate}
-use Rattle.segment_ring.specs.declared.wire.Fate.TheVariants.{Pass, Lost}
+use Rattle.run_book.specs.of_master_node.declared.node.MasterNode.{MasterNode}
+use Rattle.run_book.specs.of_master_node.Shows.{lived_of}
+use Rattle.run_book.specs.of_master_node.Told.{HasLives}
+use Rattle.run_book.specs.of_master_node.Wants.{gave_of, AllCounted}
+use Rattle.run_frames.specs.of_life_runs.Led.{Leads}
+use Rattle.run_frames.specs.of_frame_view.View.{Lens}
+use Rattle.run_frames.specs.of_segment_ring.declared.wire.Fate.{Fate}
+use Rattle.run_frames.specs.of_segment_ring.declared.wire.Fate.TheVariants.{Pass, Lost}
 
 -- how many services the script has for a slave
 abbrev pub scripted : List (ℕ × Service) → ℕ → ℕ

@@ -1,13 +1,13 @@
 -- THE PACKETS OF A BOOK, as its switch has them by its events.
 use Rattle.std.specs.Prelude.{◌≡◌, ◌≤◌, ℕ, List, [], ◌∷◌, ◌++◌, map, length, All}
 use Rattle.arrayvec.specs.ArrayVec.{ArrayVec}
-use Rattle.eoe_switch.specs.Switch.{switched}
-use Rattle.master_node.specs.Happened.{events_of, handed_in, arrivals_at, HostWaits, HasHappened}
-use Rattle.master_node.specs.declared.happened.Happening.{Happening}
-use Rattle.master_node.specs.declared.lan.Lan.{Lan}
+use Rattle.run_book.specs.of_eoe_switch.Switch.{switched}
+use Rattle.run_book.specs.of_master_node.Happened.{events_of, handed_in, arrivals_at, HostWaits, HasHappened}
+use Rattle.run_book.specs.of_master_node.declared.happened.Happening.{Happening}
+use Rattle.run_book.specs.of_master_node.declared.lan.Lan.{Lan}
 use Rattle.run_book.specs.Ports.{ports_of, IsAtPort}
 use Rattle.run_book.specs.declared.book.Book.{Book}
-use Rattle.segment_plan.specs.declared.plan.Scenario.{Scenario}
+use Rattle.run_book.specs.of_segment_plan.declared.plan.Scenario.{Scenario}
 
 -- the octets of packets
 abbrev pub octets_of : List (ArrayVec ℕ) → List (List ℕ)

@@ -1,7 +1,7 @@
 -- WHEN WHAT IS NOTED HAPPENED: between frames, while one is made, and behind it.
 use Rattle.std.specs.Prelude.{◌≡◌, ◌<◌, ◌≤◌, ◌⊎◌, ℕ, suc, nat_lt, true, false, if◌then◌else◌, Some, List, [], ◌∷◌, length, slice_get, ⊤}
-use Rattle.master_node.specs.Made.{AreOfMaking}
-use Rattle.master_node.specs.declared.happened.Happening.{Happening}
+use Rattle.run_book.specs.of_master_node.Made.{AreOfMaking}
+use Rattle.run_book.specs.of_master_node.declared.happened.Happening.{Happening}
 use Rattle.run_book.specs.declared.book.Book.{Book}
 use Rattle.run_notes.specs.Counted.{AreCounted, Past, heard_frames, is_from, newest_over, numbers_from}
 use Rattle.run_notes.specs.Handed.{EachNotes}

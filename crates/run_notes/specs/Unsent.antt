@@ -1,8 +1,8 @@
 -- WHAT A BOOK SAYS OF THE REST OF A SCRIPT, which never came into hand.
 use Rattle.std.specs.Prelude.{◌≡◌, ◌-◌, ℕ, zero, suc, List, [], ◌∷◌, ◌++◌, length, replicate, ⊤}
-use Rattle.master_node.specs.of_life_runs.Led.{Leads}
-use Rattle.master_node.specs.declared.event.Origin.{Origin}
-use Rattle.master_node.specs.declared.event.Origin.TheVariants.{Script, Forward, Gateway}
+use Rattle.run_frames.specs.of_life_runs.Led.{Leads}
+use Rattle.run_book.specs.of_master_node.declared.event.Origin.{Origin}
+use Rattle.run_book.specs.of_master_node.declared.event.Origin.TheVariants.{Script, Forward, Gateway}
 use Rattle.run_book.specs.declared.book.Answer.{Answer}
 use Rattle.run_book.specs.declared.book.Answer.TheVariants.{Replied, InDoubt, NotSent}
 use Rattle.run_book.specs.declared.book.Begun.{Begun}

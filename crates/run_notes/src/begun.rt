@@ -8,12 +8,12 @@ ghost use Rattle.run_notes.specs.Stays.{StaysMaking};
 
 use crate::log::note_began;
 use crate::standing::Log;
-use ec_fields::NoMemory;
-use master_node::{Event, Origin};
+use run_book::ec_fields::NoMemory;
+use run_book::master_node::{Event, Origin};
 
 impl Log {
     ghost use Rattle.std.specs.Prelude.{◌∷◌, [], OnOk};
-    ghost use Rattle.master_node.specs.declared.event.Event.{Event};
+    ghost use Rattle.run_book.specs.of_master_node.declared.event.Event.{Event};
 
     // Of the slave at a place one came into hand.
     fn note_begun_at(&mut self, origin: Origin, frame: u32, at: u32) -> Result<(), NoMemory>

@@ -3,15 +3,14 @@
 ghost use Rattle.std.specs.Prelude.{◌≡◌, ◌<◌, ◌≤◌, length, vec_len, OnOk};
 ghost use Rattle.run_notes.specs.Handed.{MailsStay, services_noted};
 ghost use Rattle.run_notes.specs.Heard.{HeardAll, HeardNext};
-ghost use Rattle.run_notes.specs.Slaves.{gaves_noted};
+ghost use Rattle.run_notes.specs.Slaves.{gaves_noted, SameSlaves};
 ghost use Rattle.run_notes.specs.Packets.{begun_noted};
 ghost use Rattle.run_notes.specs.Reports.{KeepsReports, ReportsOn, PassesAll};
-ghost use Rattle.run_notes.specs.Slaves.{SameSlaves};
 ghost use Rattle.run_notes.specs.Times.{GoesBehind, KeepsTime, behind};
 
 use crate::standing::Log;
-use ec_fields::{NoMemory, Octets};
-use master_node::MasterNode;
+use run_book::ec_fields::{NoMemory, Octets};
+use run_book::master_node::MasterNode;
 use std::alloc::Global;
 
 impl Log {

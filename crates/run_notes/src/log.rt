@@ -1,13 +1,12 @@
 ghost use Rattle.std.specs.Prelude.{◌≡◌, ◌≤◌, ◌+◌, [], Some, length, map, replicate, IfOk, OnOk};
-ghost use Rattle.segment_plan.specs.Sound.{IsLaid};
+ghost use Rattle.run_book.specs.of_segment_plan.Sound.{IsLaid};
 ghost use Rattle.run_book.specs.Ports.{ports_of};
-ghost use Rattle.run_notes.specs.Slaves.{scripted, first_notes, home_of, SameFrames, SameSlaves};
-ghost use Rattle.master_node.specs.of_life_runs.Led.{Leads};
-ghost use Rattle.mailbox_mail.specs.declared.outcome.ReplyKind.{ReplyKind};
-ghost use Rattle.master_node.specs.Listing.{events_in};
+ghost use Rattle.run_notes.specs.Slaves.{scripted, first_notes, home_of, SameFrames, SameSlaves, gaves_noted};
+ghost use Rattle.run_frames.specs.of_life_runs.Led.{Leads};
+ghost use Rattle.run_frames.specs.of_mailbox_mail.declared.outcome.ReplyKind.{ReplyKind};
+ghost use Rattle.run_book.specs.of_master_node.Listing.{events_in};
 ghost use Rattle.run_notes.specs.Handed.{GoesBy, MailsBehind, kind_told, kinds_in, kinds_of, told_only};
 ghost use Rattle.run_notes.specs.Heard.{emergencies_noted};
-ghost use Rattle.run_notes.specs.Slaves.{gaves_noted};
 ghost use Rattle.run_notes.specs.Reports.{Reports, KeepsReports};
 ghost use Rattle.run_notes.specs.Notes.{station_of, stations_of};
 ghost use Rattle.run_notes.specs.Packets.{begun_noted, noted_began};
@@ -18,11 +17,11 @@ ghost use Rattle.run_notes.specs.Times.{Goes, KeepsTime, TimesStay, behind};
 
 use crate::notes::Notes;
 use crate::standing::{AskedMail, Log};
-use ec_fields::{NoMemory, Octets, Rows};
-use mailbox_mail::ReplyKind;
-use master_node::{Event, MasterNode, Origin};
+use run_book::ec_fields::{NoMemory, Octets, Rows};
+use run_book::mailbox_mail::ReplyKind;
+use run_book::master_node::{Event, MasterNode, Origin};
+use run_book::segment_plan::{Scenario, Service, SlaveSpec};
 use run_book::{Book, Reply};
-use segment_plan::{Scenario, Service, SlaveSpec};
 use std::alloc::Global;
 
 /// When something happened: with which frame, and how many frames had been sent then.

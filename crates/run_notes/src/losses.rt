@@ -1,5 +1,5 @@
 ghost use Rattle.std.specs.Prelude.{◌≡◌, ◌<◌, ◌≤◌, ◌+◌, length, vec_len, OnOk, Some, slice_get};
-ghost use Rattle.master_node.specs.Listing.{events_in};
+ghost use Rattle.run_book.specs.of_master_node.Listing.{events_in};
 ghost use Rattle.run_notes.specs.Handed.{MailsGo, MailsStay, kinds_in};
 ghost use Rattle.run_notes.specs.Heard.{emergencies_noted, HeardBy};
 ghost use Rattle.run_notes.specs.Packets.{begun_noted};
@@ -10,10 +10,10 @@ ghost use Rattle.run_notes.specs.Times.{GoesBehind, KeepsTime, TimesBehind, behi
 
 use crate::log::{Moment, station_of};
 use crate::standing::Log;
-use ec_fields::NoMemory;
-use master_node::MasterNode;
 use run_book::Book;
-use segment_ring::Fate;
+use run_book::ec_fields::NoMemory;
+use run_book::master_node::MasterNode;
+use run_book::segment_ring::Fate;
 use std::alloc::Global;
 
 // The station of the slave at a place and the length of its mailbox.

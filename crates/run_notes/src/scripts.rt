@@ -3,19 +3,18 @@
 ghost use Rattle.std.specs.Prelude.{◌≡◌, ◌<◌, ◌≤◌, ◌+◌, length, vec_len, OnOk};
 ghost use Rattle.run_notes.specs.Handed.{AllDoubts};
 ghost use Rattle.run_notes.specs.Heard.{emergencies_noted};
-ghost use Rattle.run_notes.specs.Slaves.{gaves_noted};
+ghost use Rattle.run_notes.specs.Slaves.{gaves_noted, SameFrames, SameSlaves};
 ghost use Rattle.run_notes.specs.Packets.{BeginsOn, SameBeside};
 ghost use Rattle.run_notes.specs.Reports.{ReportsNext, ReportsOn, TurnsAll};
-ghost use Rattle.run_notes.specs.Slaves.{SameFrames, SameSlaves};
 ghost use Rattle.run_notes.specs.Stays.{StaysMaking};
 ghost use Rattle.run_notes.specs.Switched.{NotesSwitch};
 ghost use Rattle.run_notes.specs.Times.{TimesStay, making};
 
 use crate::log::Moment;
 use crate::standing::Log;
-use ec_fields::NoMemory;
-use master_node::MasterNode;
 use run_book::Book;
+use run_book::ec_fields::NoMemory;
+use run_book::master_node::MasterNode;
 use std::alloc::Global;
 
 impl Log {

@@ -1,31 +1,31 @@
 -- THE MAILS ACCEPTED EACH TIME that a slave was open are those that were heard in the rows of its epochs, whatever mails are passed on.
 use Rattle.std.proofs.Common.{◌≡◌, ℕ, suc, Bool, All, None, Some, List, [], ◌∷◌, ◌++◌, map, length, refl, sym, ap, ◌∙◌, subst, ap₂, append-nil, append_assoc}
 use Rattle.std.proofs.lemmas.List.Elements.{All-cons, All-head, All-nil, All-tail}
-use Rattle.exchange_model.specs.Rows.{heard_all}
-use Rattle.frame_view.specs.View.{Lens}
-use Rattle.life_model.specs.Eras.{era_frames}
-use Rattle.life_model.specs.Lives.{Spot, Era, Life, Stand}
-use Rattle.life_runs.specs.First.{first_leads, leads_from, lens_of, spot_of}
-use Rattle.life_runs.specs.Led.{Exchanged, IsLed, Leads}
-use Rattle.link_mails.specs.Body.{Body}
-use Rattle.master_duty.specs.Reply.{Reply}
-use Rattle.master_hand.specs.Spoken.{Asked, is_followed, is_passed}
+use Rattle.packets_heard.specs.of_exchange_model.Rows.{heard_all}
+use Rattle.packets_heard.specs.of_frame_view.View.{Lens}
+use Rattle.packets_heard.specs.of_life_model.Eras.{era_frames}
+use Rattle.packets_heard.specs.of_life_model.Lives.{Spot, Era, Life, Stand}
+use Rattle.packets_heard.specs.of_life_runs.First.{first_leads, leads_from, lens_of, spot_of}
+use Rattle.packets_heard.specs.of_life_runs.Led.{Exchanged, IsLed, Leads}
+use Rattle.packets_heard.specs.of_link_mails.Body.{Body}
+use Rattle.packets_heard.specs.of_master_duty.Reply.{Reply}
+use Rattle.packets_heard.specs.of_master_hand.Spoken.{Asked, is_followed, is_passed}
 use Rattle.packets_heard.specs.Heard.{Times, ended, times_in}
 use Rattle.packets_heard.specs.Servings.{served_times}
 use Rattle.packets_heard.specs.of_master_node.Serving.{run_lead}
-use Rattle.plan_ring.specs.Lives.{IsKnown}
-use Rattle.plan_ring.specs.Plan.{plan_of}
-use Rattle.plan_ring.specs.Round.{AllRound, all_seen, ring_of}
-use Rattle.plan_ring.specs.of_slave_server.Seen.{seen_in}
-use Rattle.plan_ring.specs.of_slave_server.Serving.{Serving}
-use Rattle.plan_ring.specs.of_slave_server.Spec.{profile_of, server_of}
-use Rattle.run_work.specs.Sessions.{Meant}
-use Rattle.run_work.specs.of_life_counts.Epochs.{IsSeen, IsSpeaker}
-use Rattle.segment_model.specs.Record.{Frame, Kept, kept_all, nothing_kept}
-use Rattle.segment_plan.specs.Sound.{IsPlan, IsSlave}
-use Rattle.segment_plan.specs.declared.plan.Scenario.{Scenario}
-use Rattle.segment_plan.specs.declared.service.Service as Plan
-use Rattle.segment_plan.specs.declared.slave.SlaveSpec.{SlaveSpec}
+use Rattle.served_rings.specs.of_plan_ring.Lives.{IsKnown}
+use Rattle.served_rings.specs.of_plan_ring.Plan.{plan_of}
+use Rattle.served_rings.specs.of_plan_ring.Round.{AllRound, all_seen, ring_of}
+use Rattle.packets_heard.specs.of_slave_server.Seen.{seen_in}
+use Rattle.packets_heard.specs.of_slave_server.Serving.{Serving}
+use Rattle.packets_heard.specs.of_slave_server.Spec.{profile_of, server_of}
+use Rattle.served_rings.specs.of_run_work.Sessions.{Meant}
+use Rattle.served_rings.specs.of_life_counts.Epochs.{IsSeen, IsSpeaker}
+use Rattle.packets_heard.specs.of_segment_model.Record.{Frame, Kept, kept_all, nothing_kept}
+use Rattle.packets_heard.specs.of_segment_plan.Sound.{IsPlan, IsSlave}
+use Rattle.packets_heard.specs.of_segment_plan.declared.plan.Scenario.{Scenario}
+use Rattle.packets_heard.specs.of_segment_plan.declared.service.Service as Plan
+use Rattle.packets_heard.specs.of_segment_plan.declared.slave.SlaveSpec.{SlaveSpec}
 use Rattle.run_promises.specs.Whole.{AllAreHeard, heard_in, heard_over}
 use Rattle.run_promises.proofs.Live.{IsLive, IsNew, IsTally}
 use Rattle.run_promises.proofs.Seen.{kept_as}
@@ -42,14 +42,14 @@ use Rattle.served_rings.specs.Rings.{AllServedAt, AreServedLived, counters_of, s
 use Rattle.served_rings.specs.Serves.{serves}
 use Rattle.served_rings.specs.Speakers.{seer_of, speaker, table_of}
 use Rattle.served_rings.specs.ToldEras.{AllToldLives, IsToldEra, IsToldLife, IsToldNewest}
-use Rattle.life_runs.specs.Served.{IsRunOf, IsServedLed, Serves, all_serve}
-use Rattle.slave_lives.specs.Lived.{Behind, node_seen}
-use Rattle.slave_lives.specs.Opening as Opening
-use Rattle.slave_model.specs.Profile.{IsProfile, Profile}
-use Rattle.slave_parts.specs.Parts.{Server}
-use Rattle.slave_node.specs.Node.{Node}
-use Rattle.state_model.specs.Families.{InState}
-use Rattle.whole_ring.specs.Whole.{LivesOpenBy, StandsBy}
+use Rattle.packets_heard.specs.of_life_runs.Served.{IsRunOf, IsServedLed, Serves, all_serve}
+use Rattle.served_rings.specs.of_slave_lives.Lived.{Behind, node_seen}
+use Rattle.served_rings.specs.of_slave_lives.Opening as Opening
+use Rattle.served_rings.specs.of_slave_model.Profile.{IsProfile, Profile}
+use Rattle.served_rings.specs.of_slave_parts.Parts.{Server}
+use Rattle.packets_heard.specs.of_slave_node.Node.{Node}
+use Rattle.packets_heard.specs.of_state_model.Families.{InState}
+use Rattle.served_rings.specs.of_whole_ring.Whole.{LivesOpenBy, StandsBy}
 
 -- ---- what is told of times: they are those of the epochs' rows
 abbrev pub Rows : List (List Body) → List (Era Body Asked Reply) → Type 0

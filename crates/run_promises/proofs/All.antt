@@ -3,38 +3,38 @@ use Rattle.std.proofs.Common.{◌≡◌, ℕ, suc, ◌≤◌, nat_lt, ltb-true, 
 use Rattle.std.specs.Prelude.{sum_by}
 use Rattle.std.proofs.lemmas.List.Elements.{All-head, All-tail}
 use Rattle.std.proofs.lemmas.List.Sums.{sum_by-append}
-use Rattle.life_model.specs.Script.{eras_started, life_started}
-use Rattle.frame_view.specs.View.{Lens}
-use Rattle.frame_view.specs.Shares.{AllBoth}
-use Rattle.life_model.specs.Lives.{Spot, Era, Life, Stand}
-use Rattle.life_runs.specs.First.{lens_of, first_leads}
-use Rattle.life_runs.specs.Led.{Exchanged, Leads, IsLed}
-use Rattle.link_mails.specs.Body.{Body}
-use Rattle.master_duty.specs.Reply.{Reply}
-use Rattle.master_hand.specs.Spoken.{Asked, sdo, file, drive, net, passed}
+use Rattle.packets_heard.specs.of_life_model.Script.{eras_started, life_started}
+use Rattle.packets_heard.specs.of_frame_view.View.{Lens}
+use Rattle.packets_heard.specs.of_frame_view.Shares.{AllBoth}
+use Rattle.packets_heard.specs.of_life_model.Lives.{Spot, Era, Life, Stand}
+use Rattle.packets_heard.specs.of_life_runs.First.{lens_of, first_leads}
+use Rattle.packets_heard.specs.of_life_runs.Led.{Exchanged, Leads, IsLed}
+use Rattle.packets_heard.specs.of_link_mails.Body.{Body}
+use Rattle.packets_heard.specs.of_master_duty.Reply.{Reply}
+use Rattle.packets_heard.specs.of_master_hand.Spoken.{Asked, sdo, file, drive, net, passed}
 use Rattle.packets_heard.specs.Heard.{Joined, Times, IsJoined, joined_in, times_in}
-use Rattle.plan_ring.specs.Asked.{asked, service_of}
-use Rattle.plan_ring.specs.Lives.{IsKnown, IsShown, AllShown, AreLived}
-use Rattle.plan_ring.specs.Master as Master
-use Rattle.plan_ring.specs.Plan.{PlanMember, FitsPlan, step}
-use Rattle.plan_ring.specs.Round.{AllRound, ring_of, all_seen}
-use Rattle.segment_model.specs.Record.{Frame}
-use Rattle.segment_plan.specs.Sound.{IsPlan, IsSlave}
-use Rattle.segment_plan.specs.declared.plan.Scenario.{Scenario}
-use Rattle.segment_plan.specs.declared.slave.SlaveSpec.{SlaveSpec}
-use Rattle.protocol_models.specs.CoeMeaning as CoeMeaning
-use Rattle.protocol_models.specs.Tables.{nowhere}
-use Rattle.protocol_models.specs.Network.{Station}
-use Rattle.slave_model.specs.Application.{core_valid, station_valid}
-use Rattle.slave_model.specs.Profile.{Protocol, Profile, IsProfile}
-use Rattle.slave_model.proofs.Stations.{left_of, right_of}
-use Rattle.slave_parts.specs.Parts.{Core, parts}
+use Rattle.served_rings.specs.of_plan_ring.Asked.{asked, service_of}
+use Rattle.served_rings.specs.of_plan_ring.Lives.{IsKnown, IsShown, AllShown, AreLived}
+use Rattle.served_rings.specs.of_plan_ring.Master as Master
+use Rattle.served_rings.specs.of_plan_ring.Plan.{PlanMember, FitsPlan, step}
+use Rattle.served_rings.specs.of_plan_ring.Round.{AllRound, ring_of, all_seen}
+use Rattle.packets_heard.specs.of_segment_model.Record.{Frame}
+use Rattle.packets_heard.specs.of_segment_plan.Sound.{IsPlan, IsSlave}
+use Rattle.packets_heard.specs.of_segment_plan.declared.plan.Scenario.{Scenario}
+use Rattle.packets_heard.specs.of_segment_plan.declared.slave.SlaveSpec.{SlaveSpec}
+use Rattle.packets_heard.specs.of_protocol_models.CoeMeaning as CoeMeaning
+use Rattle.packets_heard.specs.of_protocol_models.Tables.{nowhere}
+use Rattle.packets_heard.specs.of_protocol_models.Network.{Station}
+use Rattle.served_rings.specs.of_slave_model.Application.{core_valid, station_valid}
+use Rattle.served_rings.specs.of_slave_model.Profile.{Protocol, Profile, IsProfile}
+use Rattle.served_rings.proofs.of_slave_model.Stations.{left_of, right_of}
+use Rattle.served_rings.specs.of_slave_parts.Parts.{Core, parts}
 use Rattle.run_promises.specs.Sends.{MaySend, Sends, asked_sends, sends_most, all_most}
-use Rattle.plan_ring.specs.of_slave_server.Spec.{profile_of}
-use Rattle.state_model.specs.Families.{InState}
-use Rattle.state_model.specs.Stated.{Service}
-use Rattle.state_model.specs.Promise.{services_in}
-use Rattle.whole_ring.specs.Members.{MemberIs, AllLived}
+use Rattle.packets_heard.specs.of_slave_server.Spec.{profile_of}
+use Rattle.packets_heard.specs.of_state_model.Families.{InState}
+use Rattle.packets_heard.specs.of_state_model.Stated.{Service}
+use Rattle.packets_heard.specs.of_state_model.Promise.{services_in}
+use Rattle.served_rings.specs.of_whole_ring.Members.{MemberIs, AllLived}
 use Rattle.run_promises.specs.Sent.{AllSend}
 use Rattle.run_promises.proofs.Epochs.{Emit, SendSo, Joins, live}
 use Rattle.run_promises.proofs.Live.{IsLive, IsTally}

@@ -5,38 +5,38 @@ use Rattle.std.proofs.lemmas.Bool.{eqb-true}
 use Rattle.std.proofs.lemmas.List.Elements.{filter-append}
 use Rattle.std.proofs.lemmas.List.Sums.{sum_by-cons, sum_by-append}
 use Rattle.arrayvec.specs.ArrayVec.{ArrayVec}
-use Rattle.life_model.specs.Script.{life_started}
-use Rattle.life_model.proofs.Scripts.{back_same, lost_same}
-use Rattle.datagrams.specs.Datagram as Raw
-use Rattle.protocol_models.specs.EoeClient as EoeClient
-use Rattle.eoe_switch.specs.Switch.{Switched, switched}
-use Rattle.eoe_switch.specs.declared.switching.SwitchEvent.{SwitchEvent}
-use Rattle.eoe_switch.specs.declared.switching.SwitchEvent.TheVariants.{Arrive, Begun, Down}
-use Rattle.frame_view.specs.Seen.{seen}
-use Rattle.frame_view.specs.View.{Lens}
-use Rattle.frame_view.specs.Shares.{came_at, given_where}
-use Rattle.life_model.specs.Lives.{Spot, Life, life_lost}
-use Rattle.life_runs.specs.First.{leads_from}
-use Rattle.life_runs.specs.Led.{Exchanged, Leads, Turn, AllTurn, IsLed, is_passed, led_behind, gives_up_at, speech_at}
-use Rattle.link_mails.specs.Body.{Body}
-use Rattle.master_duty.specs.Reply.{Reply}
-use Rattle.master_hand.specs.Spoken.{Asked, acknowledged, is_followed, sdo, file, drive, net, passed}
+use Rattle.packets_heard.specs.of_life_model.Script.{life_started}
+use Rattle.served_rings.proofs.of_life_model.Scripts.{back_same, lost_same}
+use Rattle.packets_heard.specs.of_datagrams.Datagram as Raw
+use Rattle.packets_heard.specs.of_protocol_models.EoeClient as EoeClient
+use Rattle.packets_heard.specs.of_eoe_switch.Switch.{Switched, switched}
+use Rattle.packets_heard.specs.of_eoe_switch.declared.switching.SwitchEvent.{SwitchEvent}
+use Rattle.packets_heard.specs.of_eoe_switch.declared.switching.SwitchEvent.TheVariants.{Arrive, Begun, Down}
+use Rattle.packets_heard.specs.of_frame_view.Seen.{seen}
+use Rattle.packets_heard.specs.of_frame_view.View.{Lens}
+use Rattle.packets_heard.specs.of_frame_view.Shares.{came_at, given_where}
+use Rattle.packets_heard.specs.of_life_model.Lives.{Spot, Life, life_lost}
+use Rattle.packets_heard.specs.of_life_runs.First.{leads_from}
+use Rattle.packets_heard.specs.of_life_runs.Led.{Exchanged, Leads, Turn, AllTurn, IsLed, is_passed, led_behind, gives_up_at, speech_at}
+use Rattle.packets_heard.specs.of_link_mails.Body.{Body}
+use Rattle.packets_heard.specs.of_master_duty.Reply.{Reply}
+use Rattle.packets_heard.specs.of_master_hand.Spoken.{Asked, acknowledged, is_followed, sdo, file, drive, net, passed}
 use Rattle.packets_heard.specs.of_master_node.Begins.{Taken, switch_on, taken_by, taken_in, begins_by, begun_of, begins_in}
 use Rattle.packets_heard.specs.of_master_node.Forwards.{port_by}
 use Rattle.packets_heard.specs.of_master_node.Serving.{run_lead, run_turn}
-use Rattle.master_side.specs.Passing.{news_back, news_lost}
-use Rattle.master_tour.specs.Made.{is_in}
-use Rattle.run_work.specs.Packets.{waiting_work, queue_work}
+use Rattle.packets_heard.specs.of_master_side.Passing.{news_back, news_lost}
+use Rattle.packets_heard.specs.of_master_tour.Made.{is_in}
+use Rattle.served_rings.specs.of_run_work.Packets.{waiting_work, queue_work}
 use Rattle.packets_heard.specs.Over.{AreBegun, BegunOn, packet_begun, packets_begun}
 use Rattle.packets_heard.specs.Servings.{AreServedBegun, served_packets}
-use Rattle.run_frames.specs.Came.{is_packet}
-use Rattle.run_frames.proofs.Came.{listed, turn_started, behind_same}
-use Rattle.segment_plan.specs.declared.service.Service as Plan
-use Rattle.segment_plan.specs.declared.slave.SlaveSpec.{SlaveSpec}
-use Rattle.segment_ring.specs.declared.wire.Fate.{Fate}
-use Rattle.segment_ring.specs.declared.wire.Fate.TheVariants.{Pass, Lost}
-use Rattle.life_runs.specs.Served.{Keyed, Serves, ServedTurn, AllServedTurn, IsServedLed, all_serve, asked_at, served_behind, served_life}
-use Rattle.state_model.specs.Stated.{Service}
+use Rattle.served_rings.specs.of_run_frames.Came.{is_packet}
+use Rattle.served_rings.proofs.of_run_frames.Came.{listed, turn_started, behind_same}
+use Rattle.packets_heard.specs.of_segment_plan.declared.service.Service as Plan
+use Rattle.packets_heard.specs.of_segment_plan.declared.slave.SlaveSpec.{SlaveSpec}
+use Rattle.packets_heard.specs.of_segment_ring.declared.wire.Fate.{Fate}
+use Rattle.packets_heard.specs.of_segment_ring.declared.wire.Fate.TheVariants.{Pass, Lost}
+use Rattle.packets_heard.specs.of_life_runs.Served.{Keyed, Serves, ServedTurn, AllServedTurn, IsServedLed, all_serve, asked_at, served_behind, served_life}
+use Rattle.packets_heard.specs.of_state_model.Stated.{Service}
 use Rattle.run_promises.proofs.Ports.{queue_append}
 use Rattle.run_promises.proofs.Started.{next_started}
 

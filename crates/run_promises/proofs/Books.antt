@@ -1,41 +1,41 @@
 -- THE BOOKS of slaves that stay up.
 use Rattle.std.proofs.Common.{◌≡◌, ℕ, suc, true, List, [], ◌∷◌, map, length, ap, sym, ◌∙◌, subst}
 use Rattle.std.proofs.lemmas.List.{length-map}
-use Rattle.plan_ring.specs.KeptFirst.{Forgets, FirstBook}
-use Rattle.plan_ring.specs.Rows.{IsFirst}
-use Rattle.plan_ring.proofs.KeptFirst.{first_book}
-use Rattle.run_frames.specs.of_protocol_models.Network.{Station}
-use Rattle.run_frames.specs.of_frame_view.View.{Lens}
-use Rattle.run_frames.specs.of_frame_view.Shares.{Lived}
-use Rattle.run_frames.specs.of_life_model.Eras.{Clearing}
-use Rattle.run_frames.specs.of_life_model.Lives.{Spot, Life, Stand}
-use Rattle.run_frames.specs.of_life_runs.First.{lens_of, spot_of}
-use Rattle.run_frames.specs.of_life_runs.Led.{Exchanged, Leads}
-use Rattle.run_frames.specs.of_link_mails.Body.{Body}
-use Rattle.run_frames.specs.of_master_duty.Reply.{Reply}
-use Rattle.run_frames.specs.of_master_hand.Spoken.{Asked, is_followed}
-use Rattle.plan_ring.specs.Master.{IsLed, AllLed, owed}
-use Rattle.plan_ring.specs.Plan.{PlanMember, FitsPlan, step, plan_of, first_app}
-use Rattle.run_frames.specs.of_segment_model.Record.{Frame}
-use Rattle.run_frames.specs.of_segment_plan.declared.plan.Scenario.{Scenario}
-use Rattle.run_frames.specs.of_segment_plan.declared.slave.SlaveSpec.{SlaveSpec}
-use Rattle.plan_ring.specs.Real.{real_clearing}
-use Rattle.plan_ring.specs.of_slave_lives.Lived.{Behind, node_seen}
-use Rattle.plan_ring.specs.of_slave_lives.Opening as Opening
-use Rattle.plan_ring.specs.of_slave_parts.Parts.{Core, Server}
-use Rattle.plan_ring.specs.of_slave_server.Serving.{Serving}
-use Rattle.plan_ring.specs.of_slave_node.Node.{Node, is_settled}
-use Rattle.plan_ring.specs.of_slave_lives.Steps.{Stands}
-use Rattle.plan_ring.specs.of_mailbox_slave.Node.{in_side}
-use Rattle.run_frames.specs.of_segment_model.Laws.{IsSettled}
-use Rattle.run_frames.specs.of_state_model.Families.{InState}
-use Rattle.plan_ring.specs.of_whole_ring.Whole.{OwesLaws, StandsAs}
-use Rattle.plan_ring.specs.of_whole_ring.Members.{MemberIs, AllLived}
-use Rattle.plan_ring.specs.Lives.{IsShown, AllShown, AreLived}
-use Rattle.plan_ring.specs.Round.{ring_of, ring_after, frame_seen, all_seen}
+use Rattle.served_rings.specs.of_plan_ring.KeptFirst.{Forgets, FirstBook}
+use Rattle.served_rings.specs.of_plan_ring.Rows.{IsFirst}
+use Rattle.served_rings.proofs.of_plan_ring.KeptFirst.{first_book}
+use Rattle.packets_heard.specs.of_protocol_models.Network.{Station}
+use Rattle.packets_heard.specs.of_frame_view.View.{Lens}
+use Rattle.packets_heard.specs.of_frame_view.Shares.{Lived}
+use Rattle.packets_heard.specs.of_life_model.Eras.{Clearing}
+use Rattle.packets_heard.specs.of_life_model.Lives.{Spot, Life, Stand}
+use Rattle.packets_heard.specs.of_life_runs.First.{lens_of, spot_of}
+use Rattle.packets_heard.specs.of_life_runs.Led.{Exchanged, Leads}
+use Rattle.packets_heard.specs.of_link_mails.Body.{Body}
+use Rattle.packets_heard.specs.of_master_duty.Reply.{Reply}
+use Rattle.packets_heard.specs.of_master_hand.Spoken.{Asked, is_followed}
+use Rattle.served_rings.specs.of_plan_ring.Master.{IsLed, AllLed, owed}
+use Rattle.served_rings.specs.of_plan_ring.Plan.{PlanMember, FitsPlan, step, plan_of, first_app}
+use Rattle.packets_heard.specs.of_segment_model.Record.{Frame}
+use Rattle.packets_heard.specs.of_segment_plan.declared.plan.Scenario.{Scenario}
+use Rattle.packets_heard.specs.of_segment_plan.declared.slave.SlaveSpec.{SlaveSpec}
+use Rattle.served_rings.specs.of_plan_ring.Real.{real_clearing}
+use Rattle.served_rings.specs.of_slave_lives.Lived.{Behind, node_seen}
+use Rattle.served_rings.specs.of_slave_lives.Opening as Opening
+use Rattle.served_rings.specs.of_slave_parts.Parts.{Core, Server}
+use Rattle.packets_heard.specs.of_slave_server.Serving.{Serving}
+use Rattle.packets_heard.specs.of_slave_node.Node.{Node, is_settled}
+use Rattle.served_rings.specs.of_slave_lives.Steps.{Stands}
+use Rattle.served_rings.specs.of_mailbox_slave.Node.{in_side}
+use Rattle.packets_heard.specs.of_segment_model.Laws.{IsSettled}
+use Rattle.packets_heard.specs.of_state_model.Families.{InState}
+use Rattle.served_rings.specs.of_whole_ring.Whole.{OwesLaws, StandsAs}
+use Rattle.served_rings.specs.of_whole_ring.Members.{MemberIs, AllLived}
+use Rattle.served_rings.specs.of_plan_ring.Lives.{IsShown, AllShown, AreLived}
+use Rattle.served_rings.specs.of_plan_ring.Round.{ring_of, ring_after, frame_seen, all_seen}
 use Rattle.run_promises.specs.Books.{StaysUp, HasBook, AllHaveBooks}
 use Rattle.run_promises.specs.Slaves.{services_of}
-use Rattle.plan_ring.proofs.Settled.{settled_seen}
+use Rattle.served_rings.proofs.of_plan_ring.Settled.{settled_seen}
 use Rattle.run_promises.proofs.Ups.{AllUp}
 
 -- a book of a slave with any services

@@ -1,14 +1,14 @@
 -- WHILE A SLAVE IS OPEN a state service that returns it to Init drains, and an opening that has shown Init has nothing in hand.
 use Rattle.std.proofs.Common.{◌≡◌, ◌⊎◌, ℕ, ◌≤◌, ◌&&◌, Bool, true, false, Option, Some, None, option_map, List, [], ◌∷◌, ◌++◌, refl, sym, ap, ◌∙◌, append-nil, if◌then◌else◌}
-use Rattle.exchange_model.specs.Exchange.{Speech}
-use Rattle.exchange_model.proofs.Settles.{heard_all_last}
-use Rattle.exchange_model.specs.Prefix.{IsPrefixOf}
-use Rattle.exchange_model.specs.Rows.{Row, heard_all, row_heard}
-use Rattle.life_model.specs.Lives.{Era, Opening, returns_to_init}
-use Rattle.segment_model.specs.Seats.{Side, newest, rows_of}
-use Rattle.state_model.specs.Stated.{Service}
-use Rattle.state_model.specs.Accounts.{Account, Duty, Stage, Started, account_begins, is_free, is_acknowledged, state_begins, starts}
-use Rattle.state_model.specs.Promise.{services_in}
+use Rattle.packets_heard.specs.of_exchange_model.Exchange.{Speech}
+use Rattle.served_rings.proofs.of_exchange_model.Settles.{heard_all_last}
+use Rattle.packets_heard.specs.of_exchange_model.Prefix.{IsPrefixOf}
+use Rattle.packets_heard.specs.of_exchange_model.Rows.{Row, heard_all, row_heard}
+use Rattle.packets_heard.specs.of_life_model.Lives.{Era, Opening, returns_to_init}
+use Rattle.packets_heard.specs.of_segment_model.Seats.{Side, newest, rows_of}
+use Rattle.packets_heard.specs.of_state_model.Stated.{Service}
+use Rattle.packets_heard.specs.of_state_model.Accounts.{Account, Duty, Stage, Started, account_begins, is_free, is_acknowledged, state_begins, starts}
+use Rattle.packets_heard.specs.of_state_model.Promise.{services_in}
 
 -- the state service in hand
 abbrev pub IsCalm : Option Duty → Type 0

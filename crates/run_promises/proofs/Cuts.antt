@@ -3,19 +3,19 @@ use Rattle.std.proofs.Common.{◌≡◌, ℕ, ◌+◌, ◌-◌, ◌*◌, ◌/◌
 use Rattle.std.specs.Prelude.{sum_by}
 use Rattle.std.proofs.lemmas.Bool.Decides.{nat_tests}
 use Rattle.std.proofs.lemmas.List.Sums.{sum_by-cons, sum_by-append}
-use Rattle.eoe.specs.Cutting.{fragments_of}
-use Rattle.eoe.specs.declared.message.Fragment.{Fragment}
-use Rattle.protocol_models.proofs.EoeSpelled.{eoe_spells}
-use Rattle.protocol_models.proofs.EoeWorkedRows.{echo_sound, echo_spelled}
-use Rattle.protocol_models.specs.EoeClient as EoeClient
-use Rattle.protocol_models.specs.EoeMails.{EoeMail, part, packet_mails}
-use Rattle.protocol_models.specs.EoeOctets.{eoe_mail_heard, eoe_mail_written}
-use Rattle.exchange_model.specs.Areas.{AreMailboxes}
-use Rattle.exchange_model.specs.Lifted.{EachOf, ReadsBack}
-use Rattle.link_mails.specs.Body.{Body}
-use Rattle.master_hand.specs.Joins.{fragment_of, fragment_in}
+use Rattle.packets_heard.specs.of_eoe.Cutting.{fragments_of}
+use Rattle.packets_heard.specs.of_eoe.declared.message.Fragment.{Fragment}
+use Rattle.served_rings.proofs.of_protocol_models.EoeSpelled.{eoe_spells}
+use Rattle.served_rings.proofs.of_protocol_models.EoeWorkedRows.{echo_sound, echo_spelled}
+use Rattle.packets_heard.specs.of_protocol_models.EoeClient as EoeClient
+use Rattle.packets_heard.specs.of_protocol_models.EoeMails.{EoeMail, part, packet_mails}
+use Rattle.packets_heard.specs.of_protocol_models.EoeOctets.{eoe_mail_heard, eoe_mail_written}
+use Rattle.packets_heard.specs.of_exchange_model.Areas.{AreMailboxes}
+use Rattle.packets_heard.specs.of_exchange_model.Lifted.{EachOf, ReadsBack}
+use Rattle.packets_heard.specs.of_link_mails.Body.{Body}
+use Rattle.packets_heard.specs.of_master_hand.Joins.{fragment_of, fragment_in}
 use Rattle.packets_heard.specs.Packets.{Emitted, ArePackets, all_fragments, octets_of, as_part, parts}
-use Rattle.slave_model.specs.Server.{told_by}
+use Rattle.served_rings.specs.of_slave_model.Server.{told_by}
 use Rattle.run_promises.specs.Sends.{Sends}
 
 -- ---- several

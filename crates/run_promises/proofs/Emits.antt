@@ -4,32 +4,32 @@ use Rattle.std.specs.Prelude.{sum_by, slice_index}
 use Rattle.std.specs.Str.{bytes_eq}
 use Rattle.std.proofs.lemmas.List.{length-take-le}
 use Rattle.std.proofs.lemmas.List.Sums.{sum_by-cons}
-use Rattle.object_dictionary.specs.Dictionary.{Table}
-use Rattle.eoe.specs.Address.{is_block}
-use Rattle.eoe.specs.Cutting.{fragments_of}
-use Rattle.eoe.specs.Message.{eoe_text}
-use Rattle.eoe.specs.declared.message.Eoe.TheVariants.{Fragment as Part}
-use Rattle.eoe.specs.declared.message.Fragment.{Fragment}
-use Rattle.protocol_models.specs.CoeMails as CoeMails
-use Rattle.protocol_models.specs.CoeMeaning as CoeMeaning
-use Rattle.protocol_models.specs.CoeOctets as CoeOctets
-use Rattle.protocol_models.specs.CoeServer.{Emission, emergency, packet, emission_of, issued}
-use Rattle.coe_server.specs.ObjectTables.{stores}
-use Rattle.protocol_models.specs.EoeClient as EoeClient
-use Rattle.protocol_models.specs.Echo.{everyone, is_echo, echo_of}
-use Rattle.protocol_models.specs.EoeMails.{part, packet_mails}
-use Rattle.protocol_models.specs.Network.{Station}
-use Rattle.protocol_models.specs.EoeOctets as EoeOctets
-use Rattle.protocol_models.specs.EoeServer.{sends}
-use Rattle.exchange_model.specs.Refusing.{gated}
-use Rattle.link_mails.specs.Body.{Body}
-use Rattle.master_hand.specs.Brings.{as_list}
-use Rattle.few_replies.specs.Shapes.{sdo_emission, net_echo}
-use Rattle.slave_model.specs.Application.{stored, station_tables, network}
-use Rattle.slave_model.specs.Product.{served, refusal, side}
-use Rattle.slave_model.specs.Profile.{Protocol, Profile, IsProfile, serves}
-use Rattle.slave_model.specs.Server.{ServiceOf, told_by}
-use Rattle.slave_parts.specs.Parts.{Core, parts}
+use Rattle.packets_heard.specs.of_object_dictionary.Dictionary.{Table}
+use Rattle.packets_heard.specs.of_eoe.Address.{is_block}
+use Rattle.packets_heard.specs.of_eoe.Cutting.{fragments_of}
+use Rattle.packets_heard.specs.of_eoe.Message.{eoe_text}
+use Rattle.packets_heard.specs.of_eoe.declared.message.Eoe.TheVariants.{Fragment as Part}
+use Rattle.packets_heard.specs.of_eoe.declared.message.Fragment.{Fragment}
+use Rattle.packets_heard.specs.of_protocol_models.CoeMails as CoeMails
+use Rattle.packets_heard.specs.of_protocol_models.CoeMeaning as CoeMeaning
+use Rattle.packets_heard.specs.of_protocol_models.CoeOctets as CoeOctets
+use Rattle.packets_heard.specs.of_protocol_models.CoeServer.{Emission, emergency, packet, emission_of, issued}
+use Rattle.packets_heard.specs.of_coe_server.ObjectTables.{stores}
+use Rattle.packets_heard.specs.of_protocol_models.EoeClient as EoeClient
+use Rattle.packets_heard.specs.of_protocol_models.Echo.{everyone, is_echo, echo_of}
+use Rattle.packets_heard.specs.of_protocol_models.EoeMails.{part, packet_mails}
+use Rattle.packets_heard.specs.of_protocol_models.Network.{Station}
+use Rattle.packets_heard.specs.of_protocol_models.EoeOctets as EoeOctets
+use Rattle.packets_heard.specs.of_protocol_models.EoeServer.{sends}
+use Rattle.packets_heard.specs.of_exchange_model.Refusing.{gated}
+use Rattle.packets_heard.specs.of_link_mails.Body.{Body}
+use Rattle.packets_heard.specs.of_master_hand.Brings.{as_list}
+use Rattle.served_rings.specs.of_few_replies.Shapes.{sdo_emission, net_echo}
+use Rattle.served_rings.specs.of_slave_model.Application.{stored, station_tables, network}
+use Rattle.served_rings.specs.of_slave_model.Product.{served, refusal, side}
+use Rattle.served_rings.specs.of_slave_model.Profile.{Protocol, Profile, IsProfile, serves}
+use Rattle.served_rings.specs.of_slave_model.Server.{ServiceOf, told_by}
+use Rattle.served_rings.specs.of_slave_parts.Parts.{Core, parts}
 use Rattle.run_promises.specs.Sends.{of_emission, may_send, MaySend, Sends}
 use Rattle.run_promises.proofs.Cuts.{sends_none, sends_packet}
 use Rattle.run_promises.proofs.Stays.{emitted_sized}

@@ -2,37 +2,37 @@
 use Rattle.std.proofs.Common.{◌≡◌, ℕ, zero, suc, ◌+◌, ◌≤◌, Bool, true, false, None, List, [], ◌∷◌, ◌++◌, take, length, refl, sym, ap, ◌∙◌, subst, arith}
 use Rattle.std.specs.Prelude.{sum_by}
 use Rattle.std.proofs.lemmas.List.Sums.{sum_by-cons, sum_by-append}
-use Rattle.eoe.specs.declared.message.Fragment.{Fragment}
-use Rattle.exchange_model.specs.Exchange.{emitted}
-use Rattle.exchange_model.specs.Prefix.{IsPrefixOf}
-use Rattle.exchange_model.specs.Rows.{emits_all}
-use Rattle.life_model.specs.Eras.{Clearing, era_frames}
-use Rattle.life_model.specs.Lives.{Spot, Life, Stand}
-use Rattle.link_mails.specs.Body.{Body}
-use Rattle.master_duty.specs.Reply.{Reply}
-use Rattle.master_hand.specs.Joins.{fragment_in, packets_in}
-use Rattle.master_hand.specs.Spoken.{Asked}
+use Rattle.packets_heard.specs.of_eoe.declared.message.Fragment.{Fragment}
+use Rattle.packets_heard.specs.of_exchange_model.Exchange.{emitted}
+use Rattle.packets_heard.specs.of_exchange_model.Prefix.{IsPrefixOf}
+use Rattle.packets_heard.specs.of_exchange_model.Rows.{emits_all}
+use Rattle.packets_heard.specs.of_life_model.Eras.{Clearing, era_frames}
+use Rattle.packets_heard.specs.of_life_model.Lives.{Spot, Life, Stand}
+use Rattle.packets_heard.specs.of_link_mails.Body.{Body}
+use Rattle.packets_heard.specs.of_master_duty.Reply.{Reply}
+use Rattle.packets_heard.specs.of_master_hand.Joins.{fragment_in, packets_in}
+use Rattle.packets_heard.specs.of_master_hand.Spoken.{Asked}
 use Rattle.packets_heard.specs.Packets.{Emitted, ArePackets, all_fragments, octets_of, parts, IsOwn}
 use Rattle.packets_heard.proofs.PacketParts.{heard_own}
-use Rattle.segment_model.specs.Record.{Frame, heard}
-use Rattle.slave_lives.specs.Lived.{Behind, table_of}
-use Rattle.slave_lives.specs.Opening.{Plan}
-use Rattle.slave_model.specs.Profile.{Protocol, Profile}
-use Rattle.slave_model.specs.Product.{side}
-use Rattle.slave_model.specs.Server.{ServiceOf}
-use Rattle.slave_parts.specs.Parts.{Core, Server, parts as real_parts}
-use Rattle.plan_ring.specs.of_slave_server.Serving.{Serving}
-use Rattle.slave_node.specs.Node.{Node}
-use Rattle.protocol_models.specs.Network.{Station}
+use Rattle.packets_heard.specs.of_segment_model.Record.{Frame, heard}
+use Rattle.served_rings.specs.of_slave_lives.Lived.{Behind, table_of}
+use Rattle.served_rings.specs.of_slave_lives.Opening.{Plan}
+use Rattle.served_rings.specs.of_slave_model.Profile.{Protocol, Profile}
+use Rattle.served_rings.specs.of_slave_model.Product.{side}
+use Rattle.served_rings.specs.of_slave_model.Server.{ServiceOf}
+use Rattle.served_rings.specs.of_slave_parts.Parts.{Core, Server, parts as real_parts}
+use Rattle.packets_heard.specs.of_slave_server.Serving.{Serving}
+use Rattle.packets_heard.specs.of_slave_node.Node.{Node}
+use Rattle.packets_heard.specs.of_protocol_models.Network.{Station}
 use Rattle.run_promises.specs.Sends.{MaySend, Sends, may_send, asked_sends, sends_most}
 use Rattle.run_promises.proofs.Cuts.{parts_append, sends_none, sends_both}
-use Rattle.state_model.specs.Families.{InState}
-use Rattle.state_model.specs.Stated.{Service, acts, mails, with_states}
-use Rattle.state_model.proofs.Acts.{mails_acts, mails_append}
-use Rattle.state_model.specs.States.{Table}
-use Rattle.state_model.specs.Promise.{services_in}
-use Rattle.whole_ring.specs.Whole.{OwesLaws, IsLived}
-use Rattle.whole_ring.proofs.Promised.{promised}
+use Rattle.packets_heard.specs.of_state_model.Families.{InState}
+use Rattle.packets_heard.specs.of_state_model.Stated.{Service, acts, mails, with_states}
+use Rattle.served_rings.proofs.of_state_model.Acts.{mails_acts, mails_append}
+use Rattle.packets_heard.specs.of_state_model.States.{Table}
+use Rattle.packets_heard.specs.of_state_model.Promise.{services_in}
+use Rattle.served_rings.specs.of_whole_ring.Whole.{OwesLaws, IsLived}
+use Rattle.served_rings.proofs.of_whole_ring.Promised.{promised}
 use Rattle.run_promises.proofs.Live.{IsLive}
 use Rattle.run_promises.proofs.Times.{Weighs, weighs_on}
 

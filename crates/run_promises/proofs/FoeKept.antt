@@ -1,8 +1,8 @@
 -- What new versions of files keep of a state, any mail of FoE keeps.
 use Rattle.std.proofs.Common.{ℕ, ◌+◌, ◌==◌, not, nat_lt, Bool, true, false, List, ◌++◌, length, Option, None, Some, if◌then◌else◌}
-use Rattle.protocol_models.specs.Files.{Files}
-use Rattle.protocol_models.specs.FoeMails.{Foe, Read, Write, Data, Ack, Error, Busy, FoeFault, Short, Opcode, Name, FoeMail, mail, unread, failed, other}
-use Rattle.protocol_models.specs.FoeServer.{Transfer, idle, reading, writing, closing, Server, Outcome, foe_takes, serve, opened, begun, closes, stores, takes_data, takes_ack, takes_unread, is_last, packet_room}
+use Rattle.packets_heard.specs.of_protocol_models.Files.{Files}
+use Rattle.packets_heard.specs.of_protocol_models.FoeMails.{Foe, Read, Write, Data, Ack, Error, Busy, FoeFault, Short, Opcode, Name, FoeMail, mail, unread, failed, other}
+use Rattle.packets_heard.specs.of_protocol_models.FoeServer.{Transfer, idle, reading, writing, closing, Server, Outcome, foe_takes, serve, opened, begun, closes, stores, takes_data, takes_ack, takes_unread, is_last, packet_room}
 
 either : {X : Type 0} (P : X → Type 0) (b : Bool) (x y : X) → P x → P y → P (if b then x else y)
 either P true x y p q = p

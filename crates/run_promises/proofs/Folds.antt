@@ -2,19 +2,19 @@
 use Rattle.std.proofs.Common.{◌≡◌, ℕ, ◌+◌, not, Bool, true, false, Option, List, [], ◌∷◌, ◌++◌, map, Ok, Err, refl, sym, ap, ◌∙◌, subst, arith, if◌then◌else◌}
 use Rattle.std.specs.Prelude.{sum_by}
 use Rattle.std.proofs.lemmas.List.Sums.{sum_by-cons}
-use Rattle.exchange_model.specs.Exchange.{Exchange, emitted}
-use Rattle.exchange_model.specs.Lifted.{EachOf}
-use Rattle.exchange_model.specs.Rows.{emits_all}
-use Rattle.exchange_model.specs.Refusing.{gated}
-use Rattle.few_replies.specs.Calm.{IsCalm}
-use Rattle.few_replies.specs.Packets.{is_calm, is_fair}
-use Rattle.run_work.specs.of_life_counts.Seen.{service_seen}
-use Rattle.link_mails.specs.Body.{Body}
-use Rattle.master_hand.specs.Joins.{fragment_in}
+use Rattle.packets_heard.specs.of_exchange_model.Exchange.{Exchange, emitted}
+use Rattle.packets_heard.specs.of_exchange_model.Lifted.{EachOf}
+use Rattle.packets_heard.specs.of_exchange_model.Rows.{emits_all}
+use Rattle.packets_heard.specs.of_exchange_model.Refusing.{gated}
+use Rattle.served_rings.specs.of_few_replies.Calm.{IsCalm}
+use Rattle.served_rings.specs.of_few_replies.Packets.{is_calm, is_fair}
+use Rattle.served_rings.specs.of_life_counts.Seen.{service_seen}
+use Rattle.packets_heard.specs.of_link_mails.Body.{Body}
+use Rattle.packets_heard.specs.of_master_hand.Joins.{fragment_in}
 use Rattle.packets_heard.specs.Packets.{parts}
 use Rattle.packets_heard.proofs.PacketParts.{heard_own}
-use Rattle.run_work.specs.Sessions.{OwnService, Wanted, Meant, InRow, named, named_mail, named_wanted}
-use Rattle.segment_model.specs.Ends.{Outcome}
+use Rattle.served_rings.specs.of_run_work.Sessions.{OwnService, Wanted, Meant, InRow, named, named_mail, named_wanted}
+use Rattle.packets_heard.specs.of_segment_model.Ends.{Outcome}
 use Rattle.run_promises.specs.Sends.{Sends, asked_sends, is_network, may_send, sends_most}
 use Rattle.run_promises.proofs.All.{valid_sends}
 use Rattle.run_promises.proofs.Cuts.{sends_both, sends_none}
@@ -22,20 +22,20 @@ use Rattle.run_promises.proofs.Epochs.{Emit}
 use Rattle.run_promises.proofs.Owns.{own_fragment}
 use Rattle.run_promises.specs.Quiet.{is_quiet, quiet_speaker}
 use Rattle.run_promises.proofs.Speaks.{quiet_fair}
-use Rattle.serving_model.specs.Tagged.{Asked, IsServed, Tagged, asked_emits, asked_exec, own_gift, untag}
-use Rattle.slave_model.specs.Application.{station_valid}
-use Rattle.slave_model.specs.Product.{emission, refusal, served, side}
-use Rattle.slave_model.specs.Profile.{Protocol, Profile, serves}
-use Rattle.slave_model.specs.Server.{Reply, ServiceOf, seat}
-use Rattle.slave_model.proofs.Stations.{left_of, right_of}
-use Rattle.slave_parts.specs.Parts.{Server, parts as real_parts}
-use Rattle.slave_parts.specs.Served.{product_whole, served_whole, side_whole}
-use Rattle.slave_parts.specs.Whole.{gated_whole}
-use Rattle.state_model.specs.Families.{InState}
-use Rattle.state_model.specs.Stated.{Act, Counting, Service, acts, mails, service_valid, with_states}
-use Rattle.state_model.proofs.Acts.{mails_acts, mails_append}
-use Rattle.state_model.specs.States.{Table}
-use Rattle.run_work.specs.of_life_counts.Epochs.{seeing, seeing_states}
+use Rattle.served_rings.specs.of_serving_model.Tagged.{Asked, IsServed, Tagged, asked_emits, asked_exec, own_gift, untag}
+use Rattle.served_rings.specs.of_slave_model.Application.{station_valid}
+use Rattle.served_rings.specs.of_slave_model.Product.{emission, refusal, served, side}
+use Rattle.served_rings.specs.of_slave_model.Profile.{Protocol, Profile, serves}
+use Rattle.served_rings.specs.of_slave_model.Server.{Reply, ServiceOf, seat}
+use Rattle.served_rings.proofs.of_slave_model.Stations.{left_of, right_of}
+use Rattle.served_rings.specs.of_slave_parts.Parts.{Server, parts as real_parts}
+use Rattle.served_rings.specs.of_slave_parts.Served.{product_whole, served_whole, side_whole}
+use Rattle.served_rings.specs.of_slave_parts.Whole.{gated_whole}
+use Rattle.packets_heard.specs.of_state_model.Families.{InState}
+use Rattle.packets_heard.specs.of_state_model.Stated.{Act, Counting, Service, acts, mails, service_valid, with_states}
+use Rattle.served_rings.proofs.of_state_model.Acts.{mails_acts, mails_append}
+use Rattle.packets_heard.specs.of_state_model.States.{Table}
+use Rattle.served_rings.specs.of_life_counts.Epochs.{seeing, seeing_states}
 
 not_false : (b : Bool) → not b ≡ true → b ≡ false
 not_false true e = absurd (cc)

@@ -1,25 +1,25 @@
 -- A SLAVE THAT IS GONE FOR GOOD was given up: no life ends so by itself.
 use Rattle.std.proofs.Common.{◌≡◌, ℕ, suc, Bool, true, false, Option, Some, None, List, [], ◌∷◌, ◌++◌, map, length, sym, subst}
 use Rattle.std.specs.Prelude.{◌&&◌, ◌==◌, if◌then◌else◌, ⊤}
-use Rattle.run_frames.specs.of_datagrams.Datagram as Raw
-use Rattle.run_frames.specs.of_exchange_model.Exchange.{Speech}
-use Rattle.run_frames.specs.of_frame_view.View.{Lens}
-use Rattle.run_frames.specs.of_frame_view.Seen.{seen}
-use Rattle.run_frames.specs.of_frame_view.Shares.{came_at, given_where}
-use Rattle.run_frames.specs.of_life_model.Lives.{Spot, Life, Opening, Stand, life_next, life_back, life_lost, opening_back, shows_clear, is_shown, last_step, clears, opens, steps_on, reopens, reopens_at, reopening, opens_state, returns_to_init, era_back}
-use Rattle.run_frames.specs.of_life_runs.First.{lens_of, first_leads, leads_from}
-use Rattle.run_frames.specs.of_life_runs.Led as Led
-use Rattle.run_frames.specs.of_life_runs.Led.{Exchanged, Leads, Turn, IsTurn, AllTurn, IsLed, is_passed, speech_at, life_behind, gives_up_at}
-use Rattle.run_frames.specs.of_link_mails.Body.{Body}
-use Rattle.run_frames.specs.of_master_duty.Reply.{Reply}
-use Rattle.run_frames.specs.of_master_hand.Spoken.{Asked, acknowledged, is_followed}
-use Rattle.run_frames.specs.of_segment_model.Record.{News}
-use Rattle.run_frames.specs.of_segment_model.Slaves.{Datagram, Found}
-use Rattle.run_frames.specs.of_segment_plan.declared.plan.Scenario.{Scenario}
-use Rattle.run_frames.specs.of_segment_plan.declared.slave.SlaveSpec.{SlaveSpec}
-use Rattle.run_frames.specs.of_segment_ring.declared.wire.Fate.{Fate}
-use Rattle.run_frames.specs.of_segment_ring.declared.wire.Fate.TheVariants.{Pass, Lost}
-use Rattle.run_frames.specs.of_state_model.Accounts.{Duty, Stage, Pick}
+use Rattle.packets_heard.specs.of_datagrams.Datagram as Raw
+use Rattle.packets_heard.specs.of_exchange_model.Exchange.{Speech}
+use Rattle.packets_heard.specs.of_frame_view.View.{Lens}
+use Rattle.packets_heard.specs.of_frame_view.Seen.{seen}
+use Rattle.packets_heard.specs.of_frame_view.Shares.{came_at, given_where}
+use Rattle.packets_heard.specs.of_life_model.Lives.{Spot, Life, Opening, Stand, life_next, life_back, life_lost, opening_back, shows_clear, is_shown, last_step, clears, opens, steps_on, reopens, reopens_at, reopening, opens_state, returns_to_init, era_back}
+use Rattle.packets_heard.specs.of_life_runs.First.{lens_of, first_leads, leads_from}
+use Rattle.packets_heard.specs.of_life_runs.Led as Led
+use Rattle.packets_heard.specs.of_life_runs.Led.{Exchanged, Leads, Turn, IsTurn, AllTurn, IsLed, is_passed, speech_at, life_behind, gives_up_at}
+use Rattle.packets_heard.specs.of_link_mails.Body.{Body}
+use Rattle.packets_heard.specs.of_master_duty.Reply.{Reply}
+use Rattle.packets_heard.specs.of_master_hand.Spoken.{Asked, acknowledged, is_followed}
+use Rattle.packets_heard.specs.of_segment_model.Record.{News}
+use Rattle.packets_heard.specs.of_segment_model.Slaves.{Datagram, Found}
+use Rattle.packets_heard.specs.of_segment_plan.declared.plan.Scenario.{Scenario}
+use Rattle.packets_heard.specs.of_segment_plan.declared.slave.SlaveSpec.{SlaveSpec}
+use Rattle.packets_heard.specs.of_segment_ring.declared.wire.Fate.{Fate}
+use Rattle.packets_heard.specs.of_segment_ring.declared.wire.Fate.TheVariants.{Pass, Lost}
+use Rattle.packets_heard.specs.of_state_model.Accounts.{Duty, Stage, Pick}
 
 -- it isn't gone, or was given up
 abbrev pub IsGiven : {M Q R : Type 0} → Life M Q R → Type 0

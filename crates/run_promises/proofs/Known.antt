@@ -2,13 +2,13 @@
 use Rattle.std.proofs.Common.{ℕ, Option, Some, None, List}
 use Rattle.std.specs.Prelude.{IfSome, slice_get}
 use Rattle.std.proofs.lemmas.List.Elements.{All-weaker}
-use Rattle.plan_ring.specs.Lives.{IsKnown, StateFits, RowFits}
-use Rattle.scenario.specs.Told.{IsTold}
-use Rattle.scenario.specs.of_scenario_services.Suited.{Suits}
-use Rattle.scenario.specs.of_scenario_services.Reading.{FitsSlave}
-use Rattle.run_frames.specs.of_segment_plan.declared.plan.Scenario.{Scenario}
-use Rattle.run_frames.specs.of_segment_plan.declared.service.Service as Plan
-use Rattle.run_frames.specs.of_segment_plan.declared.slave.SlaveSpec.{SlaveSpec}
+use Rattle.served_rings.specs.of_plan_ring.Lives.{IsKnown, StateFits, RowFits}
+use Rattle.served_rings.specs.of_scenario.Told.{IsTold}
+use Rattle.served_rings.specs.of_scenario_services.Suited.{Suits}
+use Rattle.served_rings.specs.of_scenario_services.Reading.{FitsSlave}
+use Rattle.packets_heard.specs.of_segment_plan.declared.plan.Scenario.{Scenario}
+use Rattle.packets_heard.specs.of_segment_plan.declared.service.Service as Plan
+use Rattle.packets_heard.specs.of_segment_plan.declared.slave.SlaveSpec.{SlaveSpec}
 
 -- a service that suits its slave asks for no state that the slave lacks
 state_fits : (s : SlaveSpec) (q : Plan.Service) → Suits s q → StateFits s q

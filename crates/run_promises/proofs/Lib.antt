@@ -1,3 +1,7 @@
+pub use Rattle.packets_heard.proofs.of_master_node as of_master_node
+pub use Rattle.packets_heard.proofs as of_packets_heard
+pub use Rattle.served_rings.proofs.of_run_work as of_run_work
+pub use Rattle.served_rings.proofs.of_state_model as of_state_model
 mod Served
 mod Ups
 mod Books

@@ -1,16 +1,16 @@
 -- AN OPEN SLAVE'S LIFE, by what was heard of it.
 use Rattle.std.specs.Prelude.{◌≡◌, ℕ, ◌<◌, Some, List, [], ◌∷◌, ◌++◌, length}
-use Rattle.exchange_model.specs.Prefix.{IsPrefixOf}
-use Rattle.exchange_model.specs.Rows.{heard_all}
-use Rattle.life_model.specs.Eras.{era_frames}
-use Rattle.life_model.specs.Lives.{Spot, Era, Life}
-use Rattle.link_mails.specs.Body.{Body}
-use Rattle.master_duty.specs.Reply.{Reply}
-use Rattle.master_hand.specs.Spoken.{Asked}
+use Rattle.packets_heard.specs.of_exchange_model.Prefix.{IsPrefixOf}
+use Rattle.packets_heard.specs.of_exchange_model.Rows.{heard_all}
+use Rattle.packets_heard.specs.of_life_model.Eras.{era_frames}
+use Rattle.packets_heard.specs.of_life_model.Lives.{Spot, Era, Life}
+use Rattle.packets_heard.specs.of_link_mails.Body.{Body}
+use Rattle.packets_heard.specs.of_master_duty.Reply.{Reply}
+use Rattle.packets_heard.specs.of_master_hand.Spoken.{Asked}
 use Rattle.packets_heard.specs.Heard.{ended}
-use Rattle.segment_model.specs.Record.{Frame, heard, kept_all, nothing_kept}
-use Rattle.segment_model.specs.Seats.{rows_of}
-use Rattle.state_model.specs.Promise.{services_in}
+use Rattle.packets_heard.specs.of_segment_model.Record.{Frame, heard, kept_all, nothing_kept}
+use Rattle.packets_heard.specs.of_segment_model.Seats.{rows_of}
+use Rattle.packets_heard.specs.of_state_model.Promise.{services_in}
 
 -- nothing came into hand of an epoch
 abbrev pub IsNew : Era Body Asked Reply → Type 0

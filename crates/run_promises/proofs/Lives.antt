@@ -1,15 +1,15 @@
 -- OF A LIFE that its master leads by quiet mails what is heard while the slave is open.
 use Rattle.std.proofs.Common.{◌≡◌, ◌&&◌, ℕ, Bool, true, List, refl, ap, ap₂, ◌∙◌, subst}
-use Rattle.few_replies.specs.Packets.{is_calm}
-use Rattle.frame_view.specs.View.{Lens}
+use Rattle.served_rings.specs.of_few_replies.Packets.{is_calm}
+use Rattle.packets_heard.specs.of_frame_view.View.{Lens}
 use Rattle.served_rings.specs.Led.{LedEra}
 use Rattle.served_rings.specs.Lives.{AllLeds, IsLedLived, LedKept, LedLeft, LedYet}
-use Rattle.life_model.specs.Lives.{Spot, Era, Life, Stand}
-use Rattle.link_mails.specs.Body.{Body}
-use Rattle.master_duty.specs.Reply.{Reply}
-use Rattle.master_hand.specs.Spoken.{Asked, is_followed, is_passed}
+use Rattle.packets_heard.specs.of_life_model.Lives.{Spot, Era, Life, Stand}
+use Rattle.packets_heard.specs.of_link_mails.Body.{Body}
+use Rattle.packets_heard.specs.of_master_duty.Reply.{Reply}
+use Rattle.packets_heard.specs.of_master_hand.Spoken.{Asked, is_followed, is_passed}
 use Rattle.served_rings.specs.Speakers.{processor_of, seer_of, spoken, table_of}
-use Rattle.segment_model.specs.Record.{Frame, Kept}
+use Rattle.packets_heard.specs.of_segment_model.Record.{Frame, Kept}
 use Rattle.run_promises.specs.Sends.{sends_most}
 use Rattle.run_promises.proofs.Live.{IsLive}
 use Rattle.served_rings.specs.Serves.{serves}
@@ -17,16 +17,16 @@ use Rattle.served_rings.specs.Clearing.{serves_clearing}
 use Rattle.run_promises.specs.Quiet.{quiet_speaker}
 use Rattle.run_promises.proofs.Times.{Weighs}
 use Rattle.run_promises.proofs.Seen.{Quiets, seen_live}
-use Rattle.slave_lives.specs.Lived.{Behind, node_seen}
-use Rattle.slave_lives.specs.Opening.{Plan}
-use Rattle.slave_model.specs.Profile.{Profile}
-use Rattle.slave_parts.specs.Parts.{Server}
-use Rattle.plan_ring.specs.of_slave_server.Serving.{Serving}
-use Rattle.slave_node.specs.Node.{Node}
-use Rattle.state_model.specs.Families.{InState}
-use Rattle.run_work.specs.of_life_counts.Epochs.{AllFair, IsSeen}
-use Rattle.run_work.proofs.of_life_counts.TaggedWhole.{epoch_seen}
-use Rattle.whole_ring.specs.Whole.{LivesOpenBy, StandsBy}
+use Rattle.served_rings.specs.of_slave_lives.Lived.{Behind, node_seen}
+use Rattle.served_rings.specs.of_slave_lives.Opening.{Plan}
+use Rattle.served_rings.specs.of_slave_model.Profile.{Profile}
+use Rattle.served_rings.specs.of_slave_parts.Parts.{Server}
+use Rattle.packets_heard.specs.of_slave_server.Serving.{Serving}
+use Rattle.packets_heard.specs.of_slave_node.Node.{Node}
+use Rattle.packets_heard.specs.of_state_model.Families.{InState}
+use Rattle.served_rings.specs.of_life_counts.Epochs.{AllFair, IsSeen}
+use Rattle.served_rings.proofs.of_life_counts.TaggedWhole.{epoch_seen}
+use Rattle.served_rings.specs.of_whole_ring.Whole.{LivesOpenBy, StandsBy}
 
 module _ (weigh : List ℕ → ℕ) (p : Profile) (laws : Quiets weigh p) (boot : Bool) (lens : ℕ → Lens) (spot : Spot) where
   abbrev w : Behind Serving (InState Server) (InState Server) Asked Reply

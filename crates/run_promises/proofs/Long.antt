@@ -1,24 +1,24 @@
 -- EACH PACKET that came in of an epoch has at least 14 octets, as those that were sent.
 use Rattle.std.proofs.Common.{◌≡◌, ℕ, zero, suc, Bool, None, List, [], ◌∷◌, ◌++◌, refl, sym, subst}
 use Rattle.std.specs.Prelude.{⊤}
-use Rattle.life_model.specs.Lives.{Era, Life, Stand}
-use Rattle.link_mails.specs.Body.{Body}
-use Rattle.master_duty.specs.Reply.{Reply}
-use Rattle.master_hand.specs.Joins.{packets_in}
-use Rattle.master_hand.specs.Spoken.{Asked}
+use Rattle.packets_heard.specs.of_life_model.Lives.{Era, Life, Stand}
+use Rattle.packets_heard.specs.of_link_mails.Body.{Body}
+use Rattle.packets_heard.specs.of_master_duty.Reply.{Reply}
+use Rattle.packets_heard.specs.of_master_hand.Joins.{packets_in}
+use Rattle.packets_heard.specs.of_master_hand.Spoken.{Asked}
 use Rattle.packets_heard.specs.Packets.{ArePackets, Emitted, octets_of}
 use Rattle.packets_heard.specs.Heard.{ended, packets_of}
-use Rattle.plan_ring.specs.of_slave_server.Serving.{Serving}
-use Rattle.plan_ring.specs.of_slave_server.Spec.{profile_of}
-use Rattle.run_work.specs.Lives.{first_server}
-use Rattle.segment_plan.specs.declared.slave.SlaveSpec.{SlaveSpec}
+use Rattle.packets_heard.specs.of_slave_server.Serving.{Serving}
+use Rattle.packets_heard.specs.of_slave_server.Spec.{profile_of}
+use Rattle.served_rings.specs.of_run_work.Lives.{first_server}
+use Rattle.packets_heard.specs.of_segment_plan.declared.slave.SlaveSpec.{SlaveSpec}
 use Rattle.run_promises.specs.Whole.{AllSendWhole, AreLong, ArriveWhole, LifeSends, NewestSends, PastSends, heard_at, heard_in, heard_over}
 use Rattle.served_rings.specs.Served.{AllServeSo, AreServedEras, IsServedLife, IsServedNewest}
-use Rattle.life_runs.specs.Served.{Serves}
-use Rattle.slave_model.specs.Profile.{Profile}
-use Rattle.slave_parts.specs.Parts.{Server}
-use Rattle.slave_node.specs.Node.{Node}
-use Rattle.state_model.specs.Families.{InState}
+use Rattle.packets_heard.specs.of_life_runs.Served.{Serves}
+use Rattle.served_rings.specs.of_slave_model.Profile.{Profile}
+use Rattle.served_rings.specs.of_slave_parts.Parts.{Server}
+use Rattle.packets_heard.specs.of_slave_node.Node.{Node}
+use Rattle.packets_heard.specs.of_state_model.Families.{InState}
 
 long_sent : (ps : List Emitted) → ArePackets ps → AreLong (octets_of ps)
 long_sent [] are = tt

@@ -1,15 +1,15 @@
 -- What a CoE server does with any mail: its answers are no fragments, and a packet that it emits is one that a download stored.
 use Rattle.std.proofs.Common.{◌≡◌, ℕ, zero, suc, ◌-◌, ◌==◌, ◌||◌, not, nat_le, nat_lt, Bool, true, false, List, [], ◌∷◌, ◌++◌, map, take, drop, length, Option, Some, None, Result, Ok, Err, refl, if◌then◌else◌}
 use Rattle.std.specs.Prelude.{⊤}
-use Rattle.protocol_models.specs.CoeMails as Coe
-use Rattle.protocol_models.specs.CoeMails.{CoeMail, mail, unread, failed, fragment, other, Abort, DownloadAnswer, SegmentAnswer, ExpeditedAnswer, FirstAnswer, UploadSegmentAnswer, Information, InformationError}
-use Rattle.protocol_models.specs.CoeOctets as CoeOctets
-use Rattle.protocol_models.specs.CoeServer.{Transfer, idle, downloading, uploading, Outcome, Emission, emission_of, ended, goes_on, silent, abort, download_answer, same, stored, takes_whole, begins, takes_first, takes_segment, is_expedited, opened, takes_upload_segment, parts_of, information_parts, answer_opcode, informed, unknown_command, takes_unread, coe_takes, coe_outcome, packet}
-use Rattle.protocol_models.specs.Tables.{Target, nowhere, Ask, list, object, entry, Tables}
-use Rattle.link_mails.specs.Body.{Body}
-use Rattle.master_hand.specs.Joins.{fragment_in}
+use Rattle.packets_heard.specs.of_protocol_models.CoeMails as Coe
+use Rattle.packets_heard.specs.of_protocol_models.CoeMails.{CoeMail, mail, unread, failed, fragment, other, Abort, DownloadAnswer, SegmentAnswer, ExpeditedAnswer, FirstAnswer, UploadSegmentAnswer, Information, InformationError}
+use Rattle.packets_heard.specs.of_protocol_models.CoeOctets as CoeOctets
+use Rattle.packets_heard.specs.of_protocol_models.CoeServer.{Transfer, idle, downloading, uploading, Outcome, Emission, emission_of, ended, goes_on, silent, abort, download_answer, same, stored, takes_whole, begins, takes_first, takes_segment, is_expedited, opened, takes_upload_segment, parts_of, information_parts, answer_opcode, informed, unknown_command, takes_unread, coe_takes, coe_outcome, packet}
+use Rattle.packets_heard.specs.of_protocol_models.Tables.{Target, nowhere, Ask, list, object, entry, Tables}
+use Rattle.packets_heard.specs.of_link_mails.Body.{Body}
+use Rattle.packets_heard.specs.of_master_hand.Joins.{fragment_in}
 use Rattle.packets_heard.specs.Packets.{parts}
-use Rattle.slave_model.specs.Server.{told_by}
+use Rattle.served_rings.specs.of_slave_model.Server.{told_by}
 
 abbrev pub written : CoeMail → Body
 written m = told_by CoeOctets.coe_mail_written m

@@ -1,21 +1,21 @@
 -- A fragment of a packet is what a slave sends of itself.
 use Rattle.std.proofs.Common.{◌≡◌, ℕ, ◌%◌, ◌&&◌, ◌==◌, nat_lt, nat_le, not, Bool, true, false, Option, Some, None, List, [], ◌∷◌, length, Result, Ok, Err, refl, sym, ap, ◌∙◌, arith, le-ltb, le-leb, if◌then◌else◌}
 use Rattle.std.specs.Prelude.{drop}
-use Rattle.ec_fields.specs.Fields.{number_at, bits_of}
-use Rattle.eoe.specs.Message.{fragment_in as spelled_fragment, message_in, eoe_read}
-use Rattle.eoe.specs.declared.message.Eoe.{Eoe}
-use Rattle.eoe.specs.declared.message.Eoe.TheVariants.{Fragment as Part, SetIp, SetIpAnswer, GetIp, GetIpAnswer}
-use Rattle.eoe.specs.declared.message.EoeFault.{EoeFault}
-use Rattle.eoe.specs.declared.message.Fragment.{Fragment}
-use Rattle.protocol_models.specs.CoeMails as CoeMails
-use Rattle.protocol_models.specs.CoeOctets.{is_fragment}
-use Rattle.protocol_models.specs.EoeMails.{failed, other}
-use Rattle.protocol_models.specs.EoeOctets as EoeOctets
-use Rattle.protocol_models.specs.EoeOctets.{is_error}
-use Rattle.link_mails.specs.Body.{Body}
-use Rattle.mailbox_mail.specs.declared.mail.Kind.{Kind}
-use Rattle.master_hand.specs.Joins.{fragment_of, fragment_in}
-use Rattle.slave_model.specs.Product.{emission}
+use Rattle.served_rings.specs.of_ec_fields.Fields.{number_at, bits_of}
+use Rattle.packets_heard.specs.of_eoe.Message.{fragment_in as spelled_fragment, message_in, eoe_read}
+use Rattle.packets_heard.specs.of_eoe.declared.message.Eoe.{Eoe}
+use Rattle.packets_heard.specs.of_eoe.declared.message.Eoe.TheVariants.{Fragment as Part, SetIp, SetIpAnswer, GetIp, GetIpAnswer}
+use Rattle.packets_heard.specs.of_eoe.declared.message.EoeFault.{EoeFault}
+use Rattle.packets_heard.specs.of_eoe.declared.message.Fragment.{Fragment}
+use Rattle.packets_heard.specs.of_protocol_models.CoeMails as CoeMails
+use Rattle.packets_heard.specs.of_protocol_models.CoeOctets.{is_fragment}
+use Rattle.packets_heard.specs.of_protocol_models.EoeMails.{failed, other}
+use Rattle.packets_heard.specs.of_protocol_models.EoeOctets as EoeOctets
+use Rattle.packets_heard.specs.of_protocol_models.EoeOctets.{is_error}
+use Rattle.packets_heard.specs.of_link_mails.Body.{Body}
+use Rattle.served_rings.specs.of_mailbox_mail.declared.mail.Kind.{Kind}
+use Rattle.packets_heard.specs.of_master_hand.Joins.{fragment_of, fragment_in}
+use Rattle.served_rings.specs.of_slave_model.Product.{emission}
 
 -- a body that reads as a fragment has type 0
 abbrev found : Result Eoe EoeFault → Option Fragment
@@ -43,7 +43,7 @@ none_found Q f e = absurd (cc)
 type_of : (first second : ℕ) (rest : List ℕ) (f : Fragment) → found (message_in first second rest) ≡ Some f → (bits_of first 0 4 == 0) ≡ true
 type_of first second rest f e = go (bits_of first 0 4 == 0) refl
   where
-    others : (a b c d : Bool) → found (if a then Ok (SetIp (record { items = rest })) else if b then Ok (SetIpAnswer second) else if c then Ok GetIp else if d then Ok (GetIpAnswer second (record { items = rest })) else Err Rattle.eoe.specs.declared.message.EoeFault.TheVariants.WrongType) ≡ None
+    others : (a b c d : Bool) → found (if a then Ok (SetIp (record { items = rest })) else if b then Ok (SetIpAnswer second) else if c then Ok GetIp else if d then Ok (GetIpAnswer second (record { items = rest })) else Err Rattle.packets_heard.specs.of_eoe.declared.message.EoeFault.TheVariants.WrongType) ≡ None
     others true b c d = refl
     others false true c d = refl
     others false false true d = refl
@@ -54,13 +54,13 @@ type_of first second rest f e = go (bits_of first 0 4 == 0) refl
     go true is = is
     go false is =
         let same : found (message_in first second rest) ≡ None =
-        ap (λ (z : Bool). found (if z then (if not (bits_of first 8 1 == 1) && not (length rest % 32 == 0) then Err Rattle.eoe.specs.declared.message.EoeFault.TheVariants.Offset else Ok (Part (spelled_fragment first second rest)))
-        else if bits_of first 0 4 == 2 then Ok (SetIp (record { items = rest })) else if bits_of first 0 4 == 3 then Ok (SetIpAnswer second) else if bits_of first 0 4 == 6 then Ok GetIp else if bits_of first 0 4 == 7 then Ok (GetIpAnswer second (record { items = rest })) else Err Rattle.eoe.specs.declared.message.EoeFault.TheVariants.WrongType)) is
+        ap (λ (z : Bool). found (if z then (if not (bits_of first 8 1 == 1) && not (length rest % 32 == 0) then Err Rattle.packets_heard.specs.of_eoe.declared.message.EoeFault.TheVariants.Offset else Ok (Part (spelled_fragment first second rest)))
+        else if bits_of first 0 4 == 2 then Ok (SetIp (record { items = rest })) else if bits_of first 0 4 == 3 then Ok (SetIpAnswer second) else if bits_of first 0 4 == 6 then Ok GetIp else if bits_of first 0 4 == 7 then Ok (GetIpAnswer second (record { items = rest })) else Err Rattle.packets_heard.specs.of_eoe.declared.message.EoeFault.TheVariants.WrongType)) is
         ∙ others (bits_of first 0 4 == 2) (bits_of first 0 4 == 3) (bits_of first 0 4 == 6) (bits_of first 0 4 == 7) in
         none_found ((bits_of first 0 4 == 0) ≡ true) f (sym same ∙ e)
 
 short : (body : List ℕ) (f : Fragment) → nat_lt (length body) 4 ≡ true → found (eoe_read body) ≡ Some f → ⊥
-short body f s e = none_found ⊥ f (sym (ap (λ (z : Bool). found (if z then Err Rattle.eoe.specs.declared.message.EoeFault.TheVariants.Short else message_in (number_at 2 body 0) (number_at 2 body 2) (drop 4 body))) s) ∙ e)
+short body f s e = none_found ⊥ f (sym (ap (λ (z : Bool). found (if z then Err Rattle.packets_heard.specs.of_eoe.declared.message.EoeFault.TheVariants.Short else message_in (number_at 2 body 0) (number_at 2 body 2) (drop 4 body))) s) ∙ e)
 
 body_is : (body : List ℕ) (f : Fragment) → found (eoe_read body) ≡ Some f → is_fragment body ≡ true
 body_is [] f e = absurd (short [] f refl e)
@@ -72,13 +72,13 @@ body_is (a ∷ b ∷ c ∷ d ∷ rest) f e =
     let long : nat_lt (length body) 4 ≡ false = le-ltb (length body) 4 (omega arith) in
     let more : nat_le 4 (length body) ≡ true = le-leb 4 (length body) (omega arith) in
     let read : found (message_in (number_at 2 body 0) (number_at 2 body 2) (drop 4 body)) ≡ Some f =
-    sym (ap (λ (z : Bool). found (if z then Err Rattle.eoe.specs.declared.message.EoeFault.TheVariants.Short else message_in (number_at 2 body 0) (number_at 2 body 2) (drop 4 body))) long) ∙ e in
+    sym (ap (λ (z : Bool). found (if z then Err Rattle.packets_heard.specs.of_eoe.declared.message.EoeFault.TheVariants.Short else message_in (number_at 2 body 0) (number_at 2 body 2) (drop 4 body))) long) ∙ e in
     let zero_type = type_of (number_at 2 body 0) (number_at 2 body 2) (drop 4 body) f read in
     let same : bits_of (number_at 2 body 0) 0 4 ≡ a % 16 = omega arith in
     ap (λ (z : Bool). z && (a % 16 == 0)) more ∙ ap (λ (n : ℕ). n == 0) (sym same) ∙ zero_type
 
 -- BY THE KIND OF THE MAIL
-by_kind : (k : Kind) (body : List ℕ) (f : Fragment) → fragment_of (EoeOctets.by_kind k body) ≡ Some f → Rattle.protocol_models.specs.CoeOctets.by_kind k body ≡ CoeMails.fragment body
+by_kind : (k : Kind) (body : List ℕ) (f : Fragment) → fragment_of (EoeOctets.by_kind k body) ≡ Some f → Rattle.packets_heard.specs.of_protocol_models.CoeOctets.by_kind k body ≡ CoeMails.fragment body
 by_kind Kind.EoE body f e = ap (λ (z : Bool). if z then CoeMails.fragment body else CoeMails.other body) (body_is body f (of_read body (eoe_read body) f e))
 by_kind Kind.Error body f e = absurd (none_error (is_error body) e)
   where

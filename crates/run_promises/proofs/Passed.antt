@@ -1,38 +1,38 @@
 -- What a slave sends by a mail that is passed on: no packet, by a fair mail of CoE, FoE or SoE.
 use Rattle.std.proofs.Common.{◌≡◌, ℕ, ◌==◌, ◌&&◌, ◌||◌, not, Bool, true, false, List, [], ◌∷◌, ◌++◌, map, Option, Some, None, Ok, Err, refl, ap, ◌∙◌, if◌then◌else◌}
-use Rattle.protocol_models.specs.CoeMails as Coe
-use Rattle.protocol_models.specs.CoeMails.{CoeMail, mail, unread, failed, other}
-use Rattle.protocol_models.specs.CoeOctets as CoeOctets
-use Rattle.protocol_models.specs.CoeServer.{Transfer, idle, downloading, uploading, Emission, emission_of, issued, coe_outcome, emergency, packet}
-use Rattle.protocol_models.specs.Tables.{Target}
-use Rattle.protocol_models.specs.EoeMails as Eoe
-use Rattle.protocol_models.specs.Network.{Station}
-use Rattle.protocol_models.specs.EoeOctets as EoeOctets
-use Rattle.exchange_model.specs.Refusing.{gated}
-use Rattle.few_replies.specs.Most.{is_packet_entry, brings_packet, begins_message, begins_mail, begins_packet}
-use Rattle.few_replies.specs.Packets.{is_calm, is_fair}
-use Rattle.few_replies.proofs.Few.{not_true}
-use Rattle.protocol_models.specs.FoeMails as Foe
-use Rattle.protocol_models.specs.FoeModel.{foe_exchange}
-use Rattle.protocol_models.specs.FoeOctets as FoeOctets
-use Rattle.link_mails.specs.Body.{Body}
-use Rattle.mailbox_mail.specs.declared.mail.Kind.{Kind}
-use Rattle.mailbox_mail.specs.declared.mail.MailFault.TheVariants.{UnknownKind}
-use Rattle.master_hand.specs.Joins.{fragment_in}
+use Rattle.packets_heard.specs.of_protocol_models.CoeMails as Coe
+use Rattle.packets_heard.specs.of_protocol_models.CoeMails.{CoeMail, mail, unread, failed, other}
+use Rattle.packets_heard.specs.of_protocol_models.CoeOctets as CoeOctets
+use Rattle.packets_heard.specs.of_protocol_models.CoeServer.{Transfer, idle, downloading, uploading, Emission, emission_of, issued, coe_outcome, emergency, packet}
+use Rattle.packets_heard.specs.of_protocol_models.Tables.{Target}
+use Rattle.packets_heard.specs.of_protocol_models.EoeMails as Eoe
+use Rattle.packets_heard.specs.of_protocol_models.Network.{Station}
+use Rattle.packets_heard.specs.of_protocol_models.EoeOctets as EoeOctets
+use Rattle.packets_heard.specs.of_exchange_model.Refusing.{gated}
+use Rattle.served_rings.specs.of_few_replies.Most.{is_packet_entry, brings_packet, begins_message, begins_mail, begins_packet}
+use Rattle.served_rings.specs.of_few_replies.Packets.{is_calm, is_fair}
+use Rattle.served_rings.proofs.of_few_replies.Few.{not_true}
+use Rattle.packets_heard.specs.of_protocol_models.FoeMails as Foe
+use Rattle.packets_heard.specs.of_protocol_models.FoeModel.{foe_exchange}
+use Rattle.packets_heard.specs.of_protocol_models.FoeOctets as FoeOctets
+use Rattle.packets_heard.specs.of_link_mails.Body.{Body}
+use Rattle.served_rings.specs.of_mailbox_mail.declared.mail.Kind.{Kind}
+use Rattle.served_rings.specs.of_mailbox_mail.declared.mail.MailFault.TheVariants.{UnknownKind}
+use Rattle.packets_heard.specs.of_master_hand.Joins.{fragment_in}
 use Rattle.packets_heard.specs.Packets.{parts}
 use Rattle.run_promises.specs.Sends.{of_network, is_network}
 use Rattle.run_promises.proofs.Cuts.{parts_append}
 use Rattle.run_promises.proofs.Outcomes.{OfMail, OfMessage, OfTransfer, outcome, written}
-use Rattle.slave_model.specs.Application.{station_elements, station_files, station_tables}
-use Rattle.slave_model.specs.Product.{served, refusal, side, serve, serve_by, protocol_of}
-use Rattle.slave_model.specs.Profile.{Protocol, Profile, areas_of, serves}
-use Rattle.slave_model.specs.Server.{seat, told_by, heard_by, eoe_quiet, soe_quiet, refused_gives, failure}
-use Rattle.slave_parts.specs.Parts.{Core, Server, parts as real_parts}
-use Rattle.slave_parts.specs.Served.{product_whole}
-use Rattle.protocol_models.specs.SoeMails as Soe
-use Rattle.protocol_models.specs.SoeModel.{soe_exchange}
-use Rattle.protocol_models.specs.SoeOctets as SoeOctets
-use Rattle.state_model.specs.Families.{InState}
+use Rattle.served_rings.specs.of_slave_model.Application.{station_elements, station_files, station_tables}
+use Rattle.served_rings.specs.of_slave_model.Product.{served, refusal, side, serve, serve_by, protocol_of}
+use Rattle.served_rings.specs.of_slave_model.Profile.{Protocol, Profile, areas_of, serves}
+use Rattle.served_rings.specs.of_slave_model.Server.{seat, told_by, heard_by, eoe_quiet, soe_quiet, refused_gives, failure}
+use Rattle.served_rings.specs.of_slave_parts.Parts.{Core, Server, parts as real_parts}
+use Rattle.served_rings.specs.of_slave_parts.Served.{product_whole}
+use Rattle.packets_heard.specs.of_protocol_models.SoeMails as Soe
+use Rattle.packets_heard.specs.of_protocol_models.SoeModel.{soe_exchange}
+use Rattle.packets_heard.specs.of_protocol_models.SoeOctets as SoeOctets
+use Rattle.packets_heard.specs.of_state_model.Families.{InState}
 
 -- what a download of another entry emits is no packet
 other_entry : (eoe : Bool) (t : Target) (bytes octets : List ℕ) → is_packet_entry t ≡ false → emission_of eoe t bytes ≡ Some (packet octets) → ⊥

@@ -6,14 +6,14 @@ use Rattle.std.proofs.lemmas.List.Elements.{All-head, All-tail}
 use Rattle.std.proofs.lemmas.List.Sums.{sum_by-cons}
 use Rattle.std.proofs.lemmas.Nat.{mul-le}
 use Rattle.arrayvec.specs.ArrayVec.{ArrayVec}
-use Rattle.eoe_switch.specs.declared.switching.SwitchEvent.{SwitchEvent}
-use Rattle.eoe_switch.specs.declared.switching.SwitchEvent.TheVariants.{Arrive, Begun, Down}
+use Rattle.packets_heard.specs.of_eoe_switch.declared.switching.SwitchEvent.{SwitchEvent}
+use Rattle.packets_heard.specs.of_eoe_switch.declared.switching.SwitchEvent.TheVariants.{Arrive, Begun, Down}
 use Rattle.packets_heard.specs.of_master_node.Happened.{arrived_by, arrivals_at}
 use Rattle.packets_heard.specs.of_master_node.Ports.{IsAtPort}
-use Rattle.run_work.specs.Flows.{forwards_work, slaves_work, entry_work, entries_work, AllComeAt}
-use Rattle.run_work.specs.Packets.{waiting_work, queue_work}
+use Rattle.served_rings.specs.of_run_work.Flows.{forwards_work, slaves_work, entry_work, entries_work, AllComeAt}
+use Rattle.served_rings.specs.of_run_work.Packets.{waiting_work, queue_work}
 use Rattle.packets_heard.specs.Over.{forwarded_to}
-use Rattle.segment_plan.specs.declared.slave.SlaveSpec.{SlaveSpec}
+use Rattle.packets_heard.specs.of_segment_plan.declared.slave.SlaveSpec.{SlaveSpec}
 
 -- the sum over the ports of slaves, behind this one
 abbrev pub ports_sum : (ℕ → ℕ) → ℕ → List SlaveSpec → ℕ
@@ -208,7 +208,7 @@ pub come_at : (many : ℕ) (es : List SwitchEvent) → All (IsAtPort many) es �
 come_at many [] at = tt
 come_at many (e ∷ es) at = (one e (All-head (IsAtPort many) e es at), come_at many es (All-tail (IsAtPort many) e es at))
   where
-    one : (e : SwitchEvent) → IsAtPort many e → Rattle.run_work.specs.Flows.ComesAt many e
+    one : (e : SwitchEvent) → IsAtPort many e → Rattle.served_rings.specs.of_run_work.Flows.ComesAt many e
     one (Arrive port packet) at = at.0
     one (Begun port) at = tt
     one (Down port) at = tt

@@ -1,14 +1,14 @@
 -- WHERE ALL ARE AT REST nothing is left, slave by slave.
 use Rattle.std.proofs.Common.{◌≡◌, inl, inr, ℕ, suc, List, [], ◌∷◌}
-use Rattle.run_frames.specs.of_life_runs.First.{lens_of}
-use Rattle.run_frames.specs.of_life_runs.Led.{Exchanged, Leads}
+use Rattle.packets_heard.specs.of_life_runs.First.{lens_of}
+use Rattle.packets_heard.specs.of_life_runs.Led.{Exchanged, Leads}
 use Rattle.run_promises.specs.Promise.{KeepsOne, AllKeep, Keeps, slaves_behind}
 use Rattle.run_promises.specs.Rest.{IsAtRest, AllAtRest, HasNothingLeft, AllHaveNothingLeft, AllStayed, AllAreDone, IsResting, NothingIsLeft, AllIsDone}
 use Rattle.run_promises.specs.Rests.{IsDone}
-use Rattle.run_frames.specs.of_segment_plan.declared.plan.Scenario.{Scenario}
-use Rattle.run_frames.specs.of_segment_plan.declared.slave.SlaveSpec.{SlaveSpec}
-use Rattle.plan_ring.specs.of_slave_server.Serving.{Serving}
-use Rattle.plan_ring.specs.of_slave_node.Node.{Node}
+use Rattle.packets_heard.specs.of_segment_plan.declared.plan.Scenario.{Scenario}
+use Rattle.packets_heard.specs.of_segment_plan.declared.slave.SlaveSpec.{SlaveSpec}
+use Rattle.packets_heard.specs.of_slave_server.Serving.{Serving}
+use Rattle.packets_heard.specs.of_slave_node.Node.{Node}
 
 module _ (plan : Scenario) (fs : List Exchanged) where
   one_rests : (place : ℕ) (s : SlaveSpec) (a : Leads) (n : Node Serving) → KeepsOne plan fs place s a n → IsAtRest (lens_of plan.slaves) a n → HasNothingLeft plan fs place s a n

@@ -2,44 +2,44 @@
 use Rattle.std.proofs.Common.{◌≡◌, ℕ, suc, true, Option, Some, None, List, [], ◌∷◌, map, length, take, filter, ap, sym, ◌∙◌, subst}
 use Rattle.std.specs.Prelude.{not}
 use Rattle.std.proofs.Math.Seq.{take-length}
-use Rattle.run_frames.specs.of_life_model.Script.{life_started}
-use Rattle.run_frames.specs.of_protocol_models.Network.{Station}
-use Rattle.run_frames.specs.of_exchange_model.Exchange.{Speech}
-use Rattle.run_frames.specs.of_exchange_model.Rows.{Row}
-use Rattle.run_frames.specs.of_frame_view.View.{Lens}
-use Rattle.run_frames.specs.of_frame_view.Shares.{Lived}
-use Rattle.run_frames.specs.of_life_model.Eras.{Clearing}
-use Rattle.run_frames.specs.of_life_model.Lives.{Spot, Life, Stand}
-use Rattle.run_frames.specs.of_life_runs.First.{lens_of, spot_of, script_for}
-use Rattle.run_frames.specs.of_life_runs.Led.{Exchanged, Leads, speech_at}
-use Rattle.run_frames.specs.of_link_mails.Body.{Body}
-use Rattle.run_frames.specs.of_master_duty.Reply.{Reply}
-use Rattle.run_frames.specs.of_master_hand.Spoken.{Asked, hand_speech, is_followed}
-use Rattle.plan_ring.specs.Alike.{RowIs}
-use Rattle.plan_ring.proofs.Alike as Alike
-use Rattle.plan_ring.specs.Asked.{is_service}
-use Rattle.plan_ring.specs.Master.{speech_of, IsLed, AllLed, owed}
-use Rattle.plan_ring.specs.Plan.{PlanMember, FitsPlan, step, first_app}
-use Rattle.run_frames.specs.of_segment_model.Laws.{WantsNothing, NothingInHand}
-use Rattle.run_frames.specs.of_segment_model.Record.{Frame}
-use Rattle.run_frames.specs.of_segment_plan.declared.plan.Scenario.{Scenario}
-use Rattle.run_frames.specs.of_segment_plan.declared.slave.SlaveSpec.{SlaveSpec}
-use Rattle.plan_ring.specs.Real.{real_clearing}
-use Rattle.plan_ring.specs.of_slave_lives.Lived.{Behind}
-use Rattle.plan_ring.specs.of_slave_parts.Parts.{Core, Server}
-use Rattle.plan_ring.specs.of_slave_server.Serving.{Serving, next_mail}
-use Rattle.plan_ring.specs.of_slave_node.Node.{Node, is_settled}
-use Rattle.run_frames.specs.of_state_model.Families.{InState}
-use Rattle.plan_ring.specs.of_whole_ring.Whole.{StandsAs, LivesOpen}
-use Rattle.plan_ring.specs.of_whole_ring.Members.{MemberIs, AllLived}
-use Rattle.plan_ring.specs.Lives.{IsShown, AllShown, AreLived}
-use Rattle.plan_ring.specs.Round.{ring_of, ring_after, all_seen}
-use Rattle.run_frames.specs.Came.{AreThose, is_packet}
-use Rattle.plan_ring.specs.Epochs.{AreKept, NothingLeft, app_of}
+use Rattle.packets_heard.specs.of_life_model.Script.{life_started}
+use Rattle.packets_heard.specs.of_protocol_models.Network.{Station}
+use Rattle.packets_heard.specs.of_exchange_model.Exchange.{Speech}
+use Rattle.packets_heard.specs.of_exchange_model.Rows.{Row}
+use Rattle.packets_heard.specs.of_frame_view.View.{Lens}
+use Rattle.packets_heard.specs.of_frame_view.Shares.{Lived}
+use Rattle.packets_heard.specs.of_life_model.Eras.{Clearing}
+use Rattle.packets_heard.specs.of_life_model.Lives.{Spot, Life, Stand}
+use Rattle.packets_heard.specs.of_life_runs.First.{lens_of, spot_of, script_for}
+use Rattle.packets_heard.specs.of_life_runs.Led.{Exchanged, Leads, speech_at}
+use Rattle.packets_heard.specs.of_link_mails.Body.{Body}
+use Rattle.packets_heard.specs.of_master_duty.Reply.{Reply}
+use Rattle.packets_heard.specs.of_master_hand.Spoken.{Asked, hand_speech, is_followed}
+use Rattle.served_rings.specs.of_plan_ring.Alike.{RowIs}
+use Rattle.served_rings.proofs.of_plan_ring.Alike as Alike
+use Rattle.served_rings.specs.of_plan_ring.Asked.{is_service}
+use Rattle.served_rings.specs.of_plan_ring.Master.{speech_of, IsLed, AllLed, owed}
+use Rattle.served_rings.specs.of_plan_ring.Plan.{PlanMember, FitsPlan, step, first_app}
+use Rattle.packets_heard.specs.of_segment_model.Laws.{WantsNothing, NothingInHand}
+use Rattle.packets_heard.specs.of_segment_model.Record.{Frame}
+use Rattle.packets_heard.specs.of_segment_plan.declared.plan.Scenario.{Scenario}
+use Rattle.packets_heard.specs.of_segment_plan.declared.slave.SlaveSpec.{SlaveSpec}
+use Rattle.served_rings.specs.of_plan_ring.Real.{real_clearing}
+use Rattle.served_rings.specs.of_slave_lives.Lived.{Behind}
+use Rattle.served_rings.specs.of_slave_parts.Parts.{Core, Server}
+use Rattle.packets_heard.specs.of_slave_server.Serving.{Serving, next_mail}
+use Rattle.packets_heard.specs.of_slave_node.Node.{Node, is_settled}
+use Rattle.packets_heard.specs.of_state_model.Families.{InState}
+use Rattle.served_rings.specs.of_whole_ring.Whole.{StandsAs, LivesOpen}
+use Rattle.served_rings.specs.of_whole_ring.Members.{MemberIs, AllLived}
+use Rattle.served_rings.specs.of_plan_ring.Lives.{IsShown, AllShown, AreLived}
+use Rattle.served_rings.specs.of_plan_ring.Round.{ring_of, ring_after, all_seen}
+use Rattle.served_rings.specs.of_run_frames.Came.{AreThose, is_packet}
+use Rattle.served_rings.specs.of_plan_ring.Epochs.{AreKept, NothingLeft, app_of}
 use Rattle.run_promises.specs.Rests.{IsIdle, IsDone, AllDoneIf}
 use Rattle.run_promises.specs.Slaves.{services_of}
-use Rattle.run_frames.specs.Slaves.{HasCome, AllCome}
-use Rattle.plan_ring.proofs.Epochs.{lived_rests, past_kept}
+use Rattle.served_rings.specs.of_run_frames.Slaves.{HasCome, AllCome}
+use Rattle.served_rings.proofs.of_plan_ring.Epochs.{lived_rests, past_kept}
 use Rattle.run_promises.proofs.Served.{one_served}
 
 -- a newest epoch of which nothing is left, of a slave with any services

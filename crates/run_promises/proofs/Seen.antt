@@ -2,27 +2,27 @@
 use Rattle.std.proofs.Common.{◌≡◌, ℕ, zero, suc, ◌≤◌, ◌<◌, Bool, true, false, Option, None, List, [], ◌∷◌, ◌++◌, map, take, length, refl, sym, ap, ◌∙◌, arith}
 use Rattle.std.specs.Prelude.{sum_by}
 use Rattle.std.proofs.lemmas.List.Sums.{sum_by-cons}
-use Rattle.exchange_model.specs.Exchange.{emitted}
-use Rattle.exchange_model.specs.Lifted.{EachOf}
-use Rattle.exchange_model.specs.Prefix.{IsPrefixOf}
-use Rattle.exchange_model.specs.Rows.{emits_all}
-use Rattle.few_replies.specs.Calm.{IsCalm}
-use Rattle.few_replies.specs.Packets.{is_calm, is_fair}
-use Rattle.run_work.specs.of_life_counts.Seen.{service_seen, started_seen}
-use Rattle.life_model.specs.Eras.{OpenEra, era_frames}
-use Rattle.life_model.specs.Lives.{Spot, Era, Life}
-use Rattle.life_model.proofs.Eras.{of_one, session_of}
-use Rattle.link_mails.specs.Body.{Body}
-use Rattle.master_duty.specs.Reply as Master
-use Rattle.master_hand.specs.Joins.{packets_in}
-use Rattle.master_hand.specs.Spoken as Spoken
-use Rattle.few_replies.specs.Erased.{frame_as}
-use Rattle.few_replies.proofs.Naturals.{kept_of}
+use Rattle.packets_heard.specs.of_exchange_model.Exchange.{emitted}
+use Rattle.packets_heard.specs.of_exchange_model.Lifted.{EachOf}
+use Rattle.packets_heard.specs.of_exchange_model.Prefix.{IsPrefixOf}
+use Rattle.packets_heard.specs.of_exchange_model.Rows.{emits_all}
+use Rattle.served_rings.specs.of_few_replies.Calm.{IsCalm}
+use Rattle.served_rings.specs.of_few_replies.Packets.{is_calm, is_fair}
+use Rattle.served_rings.specs.of_life_counts.Seen.{service_seen, started_seen}
+use Rattle.packets_heard.specs.of_life_model.Eras.{OpenEra, era_frames}
+use Rattle.packets_heard.specs.of_life_model.Lives.{Spot, Era, Life}
+use Rattle.served_rings.proofs.of_life_model.Eras.{of_one, session_of}
+use Rattle.packets_heard.specs.of_link_mails.Body.{Body}
+use Rattle.packets_heard.specs.of_master_duty.Reply as Master
+use Rattle.packets_heard.specs.of_master_hand.Joins.{packets_in}
+use Rattle.packets_heard.specs.of_master_hand.Spoken as Spoken
+use Rattle.served_rings.specs.of_few_replies.Erased.{frame_as}
+use Rattle.served_rings.proofs.of_few_replies.Naturals.{kept_of}
 use Rattle.served_rings.proofs.HeardSeen.{emitted_untag, heard_as}
 use Rattle.served_rings.specs.Speakers.{seer_of, table_of, whole_states}
-use Rattle.run_work.specs.Sessions.{InRow, Meant, Wanted, named_wanted}
-use Rattle.segment_model.specs.Record.{Frame, Kept, heard, kept_after, kept_all, nothing_kept}
-use Rattle.segment_model.specs.Slaves.{Registers, Slave}
+use Rattle.served_rings.specs.of_run_work.Sessions.{InRow, Meant, Wanted, named_wanted}
+use Rattle.packets_heard.specs.of_segment_model.Record.{Frame, Kept, heard, kept_after, kept_all, nothing_kept}
+use Rattle.packets_heard.specs.of_segment_model.Slaves.{Registers, Slave}
 use Rattle.run_promises.specs.Sends.{sends_most}
 use Rattle.run_promises.proofs.Epochs.{Emit, Joins, few_heard, first_sum}
 use Rattle.run_promises.proofs.Live.{IsLive}
@@ -31,21 +31,21 @@ use Rattle.run_promises.proofs.Owns.{own_fragment}
 use Rattle.run_promises.specs.Quiet.{is_quiet, quiet_speaker}
 use Rattle.run_promises.proofs.Folds.{untag_append, PassedNone, all_send, both, wants_most}
 use Rattle.run_promises.proofs.Valid.{era_valid}
-use Rattle.serving_model.specs.Tagged.{is_own, untag}
-use Rattle.slave_model.specs.Product.{emission}
-use Rattle.slave_model.specs.Profile.{Profile}
-use Rattle.slave_model.specs.Server.{Reply}
-use Rattle.slave_model.proofs.Stations.{left_of, right_of}
-use Rattle.slave_parts.specs.Parts.{Server, parts as real_parts}
-use Rattle.slave_parts.specs.Served.{product_whole}
-use Rattle.state_model.specs.Families.{InState}
-use Rattle.state_model.specs.Stated.{Service, mails, service_valid}
-use Rattle.run_work.specs.of_life_counts.Epochs.{IsSeen, IsSpeaker, between, seeing, seeing_states}
-use Rattle.run_work.proofs.of_life_counts.Eras.{Knows, era_knows}
-use Rattle.run_work.proofs.of_life_counts.TaggedWhole.{seeing_lawful, seeing_stated}
-use Rattle.state_model.specs.Accounts.{Started}
-use Rattle.state_model.specs.Promise.{TasksPromised, services_in}
-use Rattle.state_model.proofs.Sessions.{tasks_promised}
+use Rattle.served_rings.specs.of_serving_model.Tagged.{is_own, untag}
+use Rattle.served_rings.specs.of_slave_model.Product.{emission}
+use Rattle.served_rings.specs.of_slave_model.Profile.{Profile}
+use Rattle.served_rings.specs.of_slave_model.Server.{Reply}
+use Rattle.served_rings.proofs.of_slave_model.Stations.{left_of, right_of}
+use Rattle.served_rings.specs.of_slave_parts.Parts.{Server, parts as real_parts}
+use Rattle.served_rings.specs.of_slave_parts.Served.{product_whole}
+use Rattle.packets_heard.specs.of_state_model.Families.{InState}
+use Rattle.packets_heard.specs.of_state_model.Stated.{Service, mails, service_valid}
+use Rattle.served_rings.specs.of_life_counts.Epochs.{IsSeen, IsSpeaker, between, seeing, seeing_states}
+use Rattle.served_rings.proofs.of_life_counts.Eras.{Knows, era_knows}
+use Rattle.served_rings.proofs.of_life_counts.TaggedWhole.{seeing_lawful, seeing_stated}
+use Rattle.packets_heard.specs.of_state_model.Accounts.{Started}
+use Rattle.packets_heard.specs.of_state_model.Promise.{TasksPromised, services_in}
+use Rattle.served_rings.proofs.of_state_model.Sessions.{tasks_promised}
 
 -- ---- what frames tell without what is meant by their mails
 module _ {N M : Type 0} (f : N → M) where

@@ -2,24 +2,24 @@
 use Rattle.std.proofs.Common.{◌≡◌, ℕ, Bool, true, false, None, All, List, [], ◌∷◌, length, map, take, Ok, refl, sym, ap, ◌∙◌, subst, arith}
 use Rattle.std.specs.Prelude.{sum_by}
 use Rattle.std.proofs.lemmas.List.Elements.{All-head, All-tail}
-use Rattle.exchange_model.specs.Exchange.{Exchange, emitted}
-use Rattle.exchange_model.specs.Rows.{heard_all}
-use Rattle.life_model.specs.Lives.{Era, Life, Stand}
-use Rattle.link_mails.specs.Body.{Body}
-use Rattle.mailbox_mail.specs.declared.mail.Mail.{Mail}
-use Rattle.master_duty.specs.Reply.{Reply}
-use Rattle.master_hand.specs.Joins.{fragment_in}
-use Rattle.master_hand.specs.Spoken.{Asked, sdo, file, drive, net, passed}
+use Rattle.packets_heard.specs.of_exchange_model.Exchange.{Exchange, emitted}
+use Rattle.packets_heard.specs.of_exchange_model.Rows.{heard_all}
+use Rattle.packets_heard.specs.of_life_model.Lives.{Era, Life, Stand}
+use Rattle.packets_heard.specs.of_link_mails.Body.{Body}
+use Rattle.served_rings.specs.of_mailbox_mail.declared.mail.Mail.{Mail}
+use Rattle.packets_heard.specs.of_master_duty.Reply.{Reply}
+use Rattle.packets_heard.specs.of_master_hand.Joins.{fragment_in}
+use Rattle.packets_heard.specs.of_master_hand.Spoken.{Asked, sdo, file, drive, net, passed}
 use Rattle.packets_heard.specs.Packets.{parts}
 use Rattle.packets_heard.proofs.PacketParts.{heard_own, joined_first}
 use Rattle.packets_heard.proofs.Parts.{packets_whole}
-use Rattle.plan_ring.proofs.Valid.{core_is_valid}
-use Rattle.plan_ring.specs.of_slave_server.Serving.{Serving}
-use Rattle.plan_ring.specs.of_slave_server.Spec.{profile_of}
-use Rattle.run_work.specs.Lives.{first_server}
-use Rattle.run_work.specs.Sessions.{OwnService}
-use Rattle.segment_plan.specs.Sound.{IsSlave}
-use Rattle.segment_plan.specs.declared.slave.SlaveSpec.{SlaveSpec}
+use Rattle.served_rings.proofs.of_plan_ring.Valid.{core_is_valid}
+use Rattle.packets_heard.specs.of_slave_server.Serving.{Serving}
+use Rattle.packets_heard.specs.of_slave_server.Spec.{profile_of}
+use Rattle.served_rings.specs.of_run_work.Lives.{first_server}
+use Rattle.served_rings.specs.of_run_work.Sessions.{OwnService}
+use Rattle.packets_heard.specs.of_segment_plan.Sound.{IsSlave}
+use Rattle.packets_heard.specs.of_segment_plan.declared.slave.SlaveSpec.{SlaveSpec}
 use Rattle.run_promises.specs.Sends.{MaySend, Sends, may_send}
 use Rattle.run_promises.specs.Whole.{AllSendWhole, EraSends, LifeSends, NewestSends, PastSends, heard_in}
 use Rattle.run_promises.proofs.All.{valid_sends}
@@ -32,19 +32,19 @@ use Rattle.run_promises.proofs.Stays.{coe_stays, eoe_stays, foe_stays, soe_stays
 use Rattle.run_promises.proofs.Wholes.{SendsSome, no_weight, sends_nothing, serve_leaves}
 use Rattle.served_rings.specs.Served.{AllServeSo, AreServedEras, IsServedEra, IsServedLife, IsServedNewest, emitted_behind, server_behind}
 use Rattle.served_rings.specs.Speakers.{cleared_whole, spoken}
-use Rattle.life_runs.specs.Served.{Serves}
-use Rattle.serving_model.specs.Tagged.{own_gift, untag}
-use Rattle.slave_model.specs.Product.{emission, refusal}
-use Rattle.slave_model.specs.Profile.{IsProfile, Profile, Protocol, serves}
-use Rattle.slave_model.specs.Server.{ServiceOf, reseated, seat}
-use Rattle.slave_parts.specs.Parts.{Server, parts as real_parts}
-use Rattle.slave_parts.specs.Served.{product_whole, served_whole, side_whole}
-use Rattle.slave_parts.specs.SoeServed.{met}
-use Rattle.slave_parts.specs.Whole.{gated_whole}
-use Rattle.slave_node.specs.Node.{Node}
-use Rattle.state_model.specs.Families.{InState}
-use Rattle.state_model.specs.Stated.{Service}
-use Rattle.state_model.specs.Promise.{services_in}
+use Rattle.packets_heard.specs.of_life_runs.Served.{Serves}
+use Rattle.served_rings.specs.of_serving_model.Tagged.{own_gift, untag}
+use Rattle.served_rings.specs.of_slave_model.Product.{emission, refusal}
+use Rattle.served_rings.specs.of_slave_model.Profile.{IsProfile, Profile, Protocol, serves}
+use Rattle.served_rings.specs.of_slave_model.Server.{ServiceOf, reseated, seat}
+use Rattle.served_rings.specs.of_slave_parts.Parts.{Server, parts as real_parts}
+use Rattle.served_rings.specs.of_slave_parts.Served.{product_whole, served_whole, side_whole}
+use Rattle.served_rings.specs.of_slave_parts.SoeServed.{met}
+use Rattle.served_rings.specs.of_slave_parts.Whole.{gated_whole}
+use Rattle.packets_heard.specs.of_slave_node.Node.{Node}
+use Rattle.packets_heard.specs.of_state_model.Families.{InState}
+use Rattle.packets_heard.specs.of_state_model.Stated.{Service}
+use Rattle.packets_heard.specs.of_state_model.Promise.{services_in}
 
 module _ (p : Profile) (is : IsProfile p) where
   -- ---- A SERVICE of the script: what it sends, and the server that it leaves
@@ -61,7 +61,7 @@ module _ (p : Profile) (is : IsProfile p) where
       go Protocol.SoE q false = may
       go Protocol.EoE q false = may
 
-  abbrev x : Exchange (InState Server) (InState Server) Body OwnService Rattle.slave_model.specs.Server.Reply
+  abbrev x : Exchange (InState Server) (InState Server) Body OwnService Rattle.served_rings.specs.of_slave_model.Server.Reply
   x = product_whole real_parts p
 
   script_sends : (v : InState Server) (i : Protocol) (q : ServiceOf i) → MaySend v.inner.app → SendsSome p.back (untag {Q = OwnService} (map (λ g. own_gift g) (x.emits v (i, q))))

@@ -1,30 +1,30 @@
 -- THE PROMISE, slave by slave.
 use Rattle.std.proofs.Common.{◌≡◌, ℕ, suc, List, [], ◌∷◌, map, ap, sym, ◌∙◌, subst}
-use Rattle.run_frames.specs.of_frame_view.View.{Lens}
-use Rattle.run_frames.specs.of_frame_view.Shares.{Lived}
-use Rattle.run_frames.specs.of_life_model.Lives.{Life}
-use Rattle.run_frames.specs.of_life_runs.First.{lens_of, spot_of, script_for}
-use Rattle.run_frames.specs.of_life_runs.Led.{Exchanged, Leads}
-use Rattle.run_frames.specs.of_link_mails.Body.{Body}
-use Rattle.run_frames.specs.of_life_model.Script.{life_started}
-use Rattle.run_frames.specs.of_master_duty.Reply.{Reply}
-use Rattle.run_frames.specs.of_master_hand.Spoken.{Asked, is_followed}
-use Rattle.plan_ring.specs.Plan.{PlanMember, FitsPlan, step, first_app}
-use Rattle.run_frames.specs.of_segment_model.Record.{Frame}
-use Rattle.run_frames.specs.of_segment_plan.declared.plan.Scenario.{Scenario}
-use Rattle.run_frames.specs.of_segment_plan.declared.slave.SlaveSpec.{SlaveSpec}
-use Rattle.plan_ring.specs.Real.{real_clearing}
-use Rattle.plan_ring.specs.of_slave_server.Serving.{Serving}
-use Rattle.plan_ring.specs.of_slave_node.Node.{Node}
-use Rattle.plan_ring.specs.of_whole_ring.Members.{MemberIs, AllLived}
-use Rattle.plan_ring.specs.Lives.{IsShown, AllShown, AreLived}
-use Rattle.plan_ring.specs.Master.{IsLed, AllLed, owed}
-use Rattle.plan_ring.specs.Round.{ring_of, ring_after, all_seen}
-use Rattle.run_frames.specs.Came.{Came, AreFirst}
-use Rattle.plan_ring.specs.Epochs.{IsKeptLife}
+use Rattle.packets_heard.specs.of_frame_view.View.{Lens}
+use Rattle.packets_heard.specs.of_frame_view.Shares.{Lived}
+use Rattle.packets_heard.specs.of_life_model.Lives.{Life}
+use Rattle.packets_heard.specs.of_life_runs.First.{lens_of, spot_of, script_for}
+use Rattle.packets_heard.specs.of_life_runs.Led.{Exchanged, Leads}
+use Rattle.packets_heard.specs.of_link_mails.Body.{Body}
+use Rattle.packets_heard.specs.of_life_model.Script.{life_started}
+use Rattle.packets_heard.specs.of_master_duty.Reply.{Reply}
+use Rattle.packets_heard.specs.of_master_hand.Spoken.{Asked, is_followed}
+use Rattle.served_rings.specs.of_plan_ring.Plan.{PlanMember, FitsPlan, step, first_app}
+use Rattle.packets_heard.specs.of_segment_model.Record.{Frame}
+use Rattle.packets_heard.specs.of_segment_plan.declared.plan.Scenario.{Scenario}
+use Rattle.packets_heard.specs.of_segment_plan.declared.slave.SlaveSpec.{SlaveSpec}
+use Rattle.served_rings.specs.of_plan_ring.Real.{real_clearing}
+use Rattle.packets_heard.specs.of_slave_server.Serving.{Serving}
+use Rattle.packets_heard.specs.of_slave_node.Node.{Node}
+use Rattle.served_rings.specs.of_whole_ring.Members.{MemberIs, AllLived}
+use Rattle.served_rings.specs.of_plan_ring.Lives.{IsShown, AllShown, AreLived}
+use Rattle.served_rings.specs.of_plan_ring.Master.{IsLed, AllLed, owed}
+use Rattle.served_rings.specs.of_plan_ring.Round.{ring_of, ring_after, all_seen}
+use Rattle.served_rings.specs.of_run_frames.Came.{Came, AreFirst}
+use Rattle.served_rings.specs.of_plan_ring.Epochs.{IsKeptLife}
 use Rattle.run_promises.specs.Slaves.{services_of, IsServed, AllServed}
-use Rattle.run_frames.specs.Slaves.{HasCome, AllCome}
-use Rattle.plan_ring.proofs.Epochs.{kept_life}
+use Rattle.served_rings.specs.of_run_frames.Slaves.{HasCome, AllCome}
+use Rattle.served_rings.proofs.of_plan_ring.Epochs.{kept_life}
 
 module _ (plan : Scenario) (fs : List Exchanged) where
   abbrev lens : ℕ → Lens

@@ -1,25 +1,25 @@
 -- ALL SLAVES OF A SERVING, frame by frame: the mails that its master accepts of each are those that its epochs hear.
 use Rattle.std.proofs.Common.{◌≡◌, ℕ, zero, suc, Bool, true, All, List, [], ◌∷◌, ◌++◌, map, length, refl, sym, subst, Ok}
 use Rattle.std.proofs.lemmas.List.Elements.{All-cons, All-head, All-nil, All-tail}
-use Rattle.datagrams.specs.Datagram as Raw
-use Rattle.frame_view.specs.View.{Lens}
+use Rattle.packets_heard.specs.of_datagrams.Datagram as Raw
+use Rattle.packets_heard.specs.of_frame_view.View.{Lens}
 use Rattle.served_rings.specs.LedRings.{AllLedMembers}
-use Rattle.frame_view.specs.Shares.{AllBoth}
-use Rattle.life_runs.specs.First.{lens_of, first_leads, spot_of}
-use Rattle.life_runs.specs.Led.{Exchanged, Leads}
-use Rattle.life_model.specs.Lives.{Spot}
-use Rattle.link_mails.specs.Body.{Body}
-use Rattle.master_hand.specs.Spoken.{is_followed, is_passed}
+use Rattle.packets_heard.specs.of_frame_view.Shares.{AllBoth}
+use Rattle.packets_heard.specs.of_life_runs.First.{lens_of, first_leads, spot_of}
+use Rattle.packets_heard.specs.of_life_runs.Led.{Exchanged, Leads}
+use Rattle.packets_heard.specs.of_life_model.Lives.{Spot}
+use Rattle.packets_heard.specs.of_link_mails.Body.{Body}
+use Rattle.packets_heard.specs.of_master_hand.Spoken.{is_followed, is_passed}
 use Rattle.packets_heard.specs.of_master_node.Serving.{run_lead}
 use Rattle.packets_heard.specs.Heard.{IsJoined}
 use Rattle.packets_heard.specs.Servings.{served_joined, served_times}
-use Rattle.plan_ring.specs.Lives.{IsKnown}
-use Rattle.plan_ring.specs.Plan.{plan_of}
-use Rattle.plan_ring.specs.Round.{AllRound, ring_of, all_seen}
-use Rattle.segment_model.specs.Record.{Frame}
-use Rattle.segment_plan.specs.Sound.{IsPlan, IsSlave}
-use Rattle.segment_plan.specs.declared.plan.Scenario.{Scenario}
-use Rattle.segment_plan.specs.declared.slave.SlaveSpec.{SlaveSpec}
+use Rattle.served_rings.specs.of_plan_ring.Lives.{IsKnown}
+use Rattle.served_rings.specs.of_plan_ring.Plan.{plan_of}
+use Rattle.served_rings.specs.of_plan_ring.Round.{AllRound, ring_of, all_seen}
+use Rattle.packets_heard.specs.of_segment_model.Record.{Frame}
+use Rattle.packets_heard.specs.of_segment_plan.Sound.{IsPlan, IsSlave}
+use Rattle.packets_heard.specs.of_segment_plan.declared.plan.Scenario.{Scenario}
+use Rattle.packets_heard.specs.of_segment_plan.declared.slave.SlaveSpec.{SlaveSpec}
 use Rattle.run_promises.specs.Sends.{sends_most}
 use Rattle.run_promises.specs.Sent.{AllSend}
 use Rattle.run_promises.proofs.All.{AllLiveOf, Laws, WeighsOf, all_sent, weighs_of}
@@ -31,13 +31,13 @@ use Rattle.run_promises.proofs.Lives.{led_live}
 use Rattle.run_promises.proofs.Seen.{Quiets}
 use Rattle.run_promises.proofs.Speaks.{now_quiet}
 use Rattle.served_rings.specs.Rings.{AllServedAt, AreServedLived, counters_of, served_members}
-use Rattle.life_runs.specs.Came.{HasServed}
-use Rattle.life_runs.specs.Served.{Keyed, Serves, ServedTurn, AllServedTurn, IsServedLed, all_serve, asked_at, served_behind}
-use Rattle.slave_model.specs.Profile.{Profile, IsProfile}
-use Rattle.plan_ring.specs.of_slave_server.Seen.{seen_in}
-use Rattle.plan_ring.specs.of_slave_server.Serving.{Serving}
-use Rattle.plan_ring.specs.of_slave_server.Spec.{profile_of, server_of}
-use Rattle.slave_node.specs.Node.{Node}
+use Rattle.packets_heard.specs.of_life_runs.Came.{HasServed}
+use Rattle.packets_heard.specs.of_life_runs.Served.{Keyed, Serves, ServedTurn, AllServedTurn, IsServedLed, all_serve, asked_at, served_behind}
+use Rattle.served_rings.specs.of_slave_model.Profile.{Profile, IsProfile}
+use Rattle.packets_heard.specs.of_slave_server.Seen.{seen_in}
+use Rattle.packets_heard.specs.of_slave_server.Serving.{Serving}
+use Rattle.packets_heard.specs.of_slave_server.Spec.{profile_of, server_of}
+use Rattle.packets_heard.specs.of_slave_node.Node.{Node}
 
 -- ---- all mails that were asked are quiet: so they were before
 abbrev IsQuietKeyed : Keyed → Type 0

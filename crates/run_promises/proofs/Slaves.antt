@@ -1,13 +1,13 @@
 -- THE PARTS OF THE PROMISE, put together slave by slave.
 use Rattle.std.proofs.Common.{ℕ, suc, List, [], ◌∷◌}
-use Rattle.run_frames.specs.of_life_runs.Led.{Exchanged, Leads}
+use Rattle.packets_heard.specs.of_life_runs.Led.{Exchanged, Leads}
 use Rattle.run_promises.specs.Books.{AllHaveBooks}
 use Rattle.run_promises.specs.Rests.{AllDoneIf}
 use Rattle.run_promises.specs.Slaves.{AllServed}
-use Rattle.run_frames.specs.of_segment_plan.declared.plan.Scenario.{Scenario}
-use Rattle.run_frames.specs.of_segment_plan.declared.slave.SlaveSpec.{SlaveSpec}
-use Rattle.plan_ring.specs.of_slave_server.Serving.{Serving}
-use Rattle.plan_ring.specs.of_slave_node.Node.{Node}
+use Rattle.packets_heard.specs.of_segment_plan.declared.plan.Scenario.{Scenario}
+use Rattle.packets_heard.specs.of_segment_plan.declared.slave.SlaveSpec.{SlaveSpec}
+use Rattle.packets_heard.specs.of_slave_server.Serving.{Serving}
+use Rattle.packets_heard.specs.of_slave_node.Node.{Node}
 use Rattle.run_promises.specs.Promise.{AllKeep}
 use Rattle.run_promises.proofs.Gones.{AllGiven}
 

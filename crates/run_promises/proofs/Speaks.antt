@@ -1,29 +1,29 @@
 -- A PLAN'S SLAVE AND ITS MASTER keep the laws where quiet mails alone are passed on; and so are all that came into hand where those are that were asked.
 use Rattle.std.proofs.Common.{◌≡◌, ◌&&◌, ℕ, Bool, true, false, Some, List, [], ◌∷◌, ◌++◌, All, Ok, refl, ap, sym, ◌∙◌, subst}
 use Rattle.std.proofs.lemmas.List.Elements.{All-head, All-tail}
-use Rattle.life_model.specs.Script.{eras_started, life_started}
-use Rattle.exchange_model.specs.Lifted.{EachOf}
-use Rattle.few_replies.specs.Calm.{asked_fair, calm_tagged}
-use Rattle.few_replies.specs.Packets.{is_fair}
-use Rattle.frame_view.specs.View.{Lens}
-use Rattle.life_runs.specs.Led.{Comes}
-use Rattle.link_mails.specs.Body.{Body}
-use Rattle.master_hand.specs.Spoken.{Asked, passed}
+use Rattle.packets_heard.specs.of_life_model.Script.{eras_started, life_started}
+use Rattle.packets_heard.specs.of_exchange_model.Lifted.{EachOf}
+use Rattle.served_rings.specs.of_few_replies.Calm.{asked_fair, calm_tagged}
+use Rattle.served_rings.specs.of_few_replies.Packets.{is_fair}
+use Rattle.packets_heard.specs.of_frame_view.View.{Lens}
+use Rattle.packets_heard.specs.of_life_runs.Led.{Comes}
+use Rattle.packets_heard.specs.of_link_mails.Body.{Body}
+use Rattle.packets_heard.specs.of_master_hand.Spoken.{Asked, passed}
 use Rattle.served_rings.specs.Speakers.{naming_of, speaker}
 use Rattle.served_rings.proofs.Any.{fewer_lawful}
 use Rattle.served_rings.proofs.Fair.{each_append, each_behind, each_front, never_passed}
-use Rattle.run_work.specs.Sessions.{OwnService}
-use Rattle.segment_plan.specs.declared.service.Service as Plan
+use Rattle.served_rings.specs.of_run_work.Sessions.{OwnService}
+use Rattle.packets_heard.specs.of_segment_plan.declared.service.Service as Plan
 use Rattle.run_promises.specs.Quiet.{is_quiet, AsksQuiet, quiet_speaker}
-use Rattle.life_runs.specs.Came.{ServedCame, AreAmong, HasServed}
-use Rattle.life_runs.specs.Served.{Keyed, Serves}
-use Rattle.serving_model.specs.Tagged as Tagged
-use Rattle.slave_model.specs.Profile.{Profile}
-use Rattle.state_model.specs.Stated.{Service}
-use Rattle.run_work.specs.of_life_counts.Epochs.{AllFair, IsSpeaker}
-use Rattle.run_work.specs.of_life_counts.Spoken.{IsPassed}
-use Rattle.state_model.specs.Accounts.{Started}
-use Rattle.state_model.specs.Promise.{services_in}
+use Rattle.packets_heard.specs.of_life_runs.Came.{ServedCame, AreAmong, HasServed}
+use Rattle.packets_heard.specs.of_life_runs.Served.{Keyed, Serves}
+use Rattle.served_rings.specs.of_serving_model.Tagged as Tagged
+use Rattle.served_rings.specs.of_slave_model.Profile.{Profile}
+use Rattle.packets_heard.specs.of_state_model.Stated.{Service}
+use Rattle.served_rings.specs.of_life_counts.Epochs.{AllFair, IsSpeaker}
+use Rattle.served_rings.specs.of_life_counts.Spoken.{IsPassed}
+use Rattle.packets_heard.specs.of_state_model.Accounts.{Started}
+use Rattle.packets_heard.specs.of_state_model.Promise.{services_in}
 
 left_of : (a b : Bool) → (a && b) ≡ true → a ≡ true
 left_of true b e = refl

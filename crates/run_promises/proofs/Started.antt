@@ -1,17 +1,17 @@
 -- What came into hand of a slave before a frame is the newest of what its life began, with mails that are passed on too.
 use Rattle.std.proofs.Common.{◌≡◌, ℕ, Option, Some, None, List, [], ◌∷◌, ◌++◌, refl, ap, sym, ◌∙◌, append_assoc, append-nil}
-use Rattle.life_model.specs.Script.{eras_started, life_started}
-use Rattle.exchange_model.specs.Exchange.{Speech}
-use Rattle.life_model.specs.Lives.{Life, Stand, granted, life_next}
-use Rattle.life_runs.specs.Led.{Took, is_passed}
-use Rattle.link_mails.specs.Body.{Body}
-use Rattle.master_duty.specs.Reply.{Reply}
-use Rattle.master_hand.specs.Spoken.{Asked, acknowledged, is_followed}
-use Rattle.run_frames.proofs.Came.{listed}
-use Rattle.segment_model.specs.Ends.{Passing}
-use Rattle.state_model.specs.Stated.{Service}
-use Rattle.state_model.specs.Accounts.{Duty, Pick, Started, account_begins}
-use Rattle.state_model.specs.Promise.{services_in}
+use Rattle.packets_heard.specs.of_life_model.Script.{eras_started, life_started}
+use Rattle.packets_heard.specs.of_exchange_model.Exchange.{Speech}
+use Rattle.packets_heard.specs.of_life_model.Lives.{Life, Stand, granted, life_next}
+use Rattle.packets_heard.specs.of_life_runs.Led.{Took, is_passed}
+use Rattle.packets_heard.specs.of_link_mails.Body.{Body}
+use Rattle.packets_heard.specs.of_master_duty.Reply.{Reply}
+use Rattle.packets_heard.specs.of_master_hand.Spoken.{Asked, acknowledged, is_followed}
+use Rattle.served_rings.proofs.of_run_frames.Came.{listed}
+use Rattle.packets_heard.specs.of_segment_model.Ends.{Passing}
+use Rattle.packets_heard.specs.of_state_model.Stated.{Service}
+use Rattle.packets_heard.specs.of_state_model.Accounts.{Duty, Pick, Started, account_begins}
+use Rattle.packets_heard.specs.of_state_model.Promise.{services_in}
 
 services_append : (rs ss : List (Started Asked)) → services_in (rs ++ ss) ≡ services_in rs ++ services_in ss
 services_append [] ss = refl
@@ -38,7 +38,7 @@ module _ (x : Speech Body Asked Reply) (made : ℕ) (l : Life Body Asked Reply) 
   rows_stay (Stand.Opens o) e = refl
   rows_stay Stand.Open e =
       ap (λ (b : Option (Service Asked)). (account_begins x acknowledged made l.era.side l.era.account l.era.account.hand b).started) (not_granted l.era.passing e)
-      ∙ ap (λ (a : Rattle.state_model.specs.Accounts.Account Asked Reply). a.started) (nothing_begins l.era.account.hand)
+      ∙ ap (λ (a : Rattle.packets_heard.specs.of_state_model.Accounts.Account Asked Reply). a.started) (nothing_begins l.era.account.hand)
   rows_stay Stand.Gone e = refl
 
   module _ (m : Life Body Asked Reply) (begun : Option (Service Asked)) (is : m ≡ next l.stand) (picked : pick.begin ≡ begun) (took : Took made l.era.account m.era.account begun) where

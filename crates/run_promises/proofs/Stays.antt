@@ -1,33 +1,33 @@
 -- Whatever service a slave carries out, it may send packets behind it.
 use Rattle.std.proofs.Common.{◌≡◌, ℕ, ◌-◌, ◌≤◌, ◌&&◌, ◌||◌, ◌==◌, nat_le, Bool, true, false, not, List, [], length, Option, Some, None, Result, Ok, Err, refl, subst, arith, eqb-true, if◌then◌else◌}
-use Rattle.object_dictionary.specs.declared.entry.EntrySpec.{EntrySpec}
-use Rattle.object_dictionary.specs.declared.object.Object.{Object}
-use Rattle.object_dictionary.specs.Entries.{download_entry}
-use Rattle.object_dictionary.specs.Dictionary.{Table, object_of, is_count, entry_place, entry_at, download_found, download_object, changed, download}
-use Rattle.object_dictionary.specs.Whole.{download_all}
-use Rattle.object_dictionary.specs.Sound.{is_object, are_sized, is_table}
-use Rattle.object_dictionary.proofs.Tests.{both, all_get}
-use Rattle.object_dictionary.proofs.Kept.{entry_kept, map_ok, row_of, table_is}
-use Rattle.eoe.specs.Address.{is_block}
-use Rattle.idn_table.specs.Idns as Idns
-use Rattle.mailbox_mail.specs.declared.outcome.ReplyKind.{ReplyKind}
-use Rattle.protocol_models.specs.CoeMeaning as CoeMeaning
-use Rattle.protocol_models.specs.CoeServer.{Emission, emergency, packet, emission_of, issued}
-use Rattle.protocol_models.specs.Tables as Tables
-use Rattle.coe_server.specs.ObjectTables.{stores}
-use Rattle.coe_server.proofs.ObjectsLaw.{lawful}
-use Rattle.protocol_models.specs.FoeMeaning as FoeMeaning
-use Rattle.protocol_models.specs.SoeClient as SoeClient
-use Rattle.protocol_models.specs.EoeClient as EoeClient
-use Rattle.protocol_models.specs.Echo.{echo_of}
-use Rattle.protocol_models.specs.Network.{Station}
-use Rattle.protocol_models.specs.EoeServer.{sends}
-use Rattle.exchange_model.specs.Refusing.{gated}
-use Rattle.slave_model.specs.Application.{stored, written, station_tables, station_files, station_elements, network}
-use Rattle.slave_model.specs.Product.{served, refusal, side}
-use Rattle.slave_model.specs.Profile.{Protocol, Profile, serves}
-use Rattle.slave_model.specs.Server.{ServiceOf}
-use Rattle.slave_parts.specs.Parts.{Core, parts}
+use Rattle.packets_heard.specs.of_object_dictionary.declared.entry.EntrySpec.{EntrySpec}
+use Rattle.packets_heard.specs.of_object_dictionary.declared.object.Object.{Object}
+use Rattle.packets_heard.specs.of_object_dictionary.Entries.{download_entry}
+use Rattle.packets_heard.specs.of_object_dictionary.Dictionary.{Table, object_of, is_count, entry_place, entry_at, download_found, download_object, changed, download}
+use Rattle.packets_heard.specs.of_object_dictionary.Whole.{download_all}
+use Rattle.packets_heard.specs.of_object_dictionary.Sound.{is_object, are_sized, is_table}
+use Rattle.packets_heard.proofs.of_object_dictionary.Tests.{both, all_get}
+use Rattle.packets_heard.proofs.of_object_dictionary.Kept.{entry_kept, map_ok, row_of, table_is}
+use Rattle.packets_heard.specs.of_eoe.Address.{is_block}
+use Rattle.packets_heard.specs.of_idn_table.Idns as Idns
+use Rattle.served_rings.specs.of_mailbox_mail.declared.outcome.ReplyKind.{ReplyKind}
+use Rattle.packets_heard.specs.of_protocol_models.CoeMeaning as CoeMeaning
+use Rattle.packets_heard.specs.of_protocol_models.CoeServer.{Emission, emergency, packet, emission_of, issued}
+use Rattle.packets_heard.specs.of_protocol_models.Tables as Tables
+use Rattle.packets_heard.specs.of_coe_server.ObjectTables.{stores}
+use Rattle.packets_heard.proofs.of_coe_server.ObjectsLaw.{lawful}
+use Rattle.packets_heard.specs.of_protocol_models.FoeMeaning as FoeMeaning
+use Rattle.packets_heard.specs.of_protocol_models.SoeClient as SoeClient
+use Rattle.packets_heard.specs.of_protocol_models.EoeClient as EoeClient
+use Rattle.packets_heard.specs.of_protocol_models.Echo.{echo_of}
+use Rattle.packets_heard.specs.of_protocol_models.Network.{Station}
+use Rattle.packets_heard.specs.of_protocol_models.EoeServer.{sends}
+use Rattle.packets_heard.specs.of_exchange_model.Refusing.{gated}
+use Rattle.served_rings.specs.of_slave_model.Application.{stored, written, station_tables, station_files, station_elements, network}
+use Rattle.served_rings.specs.of_slave_model.Product.{served, refusal, side}
+use Rattle.served_rings.specs.of_slave_model.Profile.{Protocol, Profile, serves}
+use Rattle.served_rings.specs.of_slave_model.Server.{ServiceOf}
+use Rattle.served_rings.specs.of_slave_parts.Parts.{Core, parts}
 use Rattle.run_promises.specs.Sends.{MaySend}
 
 -- ---- the octets of a packet that a download emits

@@ -5,36 +5,36 @@ use Rattle.std.proofs.lemmas.Nat.{mul-le}
 use Rattle.std.proofs.lemmas.List.Elements.{All-head, All-tail}
 use Rattle.std.proofs.lemmas.List.Sums.{sum_by-cons, sum_by-append}
 use Rattle.arrayvec.specs.ArrayVec.{ArrayVec}
-use Rattle.life_model.specs.Script.{life_started}
-use Rattle.eoe_switch.specs.Switch.{switched}
-use Rattle.eoe_switch.specs.declared.switching.SwitchEvent.{SwitchEvent}
-use Rattle.run_work.specs.of_life_counts.Begun.{begun_most}
-use Rattle.frame_view.specs.View.{Lens}
-use Rattle.life_runs.specs.First.{lens_of, script_for}
-use Rattle.life_runs.specs.Led.{Leads}
+use Rattle.packets_heard.specs.of_life_model.Script.{life_started}
+use Rattle.packets_heard.specs.of_eoe_switch.Switch.{switched}
+use Rattle.packets_heard.specs.of_eoe_switch.declared.switching.SwitchEvent.{SwitchEvent}
+use Rattle.served_rings.specs.of_life_counts.Begun.{begun_most}
+use Rattle.packets_heard.specs.of_frame_view.View.{Lens}
+use Rattle.packets_heard.specs.of_life_runs.First.{lens_of, script_for}
+use Rattle.packets_heard.specs.of_life_runs.Led.{Leads}
 use Rattle.packets_heard.specs.of_master_node.Forwards.{port_by}
 use Rattle.packets_heard.specs.of_master_node.Happened.{arrivals_at}
 use Rattle.packets_heard.specs.of_master_node.Ports.{IsAtPort, port_where, last_where, ports_behind, ports_of}
 use Rattle.packets_heard.specs.of_master_node.Serving.{run_lead}
-use Rattle.run_work.specs.Flows.{slaves_work, entries_work, AllComeAt}
-use Rattle.run_work.specs.Packets.{cuts, waiting_work, queue_work}
+use Rattle.served_rings.specs.of_run_work.Flows.{slaves_work, entries_work, AllComeAt}
+use Rattle.served_rings.specs.of_run_work.Packets.{cuts, waiting_work, queue_work}
 use Rattle.packets_heard.specs.Over.{forwarded_to}
 use Rattle.packets_heard.specs.Heard.{Joined}
-use Rattle.run_work.specs.of_life_counts.Asked.{asked_most}
-use Rattle.run_work.specs.of_life_counts.Split.{entering}
+use Rattle.served_rings.specs.of_life_counts.Asked.{asked_most}
+use Rattle.served_rings.specs.of_life_counts.Split.{entering}
 use Rattle.packets_heard.specs.Listed.{IsOwn, long_where, long_ones, packets_at}
-use Rattle.run_work.specs.Switched.{cuts_begun, host_cuts}
-use Rattle.run_work.specs.Together.{packets_begun}
-use Rattle.run_frames.specs.Came.{is_packet}
-use Rattle.run_frames.specs.Slaves.{HasCome, AllCome}
-use Rattle.segment_plan.specs.declared.plan.Scenario.{Scenario}
-use Rattle.segment_plan.specs.declared.slave.SlaveSpec.{SlaveSpec}
+use Rattle.served_rings.specs.of_run_work.Switched.{cuts_begun, host_cuts}
+use Rattle.served_rings.specs.of_run_work.Together.{packets_begun}
+use Rattle.served_rings.specs.of_run_frames.Came.{is_packet}
+use Rattle.served_rings.specs.of_run_frames.Slaves.{HasCome, AllCome}
+use Rattle.packets_heard.specs.of_segment_plan.declared.plan.Scenario.{Scenario}
+use Rattle.packets_heard.specs.of_segment_plan.declared.slave.SlaveSpec.{SlaveSpec}
 use Rattle.run_promises.specs.Sent.{AllSend}
-use Rattle.life_runs.specs.Came.{HasServed}
-use Rattle.life_runs.specs.Served.{Serves}
-use Rattle.few_replies.specs.Shapes.{shape_of}
+use Rattle.packets_heard.specs.of_life_runs.Came.{HasServed}
+use Rattle.packets_heard.specs.of_life_runs.Served.{Serves}
+use Rattle.served_rings.specs.of_few_replies.Shapes.{shape_of}
 use Rattle.run_promises.specs.Sends.{all_most}
-use Rattle.plan_ring.specs.of_slave_server.Spec.{core_of, profile_of}
+use Rattle.packets_heard.specs.of_slave_server.Spec.{core_of, profile_of}
 use Rattle.run_promises.proofs.Begun.{weights, started_at}
 use Rattle.run_promises.proofs.Ports.{ports_sum, eoe_count, forwards_within, queue_append, entries_within, come_at, few_ports}
 use Rattle.run_promises.proofs.Weighed.{Echoes, echoes, packets_weigh, all_send, served_send}
@@ -54,7 +54,7 @@ host_least n [] = omega arith
 host_least n (p ∷ ps) =
     let sum = sum_by-cons (λ (packet : ArrayVec ℕ). cuts packet.items) p ps in
     let whole : (cuts p.items + host_cuts ps) * (n + 1) ≡ cuts p.items * (n + 1) + host_cuts ps * (n + 1) = omega arith in
-    omega (arith, host_least n ps, one (Rattle.run_work.specs.Packets.may_echo p.items), whole, ap (λ z. z * (n + 1)) sum)
+    omega (arith, host_least n ps, one (Rattle.served_rings.specs.of_run_work.Packets.may_echo p.items), whole, ap (λ z. z * (n + 1)) sum)
   where
     one : (b : Bool) → cuts p.items * (if b then n + 1 else 1) ≤ cuts p.items * (n + 1)
     one true = omega arith

@@ -3,26 +3,26 @@ use Rattle.std.proofs.Common.{◌≡◌, inl, inr, ℕ, zero, suc, ◌+◌, ◌-
 use Rattle.std.specs.Prelude.{sum_by, nat_lt}
 use Rattle.std.proofs.lemmas.Bool.{eqb-true, eqb-false}
 use Rattle.std.proofs.lemmas.List.Sums.{sum_by-append}
-use Rattle.life_model.specs.Script.{eras_started}
-use Rattle.run_work.proofs.of_life_counts.Turns.{heard_push}
-use Rattle.life_model.specs.Eras.{era_frames}
-use Rattle.life_model.specs.Lives.{Spot, Era, Life, Opening, Stand, shows_clear, last_step, is_shown, opening_back, clears, opens, steps_on, reopening, gives_up}
-use Rattle.life_model.specs.Own.{own, own_frame, blank}
-use Rattle.life_model.proofs.Eras.{frames_push}
-use Rattle.link_mails.specs.Body.{Body}
-use Rattle.link_model.specs.Frames.{all_accepted}
-use Rattle.link_model.specs.Link.{Halves}
-use Rattle.master_duty.specs.Reply.{Reply}
-use Rattle.master_hand.specs.Joins.{packets_in}
-use Rattle.master_hand.specs.Spoken.{Asked}
+use Rattle.packets_heard.specs.of_life_model.Script.{eras_started}
+use Rattle.served_rings.proofs.of_life_counts.Turns.{heard_push}
+use Rattle.packets_heard.specs.of_life_model.Eras.{era_frames}
+use Rattle.packets_heard.specs.of_life_model.Lives.{Spot, Era, Life, Opening, Stand, shows_clear, last_step, is_shown, opening_back, clears, opens, steps_on, reopening, gives_up}
+use Rattle.packets_heard.specs.of_life_model.Own.{own, own_frame, blank}
+use Rattle.served_rings.proofs.of_life_model.Eras.{frames_push}
+use Rattle.packets_heard.specs.of_link_mails.Body.{Body}
+use Rattle.packets_heard.specs.of_link_model.Frames.{all_accepted}
+use Rattle.packets_heard.specs.of_link_model.Link.{Halves}
+use Rattle.packets_heard.specs.of_master_duty.Reply.{Reply}
+use Rattle.packets_heard.specs.of_master_hand.Joins.{packets_in}
+use Rattle.packets_heard.specs.of_master_hand.Spoken.{Asked}
 use Rattle.packets_heard.specs.Heard.{Times, ended, packets_of}
-use Rattle.segment_model.specs.Record.{Frame, heard, kept_all, nothing_kept}
-use Rattle.segment_model.specs.Seats.{IsOpening, rows_of}
-use Rattle.segment_model.specs.Slaves.{Found, grams}
-use Rattle.segment_model.proofs.News.{heard_frame}
-use Rattle.segment_model.proofs.Openings.{opening_heard}
-use Rattle.state_model.specs.Stated.{Service}
-use Rattle.state_model.specs.Promise.{services_in}
+use Rattle.packets_heard.specs.of_segment_model.Record.{Frame, heard, kept_all, nothing_kept}
+use Rattle.packets_heard.specs.of_segment_model.Seats.{IsOpening, rows_of}
+use Rattle.packets_heard.specs.of_segment_model.Slaves.{Found, grams}
+use Rattle.served_rings.proofs.of_segment_model.News.{heard_frame}
+use Rattle.served_rings.proofs.of_segment_model.Openings.{opening_heard}
+use Rattle.packets_heard.specs.of_state_model.Stated.{Service}
+use Rattle.packets_heard.specs.of_state_model.Promise.{services_in}
 use Rattle.run_promises.proofs.Calm.{IsCalm, IsEarly}
 use Rattle.run_promises.proofs.Live.{IsLive, IsTally}
 

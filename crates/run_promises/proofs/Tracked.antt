@@ -2,38 +2,38 @@
 use Rattle.std.proofs.Common.{◌≡◌, inr, ℕ, suc, Bool, List, [], ◌∷◌, ◌++◌, map, length, refl, sym, ap, ◌∙◌, subst}
 use Rattle.std.specs.Prelude.{⊤}
 use Rattle.std.proofs.lemmas.List.{length-map, map-append}
-use Rattle.datagrams.specs.Datagram as Raw
-use Rattle.datagrams.specs.Frame.{IsFrame, chained}
-use Rattle.frame_view.proofs.Octets.{seen_is, seen_chained}
-use Rattle.frame_view.specs.Seen.{seen, datagrams_seen}
-use Rattle.frame_view.specs.View.{Lens}
-use Rattle.frame_view.specs.Shares.{AllBoth}
-use Rattle.life_model.specs.Lives.{Spot, Era, Stand}
-use Rattle.life_runs.specs.First.{lens_of, first_leads, leads_from}
-use Rattle.life_runs.specs.Led.{Exchanged, Leads, Turn, AllTurn, IsLed, led_behind, life_behind, gives_up_at}
-use Rattle.link_mails.specs.Body.{Body}
-use Rattle.master_duty.specs.Reply.{Reply}
-use Rattle.master_hand.specs.Spoken.{Asked}
+use Rattle.packets_heard.specs.of_datagrams.Datagram as Raw
+use Rattle.packets_heard.specs.of_datagrams.Frame.{IsFrame, chained}
+use Rattle.packets_heard.proofs.of_frame_view.Octets.{seen_is, seen_chained}
+use Rattle.packets_heard.specs.of_frame_view.Seen.{seen, datagrams_seen}
+use Rattle.packets_heard.specs.of_frame_view.View.{Lens}
+use Rattle.packets_heard.specs.of_frame_view.Shares.{AllBoth}
+use Rattle.packets_heard.specs.of_life_model.Lives.{Spot, Era, Stand}
+use Rattle.packets_heard.specs.of_life_runs.First.{lens_of, first_leads, leads_from}
+use Rattle.packets_heard.specs.of_life_runs.Led.{Exchanged, Leads, Turn, AllTurn, IsLed, led_behind, life_behind, gives_up_at}
+use Rattle.packets_heard.specs.of_link_mails.Body.{Body}
+use Rattle.packets_heard.specs.of_master_duty.Reply.{Reply}
+use Rattle.packets_heard.specs.of_master_hand.Spoken.{Asked}
 use Rattle.packets_heard.proofs.of_master_node.Servings.{run_all}
 use Rattle.packets_heard.specs.Heard.{Times, mails_by, times_behind, times_in, times_on, times_none}
 use Rattle.packets_heard.specs.Servings.{served_times}
 use Rattle.packets_heard.specs.of_master_node.Serving.{run_lead, run_turn}
-use Rattle.plan_ring.specs.Round.{AllRound, WentRound, behind, ring_of, ring_after, frame_seen, all_seen}
-use Rattle.plan_ring.specs.of_slave_server.Serving.{Serving}
-use Rattle.segment_model.specs.Record.{Frame}
-use Rattle.segment_model.specs.Returned.{Returns}
-use Rattle.segment_plan.specs.declared.plan.Scenario.{Scenario}
-use Rattle.segment_plan.specs.declared.slave.SlaveSpec.{SlaveSpec}
-use Rattle.segment_ring.specs.Ring.{RingState, ring_returned, frame_met}
-use Rattle.segment_ring.specs.Schedule.{fate_at}
-use Rattle.segment_ring.specs.declared.wire.Fate.TheVariants.{Pass, Lost}
-use Rattle.segment_ring.specs.declared.wire.Fate.{Fate}
+use Rattle.served_rings.specs.of_plan_ring.Round.{AllRound, WentRound, behind, ring_of, ring_after, frame_seen, all_seen}
+use Rattle.packets_heard.specs.of_slave_server.Serving.{Serving}
+use Rattle.packets_heard.specs.of_segment_model.Record.{Frame}
+use Rattle.packets_heard.specs.of_segment_model.Returned.{Returns}
+use Rattle.packets_heard.specs.of_segment_plan.declared.plan.Scenario.{Scenario}
+use Rattle.packets_heard.specs.of_segment_plan.declared.slave.SlaveSpec.{SlaveSpec}
+use Rattle.packets_heard.specs.of_segment_ring.Ring.{RingState, ring_returned, frame_met}
+use Rattle.packets_heard.specs.of_segment_ring.Schedule.{fate_at}
+use Rattle.packets_heard.specs.of_segment_ring.declared.wire.Fate.TheVariants.{Pass, Lost}
+use Rattle.packets_heard.specs.of_segment_ring.declared.wire.Fate.{Fate}
 use Rattle.run_promises.proofs.Begun.{leads_asked}
 use Rattle.run_promises.proofs.Live.{IsLive, IsTally}
 use Rattle.run_promises.proofs.Times.{Tracks}
 use Rattle.run_promises.proofs.Turns.{turn_tracks, serve_tracks}
-use Rattle.life_runs.specs.Served.{Keyed, Serves, ServedTurn, AllServedTurn, IsServedLed, all_serve, asked_at, served_behind, served_life}
-use Rattle.slave_node.specs.Node.{Node, node_passed}
+use Rattle.packets_heard.specs.of_life_runs.Served.{Keyed, Serves, ServedTurn, AllServedTurn, IsServedLed, all_serve, asked_at, served_behind, served_life}
+use Rattle.packets_heard.specs.of_slave_node.Node.{Node, node_passed}
 
 -- what comes back by a frame is what was sent, but for what its slaves did
 abbrev pub ReturnsLaw : Type 0

@@ -1,37 +1,37 @@
 -- ONE SLAVE BY A FRAME: the mails that its master accepts of it are those that its epoch hears.
 use Rattle.std.proofs.Common.{◌≡◌, ◌⊎◌, inl, inr, ℕ, ◌==◌, ◌&&◌, Bool, true, false, not, Option, Some, None, List, [], ◌∷◌, ◌++◌, length, refl, sym, ap, ◌∙◌, subst, arith, append-nil, if◌then◌else◌}
 use Rattle.std.proofs.lemmas.Bool.{eqb-true, eq-eqb}
-use Rattle.datagrams.specs.Datagram as Raw
-use Rattle.datagrams.specs.declared.command.Command.TheVariants.{Fprd, Fpwr}
-use Rattle.exchange_model.specs.Exchange.{Speech}
-use Rattle.frame_view.specs.Seen.{seen, datagrams_seen}
-use Rattle.frame_view.specs.View.{Lens, ask_of, access_of, read_ask, read_access, datagram_seen, station_of}
-use Rattle.frame_view.specs.Frames.{FrameFor, IsOpenGram, Share}
-use Rattle.frame_view.specs.Shares.{Lived, IsNext, came_at, given_where, lived_back, lived_lost}
-use Rattle.frame_view.proofs.Frames.{own_none, own_one}
-use Rattle.life_model.specs.Eras.{era_frames}
-use Rattle.life_model.specs.Lives.{Spot, Era, Life, Stand, era_back, granted, life_next, life_back, life_lost, reopens, reopens_at, reopening, opens_state, returns_to_init}
-use Rattle.life_model.specs.Own.{own}
-use Rattle.life_runs.specs.Led.{Exchanged, Leads, Turn, IsTurn, is_passed, speech_at, life_behind}
-use Rattle.link_mails.specs.Body.{Body}
-use Rattle.link_model.specs.Frames.{Ask, all_accepted, halves_accept}
-use Rattle.link_model.specs.Link.{Halves}
-use Rattle.master_duty.specs.Reply.{Reply}
-use Rattle.master_hand.specs.Spoken.{Asked, acknowledged, is_followed}
-use Rattle.master_side.specs.Passing.{news_back, news_lost}
-use Rattle.master_tour.specs.Brings.{accepted_at}
+use Rattle.packets_heard.specs.of_datagrams.Datagram as Raw
+use Rattle.packets_heard.specs.of_datagrams.declared.command.Command.TheVariants.{Fprd, Fpwr}
+use Rattle.packets_heard.specs.of_exchange_model.Exchange.{Speech}
+use Rattle.packets_heard.specs.of_frame_view.Seen.{seen, datagrams_seen}
+use Rattle.packets_heard.specs.of_frame_view.View.{Lens, ask_of, access_of, read_ask, read_access, datagram_seen, station_of}
+use Rattle.packets_heard.specs.of_frame_view.Frames.{FrameFor, IsOpenGram, Share}
+use Rattle.packets_heard.specs.of_frame_view.Shares.{Lived, IsNext, came_at, given_where, lived_back, lived_lost}
+use Rattle.packets_heard.proofs.of_frame_view.Frames.{own_none, own_one}
+use Rattle.packets_heard.specs.of_life_model.Eras.{era_frames}
+use Rattle.packets_heard.specs.of_life_model.Lives.{Spot, Era, Life, Stand, era_back, granted, life_next, life_back, life_lost, reopens, reopens_at, reopening, opens_state, returns_to_init}
+use Rattle.packets_heard.specs.of_life_model.Own.{own}
+use Rattle.packets_heard.specs.of_life_runs.Led.{Exchanged, Leads, Turn, IsTurn, is_passed, speech_at, life_behind}
+use Rattle.packets_heard.specs.of_link_mails.Body.{Body}
+use Rattle.packets_heard.specs.of_link_model.Frames.{Ask, all_accepted, halves_accept}
+use Rattle.packets_heard.specs.of_link_model.Link.{Halves}
+use Rattle.packets_heard.specs.of_master_duty.Reply.{Reply}
+use Rattle.packets_heard.specs.of_master_hand.Spoken.{Asked, acknowledged, is_followed}
+use Rattle.packets_heard.specs.of_master_side.Passing.{news_back, news_lost}
+use Rattle.packets_heard.specs.of_master_tour.Brings.{accepted_at}
 use Rattle.packets_heard.specs.Heard.{Times, ended, mails_by, times_behind}
-use Rattle.segment_model.specs.Record.{Frame, News, heard, is_for}
-use Rattle.segment_model.specs.Returned.{Returns}
-use Rattle.segment_model.specs.Slaves.{Access, Datagram, grams}
-use Rattle.segment_ring.specs.declared.wire.Fate.{Fate}
-use Rattle.segment_ring.specs.declared.wire.Fate.TheVariants.{Pass, Lost}
+use Rattle.packets_heard.specs.of_segment_model.Record.{Frame, News, heard, is_for}
+use Rattle.packets_heard.specs.of_segment_model.Returned.{Returns}
+use Rattle.packets_heard.specs.of_segment_model.Slaves.{Access, Datagram, grams}
+use Rattle.packets_heard.specs.of_segment_ring.declared.wire.Fate.{Fate}
+use Rattle.packets_heard.specs.of_segment_ring.declared.wire.Fate.TheVariants.{Pass, Lost}
 use Rattle.served_rings.proofs.SideHeard.{next_heard, next_inn}
-use Rattle.life_runs.specs.Served.{Serves, ServedTurn, IsServedTurn, served_life}
-use Rattle.state_model.specs.Stated.{Service}
-use Rattle.state_model.specs.Accounts.{Account, Duty, Stage, account_back, account_met, account_by, access_done}
-use Rattle.state_model.specs.Promise.{services_in}
-use Rattle.slave_lives.specs.Rings.{fate_seen}
+use Rattle.packets_heard.specs.of_life_runs.Served.{Serves, ServedTurn, IsServedTurn, served_life}
+use Rattle.packets_heard.specs.of_state_model.Stated.{Service}
+use Rattle.packets_heard.specs.of_state_model.Accounts.{Account, Duty, Stage, account_back, account_met, account_by, access_done}
+use Rattle.packets_heard.specs.of_state_model.Promise.{services_in}
+use Rattle.served_rings.specs.of_slave_lives.Rings.{fate_seen}
 use Rattle.run_promises.proofs.Calm.{IsCalm, back_heard, begins_more, begins_calm}
 use Rattle.run_promises.proofs.Live.{Grows, IsLive, IsTally}
 use Rattle.run_promises.proofs.Times.{TracksOpen, TracksShut, TracksAs, Tracks, shut_now, gives_tracks, opening_tracks, shut_stays, gone_tracks, over_shuts, open_tracks}
@@ -67,7 +67,7 @@ mail_read lens d (inr c) e =
     never : (at : Lens) (ado : ℕ) (octets : List ℕ) → ask_of at Fpwr ado octets ≡ Ask.ReadMail → ⊥
     never at ado octets e = by (ado == 4096) (length octets == at.out) (ado == 2062) (length octets == 1) e
       where
-        by : (a b c d : Bool) → (if a then (if b then Ask.WriteMail (Rattle.link_mails.specs.Body.link_read (Rattle.mailbox_mail.specs.Mail.mail_read octets)) else Ask.Other) else if c then (if d then Ask.WriteRequest (Rattle.link_mails.specs.Body.bit_1 (Rattle.std.specs.Prelude.slice_index octets 0)) else Ask.Other) else Ask.Other) ≡ Ask.ReadMail → ⊥
+        by : (a b c d : Bool) → (if a then (if b then Ask.WriteMail (Rattle.packets_heard.specs.of_link_mails.Body.link_read (Rattle.served_rings.specs.of_mailbox_mail.Mail.mail_read octets)) else Ask.Other) else if c then (if d then Ask.WriteRequest (Rattle.packets_heard.specs.of_link_mails.Body.bit_1 (Rattle.std.specs.Prelude.slice_index octets 0)) else Ask.Other) else Ask.Other) ≡ Ask.ReadMail → ⊥
         by true true c d f = absurd (cc)
         by true false c d f = absurd (cc)
         by false b true true f = absurd (cc)
@@ -99,8 +99,8 @@ by_station lens station d o = go o.to.command
     same = eq-eqb station station refl
 
     go : (d.head.command ≡ Fprd) ⊎ (d.head.command ≡ Fpwr) → is_for station (datagram_seen lens d).address ≡ true
-    go (inl c) = (λ i. is_for station (Rattle.frame_view.specs.View.address_of (c i) d.head.adp)) ∙ ap (λ n. n == station) o.to.adp ∙ same
-    go (inr c) = (λ i. is_for station (Rattle.frame_view.specs.View.address_of (c i) d.head.adp)) ∙ ap (λ n. n == station) o.to.adp ∙ same
+    go (inl c) = (λ i. is_for station (Rattle.packets_heard.specs.of_frame_view.View.address_of (c i) d.head.adp)) ∙ ap (λ n. n == station) o.to.adp ∙ same
+    go (inr c) = (λ i. is_for station (Rattle.packets_heard.specs.of_frame_view.View.address_of (c i) d.head.adp)) ∙ ap (λ n. n == station) o.to.adp ∙ same
 
 one_of : (sent back : List (Datagram Body)) (station : ℕ) (s : Datagram Body) → Returns sent back → own station sent ≡ s ∷ [] → (s.gram.ask ≡ Ask.ReadMail → s.access ≡ Access.Elsewhere) → IsOne station back
 one_of sent back station s r e alone = go (own station back) refl (subst (λ (l : List (Datagram Body)). Returns l (own station back)) e (own_returned station sent back r))
@@ -176,9 +176,9 @@ started_same : {Q R : Type 0} (station made : ℕ) (a : Account Q R) (ds : List 
 started_same station made a [] = refl
 started_same {R = R} station made a (d ∷ ds) = started_same station made (account_met station made a a.hand d) ds ∙ go a.hand
   where
-    by : (duty : Duty) (p : Rattle.state_model.specs.Accounts.Progress R) → (account_by made a duty p).started ≡ a.started
-    by duty (Rattle.state_model.specs.Accounts.Progress.On stage) = refl
-    by duty (Rattle.state_model.specs.Accounts.Progress.Over answer) = refl
+    by : (duty : Duty) (p : Rattle.packets_heard.specs.of_state_model.Accounts.Progress R) → (account_by made a duty p).started ≡ a.started
+    by duty (Rattle.packets_heard.specs.of_state_model.Accounts.Progress.On stage) = refl
+    by duty (Rattle.packets_heard.specs.of_state_model.Accounts.Progress.Over answer) = refl
 
     go : (hand : Option Duty) → (account_met station made a hand d).started ≡ a.started
     go None = refl
@@ -199,7 +199,7 @@ module _ (R : List (List Body) → List (Era Body Asked Reply) → Type 0) (tall
   abbrev gs' : List (Frame Body)
   gs' = gs ++ g ∷ []
 
-  abbrev BackSo : Option (Bool × Option Rattle.segment_model.specs.Slaves.Found) → Stand → Type 0
+  abbrev BackSo : Option (Bool × Option Rattle.packets_heard.specs.of_segment_model.Slaves.Found) → Stand → Type 0
   BackSo came z = Tracks R tally spot gs' (life_back x acknowledged is_followed is_passed (length gs) spot news back came n z) (times_behind z (accepted_at spot.station halves back z) t)
 
   abbrev LostSo : Bool → List (Datagram Body) → Stand → Type 0
@@ -242,7 +242,7 @@ module _ (R : List (List Body) → List (Era Body Asked Reply) → Type 0) (tall
             let same : duty ≡ other = (let both : Some duty ≡ Some other = sym e ∙ f in cc) in
             subst (λ (d : Duty). returns_to_init d.target ≡ true → d.stage ≡ Stage.Drains) same h returns
 
-        goes : (duty : Duty) → behind.account.hand ≡ Some duty → (phase : Rattle.state_model.specs.States.Phase) → duty.stage ≡ Stage.Goes phase → (b : Bool) → returns_to_init duty.target ≡ b →
+        goes : (duty : Duty) → behind.account.hand ≡ Some duty → (phase : Rattle.packets_heard.specs.of_state_model.States.Phase) → duty.stage ≡ Stage.Goes phase → (b : Bool) → returns_to_init duty.target ≡ b →
             Tracks R tally spot gs' (if b then record now { stand = reopening (opens_state duty.target) true } else now) more
         goes duty e phase at false f = open_still (same_calm duty e (λ returns. absurd (let bad : true ≡ false = sym returns ∙ f in cc)))
         goes duty e phase at true f =
@@ -271,7 +271,7 @@ module _ (R : List (List Body) → List (Era Body Asked Reply) → Type 0) (tall
         gives_tracks R tally spot recover (length gs) gs' m (record { past = t.past; now = t.now ++ [] }) (shut_by m [] refl refl (record { services = ([], append-nil (services_in n.era.account.started)); heard = refl }))
 
   -- WHERE IT CAME BACK
-  pub back_tracks : (came : Option (Bool × Option Rattle.segment_model.specs.Slaves.Found)) (z : Stand) → n.stand ≡ z → TracksAs R tally spot gs n t z → (z ≡ Stand.Open → IsLive R spot gs n) → (z ≡ Stand.Open → IsOne spot.station back) → BackSo came z
+  pub back_tracks : (came : Option (Bool × Option Rattle.packets_heard.specs.of_segment_model.Slaves.Found)) (z : Stand) → n.stand ≡ z → TracksAs R tally spot gs n t z → (z ≡ Stand.Open → IsLive R spot gs n) → (z ≡ Stand.Open → IsOne spot.station back) → BackSo came z
   back_tracks None (Stand.Opens o) e k live one = shut_stays R tally spot gs g n t o e k.0 k.1
   back_tracks (Some came) (Stand.Opens o) e k live one = opening_tracks R tally spot gs g n t o e k.0 k.1 came.0 came.1
   back_tracks came Stand.Open e k live one = open_back k (live refl) e (one refl)
@@ -286,7 +286,7 @@ module _ (R : List (List Body) → List (Era Body Asked Reply) → Type 0) (tall
   lost_tracks true sent none Stand.Gone e k live = gives_tracks R tally spot recover (length gs) gs' n _ (over_shuts R tally spot n t k)
 
 -- ---- BEFORE IT: what comes into hand
-module _ (R : List (List Body) → List (Era Body Asked Reply) → Type 0) (tally : IsTally R) (spot : Spot) (x : Speech Body Asked Reply) (gs : List (Frame Body)) (l : Life Body Asked Reply) (t : Times) (pick : Rattle.state_model.specs.Accounts.Pick Asked) where
+module _ (R : List (List Body) → List (Era Body Asked Reply) → Type 0) (tally : IsTally R) (spot : Spot) (x : Speech Body Asked Reply) (gs : List (Frame Body)) (l : Life Body Asked Reply) (t : Times) (pick : Rattle.packets_heard.specs.of_state_model.Accounts.Pick Asked) where
   abbrev next : Stand → Life Body Asked Reply
   next z = life_next x acknowledged is_followed is_passed (length gs) l z pick
 
@@ -311,11 +311,11 @@ module _ (R : List (List Body) → List (Era Body Asked Reply) → Type 0) (tall
     opened = live.opened;
     opened_at = live.opened_at;
     before = live.before;
-    last = ap (λ (i : Rattle.link_model.specs.Master.InHalf). i.last) (next_inn x (length gs) l.era.side (Rattle.state_model.specs.Accounts.mails_choice l.era.account (granted l.era.passing pick))) ∙ live.last;
+    last = ap (λ (i : Rattle.packets_heard.specs.of_link_model.Master.InHalf). i.last) (next_inn x (length gs) l.era.side (Rattle.packets_heard.specs.of_state_model.Accounts.mails_choice l.era.account (granted l.era.passing pick))) ∙ live.last;
     told = λ past told. tally.grows (ended past (heard spot.station (era_frames spot live.opened (length gs) gs))) l.past l.era (next Stand.Open).era
         (record {
           services = begins_more x acknowledged (length gs) l.era.side l.era.account l.era.account.hand wish;
-          heard = sym (next_heard x (length gs) l.era.side (Rattle.state_model.specs.Accounts.mails_choice l.era.account (granted l.era.passing pick)));
+          heard = sym (next_heard x (length gs) l.era.side (Rattle.packets_heard.specs.of_state_model.Accounts.mails_choice l.era.account (granted l.era.passing pick)));
         }) (live.told past told);
   }
 

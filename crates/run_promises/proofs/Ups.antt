@@ -1,32 +1,32 @@
 -- A SLAVE THAT STAYS UP is in its first epoch: one that was never given up or returned to Init behind a frame never was before it.
 use Rattle.std.proofs.Common.{◌≡◌, ℕ, suc, Bool, true, false, Option, Some, None, List, [], ◌∷◌, ◌++◌, map, length, refl, ap, sym, ◌∙◌, subst, arith, length-append}
 use Rattle.std.specs.Prelude.{◌&&◌, ◌==◌, if◌then◌else◌, ⊤}
-use Rattle.run_frames.specs.of_datagrams.Datagram as Raw
-use Rattle.plan_ring.specs.Rows.{WishStays, IsFirst}
-use Rattle.plan_ring.proofs.Rows.{back_first, lost_first, new_first}
-use Rattle.run_frames.specs.of_life_model.Script.{life_started}
-use Rattle.run_frames.specs.of_exchange_model.Exchange.{Speech}
-use Rattle.run_frames.specs.of_frame_view.View.{Lens}
-use Rattle.run_frames.specs.of_frame_view.Seen.{seen}
-use Rattle.run_frames.specs.of_frame_view.Shares.{came_at, given_where}
-use Rattle.run_frames.specs.of_life_model.Book.{NoInits}
-use Rattle.run_frames.specs.of_life_model.Lives.{Spot, Life, Opening, Stand, life_next, life_back, life_lost, opening_back, shows_clear, is_shown, last_step, clears, opens, steps_on, reopens, reopens_at, reopening, opens_state, returns_to_init, era_back}
-use Rattle.run_frames.specs.of_life_runs.First.{lens_of, first_leads, leads_from}
-use Rattle.run_frames.specs.of_life_runs.Led as Led
-use Rattle.run_frames.specs.of_life_runs.Led.{Exchanged, Leads, Turn, IsTurn, AllTurn, IsLed, is_passed, speech_at, life_behind, gives_up_at}
-use Rattle.run_frames.specs.of_link_mails.Body.{Body}
-use Rattle.run_frames.specs.of_master_duty.Reply.{Reply}
-use Rattle.run_frames.specs.of_master_hand.Spoken.{Asked, acknowledged, is_followed}
-use Rattle.run_frames.specs.of_segment_model.Record.{News}
-use Rattle.run_frames.specs.of_segment_model.Slaves.{Datagram, Found}
-use Rattle.run_frames.specs.of_segment_plan.declared.plan.Scenario.{Scenario}
-use Rattle.run_frames.specs.of_segment_plan.declared.slave.SlaveSpec.{SlaveSpec}
-use Rattle.run_frames.specs.of_segment_ring.declared.wire.Fate.{Fate}
-use Rattle.run_frames.specs.of_segment_ring.declared.wire.Fate.TheVariants.{Pass, Lost}
-use Rattle.run_frames.specs.of_state_model.Stated.{Service}
-use Rattle.run_frames.specs.of_state_model.Accounts.{Duty, Stage, Pick}
+use Rattle.packets_heard.specs.of_datagrams.Datagram as Raw
+use Rattle.served_rings.specs.of_plan_ring.Rows.{WishStays, IsFirst}
+use Rattle.served_rings.proofs.of_plan_ring.Rows.{back_first, lost_first, new_first}
+use Rattle.packets_heard.specs.of_life_model.Script.{life_started}
+use Rattle.packets_heard.specs.of_exchange_model.Exchange.{Speech}
+use Rattle.packets_heard.specs.of_frame_view.View.{Lens}
+use Rattle.packets_heard.specs.of_frame_view.Seen.{seen}
+use Rattle.packets_heard.specs.of_frame_view.Shares.{came_at, given_where}
+use Rattle.packets_heard.specs.of_life_model.Book.{NoInits}
+use Rattle.packets_heard.specs.of_life_model.Lives.{Spot, Life, Opening, Stand, life_next, life_back, life_lost, opening_back, shows_clear, is_shown, last_step, clears, opens, steps_on, reopens, reopens_at, reopening, opens_state, returns_to_init, era_back}
+use Rattle.packets_heard.specs.of_life_runs.First.{lens_of, first_leads, leads_from}
+use Rattle.packets_heard.specs.of_life_runs.Led as Led
+use Rattle.packets_heard.specs.of_life_runs.Led.{Exchanged, Leads, Turn, IsTurn, AllTurn, IsLed, is_passed, speech_at, life_behind, gives_up_at}
+use Rattle.packets_heard.specs.of_link_mails.Body.{Body}
+use Rattle.packets_heard.specs.of_master_duty.Reply.{Reply}
+use Rattle.packets_heard.specs.of_master_hand.Spoken.{Asked, acknowledged, is_followed}
+use Rattle.packets_heard.specs.of_segment_model.Record.{News}
+use Rattle.packets_heard.specs.of_segment_model.Slaves.{Datagram, Found}
+use Rattle.packets_heard.specs.of_segment_plan.declared.plan.Scenario.{Scenario}
+use Rattle.packets_heard.specs.of_segment_plan.declared.slave.SlaveSpec.{SlaveSpec}
+use Rattle.packets_heard.specs.of_segment_ring.declared.wire.Fate.{Fate}
+use Rattle.packets_heard.specs.of_segment_ring.declared.wire.Fate.TheVariants.{Pass, Lost}
+use Rattle.packets_heard.specs.of_state_model.Stated.{Service}
+use Rattle.packets_heard.specs.of_state_model.Accounts.{Duty, Stage, Pick}
 use Rattle.run_promises.specs.Books.{StaysUp}
-use Rattle.run_frames.proofs.Came.{listed, past_is, turn_started, behind_same}
+use Rattle.served_rings.proofs.of_run_frames.Came.{listed, past_is, turn_started, behind_same}
 
 -- services of which none returns to Init
 quiet_front : {Q : Type 0} (xs ys : List (Service Q)) → NoInits (xs ++ ys) → NoInits xs

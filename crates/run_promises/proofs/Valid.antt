@@ -1,20 +1,20 @@
 -- ALL SERVICES THAT CAME INTO HAND in a session are such as the laws speak of.
 use Rattle.std.proofs.Common.{◌≡◌, inl, inr, ℕ, true, false, List, [], ◌∷◌, ◌++◌, sym, ap, ◌∙◌, subst}
-use Rattle.exchange_model.specs.Exchange.{Exchange}
-use Rattle.exchange_model.specs.Lifted.{EachOf}
-use Rattle.exchange_model.specs.Rows.{Row, Settled, services}
-use Rattle.exchange_model.specs.Exchange as Exchange
-use Rattle.life_model.specs.Eras.{OpenEra, era_frames}
-use Rattle.life_model.proofs.Eras.{session_of, of_one}
-use Rattle.segment_model.specs.Record.{Frame}
-use Rattle.segment_model.specs.Seats.{Side}
-use Rattle.segment_model.specs.Slaves.{Slave}
-use Rattle.state_model.specs.Stated.{service_valid, with_states}
-use Rattle.state_model.specs.States.{Table}
-use Rattle.state_model.specs.Accounts.{Account}
-use Rattle.state_model.specs.Promise.{services_in}
-use Rattle.state_model.proofs.Dones.{services_same}
-use Rattle.state_model.proofs.Sessions.{of_slaves}
+use Rattle.packets_heard.specs.of_exchange_model.Exchange.{Exchange}
+use Rattle.packets_heard.specs.of_exchange_model.Lifted.{EachOf}
+use Rattle.packets_heard.specs.of_exchange_model.Rows.{Row, Settled, services}
+use Rattle.packets_heard.specs.of_exchange_model.Exchange as Exchange
+use Rattle.packets_heard.specs.of_life_model.Eras.{OpenEra, era_frames}
+use Rattle.served_rings.proofs.of_life_model.Eras.{session_of, of_one}
+use Rattle.packets_heard.specs.of_segment_model.Record.{Frame}
+use Rattle.packets_heard.specs.of_segment_model.Seats.{Side}
+use Rattle.packets_heard.specs.of_segment_model.Slaves.{Slave}
+use Rattle.packets_heard.specs.of_state_model.Stated.{service_valid, with_states}
+use Rattle.packets_heard.specs.of_state_model.States.{Table}
+use Rattle.packets_heard.specs.of_state_model.Accounts.{Account}
+use Rattle.packets_heard.specs.of_state_model.Promise.{services_in}
+use Rattle.served_rings.proofs.of_state_model.Dones.{services_same}
+use Rattle.served_rings.proofs.of_state_model.Sessions.{of_slaves}
 
 -- rows that are over, one behind the other
 settled_valid : {V A M Q R : Type 0} (x : Exchange V A M Q R) (v : V) (rs : List (Row M Q R)) → Settled x v rs → EachOf (λ q. x.speech.valid q ≡ true) (services rs)

@@ -6,28 +6,28 @@ use Rattle.std.proofs.lemmas.List.Sums.{sum_by-cons, sum_by-append}
 use Rattle.std.proofs.lemmas.Nat.{mul-le}
 use Rattle.std.proofs.lemmas.Option.{slice_get_within, get_or_from_slice_get}
 use Rattle.std.proofs.Math.Seq.{take-suc}
-use Rattle.coe_client.specs.Talk.{service_view}
-use Rattle.protocol_models.specs.CoeServer.{emergency, packet, emission_of}
-use Rattle.protocol_models.specs.EoeClient as EoeClient
-use Rattle.protocol_models.specs.Echo.{echo_of}
-use Rattle.run_work.specs.of_life_counts.Begun.{service_most, begun_most}
-use Rattle.life_runs.specs.Led.{Comes}
-use Rattle.master_hand.specs.Brings.{as_list}
-use Rattle.master_hand.specs.Spoken.{Asked, sdo, file, drive, net, passed}
-use Rattle.master_hand.specs.Talk.{asked_of}
-use Rattle.object_dictionary.specs.declared.service.SdoService.{SdoService}
-use Rattle.run_work.specs.Packets.{cuts, may_echo, waiting_work}
-use Rattle.run_work.specs.of_life_counts.Asked.{asked_most}
-use Rattle.run_work.specs.of_life_counts.Split.{sdo_cuts, entering}
-use Rattle.run_frames.specs.Came.{handed_over, AreThose, is_packet}
-use Rattle.run_frames.proofs.Came.{listed}
-use Rattle.segment_plan.specs.declared.service.Service as Plan
-use Rattle.few_replies.specs.Shapes.{Shape, sdo_emission, echo_mails}
-use Rattle.life_runs.specs.Came.{ServedCame}
-use Rattle.life_runs.specs.Served.{Keyed}
-use Rattle.slave_model.specs.Profile.{Profile}
+use Rattle.packets_heard.specs.of_coe_client.Talk.{service_view}
+use Rattle.packets_heard.specs.of_protocol_models.CoeServer.{emergency, packet, emission_of}
+use Rattle.packets_heard.specs.of_protocol_models.EoeClient as EoeClient
+use Rattle.packets_heard.specs.of_protocol_models.Echo.{echo_of}
+use Rattle.served_rings.specs.of_life_counts.Begun.{service_most, begun_most}
+use Rattle.packets_heard.specs.of_life_runs.Led.{Comes}
+use Rattle.packets_heard.specs.of_master_hand.Brings.{as_list}
+use Rattle.packets_heard.specs.of_master_hand.Spoken.{Asked, sdo, file, drive, net, passed}
+use Rattle.packets_heard.specs.of_master_hand.Talk.{asked_of}
+use Rattle.packets_heard.specs.of_object_dictionary.declared.service.SdoService.{SdoService}
+use Rattle.served_rings.specs.of_run_work.Packets.{cuts, may_echo, waiting_work}
+use Rattle.served_rings.specs.of_life_counts.Asked.{asked_most}
+use Rattle.served_rings.specs.of_life_counts.Split.{sdo_cuts, entering}
+use Rattle.served_rings.specs.of_run_frames.Came.{handed_over, AreThose, is_packet}
+use Rattle.served_rings.proofs.of_run_frames.Came.{listed}
+use Rattle.packets_heard.specs.of_segment_plan.declared.service.Service as Plan
+use Rattle.served_rings.specs.of_few_replies.Shapes.{Shape, sdo_emission, echo_mails}
+use Rattle.packets_heard.specs.of_life_runs.Came.{ServedCame}
+use Rattle.packets_heard.specs.of_life_runs.Served.{Keyed}
+use Rattle.served_rings.specs.of_slave_model.Profile.{Profile}
 use Rattle.run_promises.specs.Sends.{of_emission, asked_sends, sends_most, all_most}
-use Rattle.state_model.specs.Stated.{Service}
+use Rattle.packets_heard.specs.of_state_model.Stated.{Service}
 use Rattle.run_promises.proofs.Begun.{weight, weights}
 
 -- what a law says of echoes

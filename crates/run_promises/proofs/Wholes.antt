@@ -1,31 +1,31 @@
 -- WHATEVER MAIL A SLAVE TAKES, what it sends of itself are the fragments of one packet at most, and it may send packets behind it.
 use Rattle.std.proofs.Common.{◌≡◌, ℕ, ◌+◌, ◌%◌, ◌≤◌, ◌==◌, ◌&&◌, nat_le, Bool, true, false, List, [], ◌∷◌, ◌++◌, map, length, Option, Some, None, Result, Ok, Err, refl, sym, ◌∙◌, subst, arith, eqb-true, if◌then◌else◌}
 use Rattle.std.specs.Prelude.{⊤, slice_index, sum_by}
-use Rattle.protocol_models.specs.CoeMails as Coe
-use Rattle.protocol_models.specs.CoeOctets as CoeOctets
-use Rattle.protocol_models.specs.CoeServer.{Transfer, idle, downloading, uploading, coe_outcome, emission_of, issued, packet}
-use Rattle.protocol_models.specs.Tables.{Target}
-use Rattle.eoe.specs.declared.joining.Joined.{Joined}
-use Rattle.eoe.specs.declared.joining.Joined.TheVariants.{More, Whole as WholePacket, Dropped}
-use Rattle.eoe.specs.declared.joining.Unfinished.{Unfinished}
-use Rattle.eoe.specs.Joining.{taken}
-use Rattle.eoe.specs.Message.{eoe_text}
-use Rattle.eoe.specs.declared.message.Fragment.{Fragment}
-use Rattle.protocol_models.specs.Echo.{echo_of}
-use Rattle.protocol_models.specs.EoeMails as Eoe
-use Rattle.protocol_models.specs.Network.{Station}
-use Rattle.protocol_models.specs.EoeOctets as EoeOctets
-use Rattle.protocol_models.specs.EoeServer.{eoe_outcome, eoe_takes, joined, set_answer, takes_unread, addressed}
-use Rattle.exchange_model.specs.Refusing.{gated}
-use Rattle.protocol_models.specs.FoeMails as Foe
-use Rattle.protocol_models.specs.FoeModel.{foe_exchange}
-use Rattle.protocol_models.specs.FoeOctets as FoeOctets
-use Rattle.link_mails.specs.Body.{Body}
-use Rattle.mailbox_mail.specs.Bodies.{mail_with}
-use Rattle.mailbox_mail.specs.declared.mail.Kind.{Kind}
-use Rattle.mailbox_mail.specs.declared.mail.MailFault.TheVariants.{Short, LengthPastArea, UnknownKind}
-use Rattle.master_hand.specs.Joins.{fragment_in}
-use Rattle.object_dictionary.specs.Dictionary.{Table}
+use Rattle.packets_heard.specs.of_protocol_models.CoeMails as Coe
+use Rattle.packets_heard.specs.of_protocol_models.CoeOctets as CoeOctets
+use Rattle.packets_heard.specs.of_protocol_models.CoeServer.{Transfer, idle, downloading, uploading, coe_outcome, emission_of, issued, packet}
+use Rattle.packets_heard.specs.of_protocol_models.Tables.{Target}
+use Rattle.packets_heard.specs.of_eoe.declared.joining.Joined.{Joined}
+use Rattle.packets_heard.specs.of_eoe.declared.joining.Joined.TheVariants.{More, Whole as WholePacket, Dropped}
+use Rattle.packets_heard.specs.of_eoe.declared.joining.Unfinished.{Unfinished}
+use Rattle.packets_heard.specs.of_eoe.Joining.{taken}
+use Rattle.packets_heard.specs.of_eoe.Message.{eoe_text}
+use Rattle.packets_heard.specs.of_eoe.declared.message.Fragment.{Fragment}
+use Rattle.packets_heard.specs.of_protocol_models.Echo.{echo_of}
+use Rattle.packets_heard.specs.of_protocol_models.EoeMails as Eoe
+use Rattle.packets_heard.specs.of_protocol_models.Network.{Station}
+use Rattle.packets_heard.specs.of_protocol_models.EoeOctets as EoeOctets
+use Rattle.packets_heard.specs.of_protocol_models.EoeServer.{eoe_outcome, eoe_takes, joined, set_answer, takes_unread, addressed}
+use Rattle.packets_heard.specs.of_exchange_model.Refusing.{gated}
+use Rattle.packets_heard.specs.of_protocol_models.FoeMails as Foe
+use Rattle.packets_heard.specs.of_protocol_models.FoeModel.{foe_exchange}
+use Rattle.packets_heard.specs.of_protocol_models.FoeOctets as FoeOctets
+use Rattle.packets_heard.specs.of_link_mails.Body.{Body}
+use Rattle.served_rings.specs.of_mailbox_mail.Bodies.{mail_with}
+use Rattle.served_rings.specs.of_mailbox_mail.declared.mail.Kind.{Kind}
+use Rattle.served_rings.specs.of_mailbox_mail.declared.mail.MailFault.TheVariants.{Short, LengthPastArea, UnknownKind}
+use Rattle.packets_heard.specs.of_master_hand.Joins.{fragment_in}
+use Rattle.packets_heard.specs.of_object_dictionary.Dictionary.{Table}
 use Rattle.packets_heard.specs.Packets.{as_part, parts}
 use Rattle.run_promises.specs.Sends.{MaySend, Sends, of_emission}
 use Rattle.run_promises.proofs.Cuts.{sends_both, sends_none}
@@ -35,16 +35,16 @@ use Rattle.run_promises.proofs.Outcomes.{OfMail, OfMessage, OfTransfer, outcome,
 use Rattle.run_promises.proofs.Owns.{own_fragment}
 use Rattle.run_promises.proofs.Passed.{foe_none, map_append, refuses_none, soe_none}
 use Rattle.run_promises.proofs.Stays.{emitted_sized, issued_stays, stored_table}
-use Rattle.slave_model.specs.Application.{network, station_elements, station_files, station_tables, stored, with_objects}
-use Rattle.slave_model.specs.Product.{protocol_of, refusal, serve, serve_by, served, side}
-use Rattle.slave_model.specs.Profile.{IsProfile, Profile, Protocol, areas_of, serves}
-use Rattle.slave_model.specs.Server.{heard_by, refused_counts, refused_gives, reseated, seat, told_by}
-use Rattle.slave_parts.specs.Parts.{Core, Server, parts as real_parts}
-use Rattle.slave_parts.proofs.EoeKeeping as EoeKeeping
-use Rattle.slave_parts.proofs.SoeKeeping as SoeKeeping
-use Rattle.protocol_models.specs.SoeMails as Soe
-use Rattle.protocol_models.specs.SoeModel.{soe_exchange}
-use Rattle.protocol_models.specs.SoeOctets as SoeOctets
+use Rattle.served_rings.specs.of_slave_model.Application.{network, station_elements, station_files, station_tables, stored, with_objects}
+use Rattle.served_rings.specs.of_slave_model.Product.{protocol_of, refusal, serve, serve_by, served, side}
+use Rattle.served_rings.specs.of_slave_model.Profile.{IsProfile, Profile, Protocol, areas_of, serves}
+use Rattle.served_rings.specs.of_slave_model.Server.{heard_by, refused_counts, refused_gives, reseated, seat, told_by}
+use Rattle.served_rings.specs.of_slave_parts.Parts.{Core, Server, parts as real_parts}
+use Rattle.packets_heard.proofs.of_slave_parts.EoeKeeping as EoeKeeping
+use Rattle.packets_heard.proofs.of_slave_parts.SoeKeeping as SoeKeeping
+use Rattle.packets_heard.specs.of_protocol_models.SoeMails as Soe
+use Rattle.packets_heard.specs.of_protocol_models.SoeModel.{soe_exchange}
+use Rattle.packets_heard.specs.of_protocol_models.SoeOctets as SoeOctets
 
 -- a packet of the length that it has to have
 abbrev Fits : List ℕ → Type 0
@@ -156,7 +156,7 @@ module _ (p : Profile) (is : IsProfile p) (al : ℕ) where
         SoeKeeping.keeps (station_elements real_parts) p.back MaySend (λ s changed t bytes k done. by s changed (real_parts.elements.write s.app.idns t bytes) k done) (seat Protocol.SoE j) m may,
       )
     where
-      by : (s changed : Station Core) (r : Result _ ℕ) → MaySend s → Rattle.slave_model.specs.Application.written s r ≡ Ok changed → MaySend changed
+      by : (s changed : Station Core) (r : Result _ ℕ) → MaySend s → Rattle.served_rings.specs.of_slave_model.Application.written s r ≡ Ok changed → MaySend changed
       by s changed (Ok idns) k done =
           let same : record s { app = record s.app { idns = idns } } ≡ changed = cc in
           subst MaySend same (record { table = k.table; frame = k.frame })
@@ -166,7 +166,7 @@ module _ (p : Profile) (is : IsProfile p) (al : ℕ) where
   abbrev told : Eoe.EoeMail → Body
   told m = told_by EoeOctets.eoe_mail_written m
 
-  sends_stay : (s : Station Core) (sent : Option (List ℕ)) → MaySend s → MaySend (Rattle.protocol_models.specs.EoeServer.sends p.back s.frame (s.app, sent)).0
+  sends_stay : (s : Station Core) (sent : Option (List ℕ)) → MaySend s → MaySend (Rattle.packets_heard.specs.of_protocol_models.EoeServer.sends p.back s.frame (s.app, sent)).0
   sends_stay s None may = record { table = may.table; frame = may.frame }
   sends_stay s (Some octets) may = record { table = may.table; frame = omega arith }
 

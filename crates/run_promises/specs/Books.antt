@@ -1,22 +1,22 @@
 -- THE BOOK OF A SLAVE THAT STAYS UP: in its first epoch, from the switch on.
 use Rattle.std.specs.Prelude.{◌≡◌, ℕ, suc, true, List, [], ◌∷◌, ⊤}
-use Rattle.plan_ring.specs.KeptFirst.{Forgets, FirstBook}
-use Rattle.run_frames.specs.of_life_model.Script.{life_started}
-use Rattle.run_frames.specs.of_life_model.Book.{NoInits}
-use Rattle.run_frames.specs.of_life_model.Lives.{Life, Stand}
-use Rattle.run_frames.specs.of_life_runs.First.{lens_of, spot_of}
-use Rattle.run_frames.specs.of_life_runs.Led.{Exchanged, Leads}
-use Rattle.run_frames.specs.of_master_hand.Spoken.{is_followed}
-use Rattle.plan_ring.specs.Plan.{plan_of, first_app}
-use Rattle.run_frames.specs.of_segment_plan.declared.plan.Scenario.{Scenario}
-use Rattle.run_frames.specs.of_segment_plan.declared.slave.SlaveSpec.{SlaveSpec}
-use Rattle.plan_ring.specs.Real.{real_clearing}
-use Rattle.run_frames.specs.of_segment_model.Laws.{IsSettled}
-use Rattle.plan_ring.specs.of_slave_lives.Lived.{node_seen}
-use Rattle.plan_ring.specs.of_slave_server.Serving.{Serving, next_mail}
-use Rattle.plan_ring.specs.of_slave_node.Node.{Node, is_settled}
-use Rattle.plan_ring.specs.of_whole_ring.Whole.{OwesLaws}
-use Rattle.plan_ring.specs.Round.{all_seen}
+use Rattle.served_rings.specs.of_plan_ring.KeptFirst.{Forgets, FirstBook}
+use Rattle.packets_heard.specs.of_life_model.Script.{life_started}
+use Rattle.packets_heard.specs.of_life_model.Book.{NoInits}
+use Rattle.packets_heard.specs.of_life_model.Lives.{Life, Stand}
+use Rattle.packets_heard.specs.of_life_runs.First.{lens_of, spot_of}
+use Rattle.packets_heard.specs.of_life_runs.Led.{Exchanged, Leads}
+use Rattle.packets_heard.specs.of_master_hand.Spoken.{is_followed}
+use Rattle.served_rings.specs.of_plan_ring.Plan.{plan_of, first_app}
+use Rattle.packets_heard.specs.of_segment_plan.declared.plan.Scenario.{Scenario}
+use Rattle.packets_heard.specs.of_segment_plan.declared.slave.SlaveSpec.{SlaveSpec}
+use Rattle.served_rings.specs.of_plan_ring.Real.{real_clearing}
+use Rattle.packets_heard.specs.of_segment_model.Laws.{IsSettled}
+use Rattle.served_rings.specs.of_slave_lives.Lived.{node_seen}
+use Rattle.packets_heard.specs.of_slave_server.Serving.{Serving, next_mail}
+use Rattle.packets_heard.specs.of_slave_node.Node.{Node, is_settled}
+use Rattle.served_rings.specs.of_whole_ring.Whole.{OwesLaws}
+use Rattle.served_rings.specs.of_plan_ring.Round.{all_seen}
 use Rattle.run_promises.specs.Slaves.{services_of}
 
 -- a slave that was never given up or returned to Init, and none of whose services asks for that

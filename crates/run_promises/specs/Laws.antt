@@ -1,19 +1,19 @@
 -- WHAT IS SAID OF EACH PLAN THAT WAS READ: its slaves send whole packets, and their mails are those of their epochs.
 use Rattle.std.specs.Prelude.{ℕ, List}
-use Rattle.life_runs.specs.First.{first_leads, lens_of}
-use Rattle.life_runs.specs.Led.{Exchanged, IsLed, Leads}
+use Rattle.packets_heard.specs.of_life_runs.First.{first_leads, lens_of}
+use Rattle.packets_heard.specs.of_life_runs.Led.{Exchanged, IsLed, Leads}
 use Rattle.packets_heard.specs.Heard.{packets_of, times_in}
 use Rattle.packets_heard.specs.Servings.{served_times}
-use Rattle.plan_ring.specs.Lives.{IsKnown}
-use Rattle.plan_ring.specs.Round.{AllRound, ring_of}
-use Rattle.plan_ring.specs.of_slave_server.Serving.{Serving}
-use Rattle.segment_plan.specs.Sound.{IsPlan}
-use Rattle.segment_plan.specs.declared.plan.Scenario.{Scenario}
-use Rattle.segment_plan.specs.declared.slave.SlaveSpec.{SlaveSpec}
+use Rattle.served_rings.specs.of_plan_ring.Lives.{IsKnown}
+use Rattle.served_rings.specs.of_plan_ring.Round.{AllRound, ring_of}
+use Rattle.packets_heard.specs.of_slave_server.Serving.{Serving}
+use Rattle.packets_heard.specs.of_segment_plan.Sound.{IsPlan}
+use Rattle.packets_heard.specs.of_segment_plan.declared.plan.Scenario.{Scenario}
+use Rattle.packets_heard.specs.of_segment_plan.declared.slave.SlaveSpec.{SlaveSpec}
 use Rattle.run_promises.specs.Whole.{AllAreHeard, AllSendWhole, AreLong, heard_at}
 use Rattle.served_rings.specs.Served.{AllServeSo}
-use Rattle.life_runs.specs.Served.{IsRunOf, ServeTo, Serves}
-use Rattle.slave_node.specs.Node.{Node}
+use Rattle.packets_heard.specs.of_life_runs.Served.{IsRunOf, ServeTo, Serves}
+use Rattle.packets_heard.specs.of_slave_node.Node.{Node}
 
 -- each epoch of each slave sends whole packets, by what it carried out
 abbrev pub SlavesSendWhole : Type 0

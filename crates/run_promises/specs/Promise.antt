@@ -1,22 +1,22 @@
 -- WHAT A MACHINE BUILDER MAY RELY ON of each slave of a plan, behind the frames of a run, whatever frames are lost.
 use Rattle.std.specs.Prelude.{◌≡◌, ℕ, suc, true, List, [], ◌∷◌, ⊤}
-use Rattle.run_frames.specs.of_life_model.Script.{life_started}
-use Rattle.plan_ring.specs.Epochs.{IsKeptLife}
-use Rattle.run_frames.specs.of_life_model.Lives.{Stand}
-use Rattle.run_frames.specs.of_life_runs.First.{lens_of, spot_of, script_for}
-use Rattle.run_frames.specs.of_life_runs.Led.{Exchanged, Leads}
-use Rattle.run_frames.specs.of_master_hand.Spoken.{is_followed}
-use Rattle.plan_ring.specs.Plan.{first_app}
-use Rattle.plan_ring.specs.Round.{ring_of, ring_after, all_seen}
+use Rattle.packets_heard.specs.of_life_model.Script.{life_started}
+use Rattle.served_rings.specs.of_plan_ring.Epochs.{IsKeptLife}
+use Rattle.packets_heard.specs.of_life_model.Lives.{Stand}
+use Rattle.packets_heard.specs.of_life_runs.First.{lens_of, spot_of, script_for}
+use Rattle.packets_heard.specs.of_life_runs.Led.{Exchanged, Leads}
+use Rattle.packets_heard.specs.of_master_hand.Spoken.{is_followed}
+use Rattle.served_rings.specs.of_plan_ring.Plan.{first_app}
+use Rattle.served_rings.specs.of_plan_ring.Round.{ring_of, ring_after, all_seen}
 use Rattle.run_promises.specs.Books.{StaysUp, HasBook}
 use Rattle.run_promises.specs.Rests.{IsIdle, IsDone}
 use Rattle.run_promises.specs.Slaves.{services_of}
-use Rattle.run_frames.specs.Came.{Came, AreFirst}
-use Rattle.run_frames.specs.of_segment_plan.declared.plan.Scenario.{Scenario}
-use Rattle.run_frames.specs.of_segment_plan.declared.slave.SlaveSpec.{SlaveSpec}
-use Rattle.plan_ring.specs.Real.{real_clearing}
-use Rattle.plan_ring.specs.of_slave_server.Serving.{Serving, next_mail}
-use Rattle.plan_ring.specs.of_slave_node.Node.{Node, is_settled}
+use Rattle.served_rings.specs.of_run_frames.Came.{Came, AreFirst}
+use Rattle.packets_heard.specs.of_segment_plan.declared.plan.Scenario.{Scenario}
+use Rattle.packets_heard.specs.of_segment_plan.declared.slave.SlaveSpec.{SlaveSpec}
+use Rattle.served_rings.specs.of_plan_ring.Real.{real_clearing}
+use Rattle.packets_heard.specs.of_slave_server.Serving.{Serving, next_mail}
+use Rattle.packets_heard.specs.of_slave_node.Node.{Node, is_settled}
 
 -- the slaves behind frames: those of the ring that replays these very frames, octet for octet, from the plan's new slaves on
 abbrev pub slaves_behind : Scenario → List Exchanged → List (Node Serving)

@@ -1,18 +1,18 @@
 -- WHICH MAILS ARE PASSED ON that make their slave send no packet: fair ones, and none of EoE.
 use Rattle.std.specs.Prelude.{◌≡◌, ◌&&◌, not, Bool, true, All, Ok}
-use Rattle.protocol_models.specs.Network.{Station}
-use Rattle.few_replies.specs.Packets.{is_fair}
-use Rattle.link_mails.specs.Body.{Body}
-use Rattle.master_hand.specs.Spoken as Spoken
+use Rattle.packets_heard.specs.of_protocol_models.Network.{Station}
+use Rattle.served_rings.specs.of_few_replies.Packets.{is_fair}
+use Rattle.packets_heard.specs.of_link_mails.Body.{Body}
+use Rattle.packets_heard.specs.of_master_hand.Spoken as Spoken
 use Rattle.served_rings.specs.Speakers.{speaker}
-use Rattle.run_work.specs.Sessions.{OwnService}
+use Rattle.served_rings.specs.of_run_work.Sessions.{OwnService}
 use Rattle.run_promises.specs.Sends.{is_network}
-use Rattle.life_runs.specs.Served.{Keyed, Serves}
-use Rattle.slave_model.specs.Profile.{Profile}
-use Rattle.slave_model.specs.Server.{Reply}
-use Rattle.slave_parts.specs.Parts.{Core, Server}
-use Rattle.state_model.specs.Families.{InState}
-use Rattle.run_work.specs.of_life_counts.Epochs.{Speaker}
+use Rattle.packets_heard.specs.of_life_runs.Served.{Keyed, Serves}
+use Rattle.served_rings.specs.of_slave_model.Profile.{Profile}
+use Rattle.served_rings.specs.of_slave_model.Server.{Reply}
+use Rattle.served_rings.specs.of_slave_parts.Parts.{Core, Server}
+use Rattle.packets_heard.specs.of_state_model.Families.{InState}
+use Rattle.served_rings.specs.of_life_counts.Epochs.{Speaker}
 
 -- a mail by which no packet goes
 abbrev pub is_quiet : Body → Bool

@@ -1,14 +1,14 @@
 -- WHAT A MACHINE BUILDER MAY RELY ON where a run has nothing left to do.
 use Rattle.std.specs.Prelude.{◌≡◌, ◌⊎◌, ℕ, suc, true, List, [], ◌∷◌, ⊤}
-use Rattle.run_frames.specs.of_frame_view.View.{Lens}
-use Rattle.run_frames.specs.of_life_model.Lives.{Stand}
-use Rattle.run_frames.specs.of_life_runs.First.{lens_of}
-use Rattle.run_frames.specs.of_life_runs.Led.{Exchanged, Leads}
+use Rattle.packets_heard.specs.of_frame_view.View.{Lens}
+use Rattle.packets_heard.specs.of_life_model.Lives.{Stand}
+use Rattle.packets_heard.specs.of_life_runs.First.{lens_of}
+use Rattle.packets_heard.specs.of_life_runs.Led.{Exchanged, Leads}
 use Rattle.run_promises.specs.Rests.{IsIdle, IsDone}
-use Rattle.run_frames.specs.of_segment_plan.declared.plan.Scenario.{Scenario}
-use Rattle.run_frames.specs.of_segment_plan.declared.slave.SlaveSpec.{SlaveSpec}
-use Rattle.plan_ring.specs.of_slave_server.Serving.{Serving, next_mail}
-use Rattle.plan_ring.specs.of_slave_node.Node.{Node, is_settled}
+use Rattle.packets_heard.specs.of_segment_plan.declared.plan.Scenario.{Scenario}
+use Rattle.packets_heard.specs.of_segment_plan.declared.slave.SlaveSpec.{SlaveSpec}
+use Rattle.packets_heard.specs.of_slave_server.Serving.{Serving, next_mail}
+use Rattle.packets_heard.specs.of_slave_node.Node.{Node, is_settled}
 use Rattle.run_promises.specs.Promise.{slaves_behind}
 
 -- AT REST: a slave that was given up for good, or one that is settled and of which its master wants nothing

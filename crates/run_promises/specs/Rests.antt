@@ -1,24 +1,24 @@
 -- NOTHING IS LEFT of a slave: all of its script came into hand and is carried out.
 use Rattle.std.specs.Prelude.{◌≡◌, ℕ, suc, true, not, None, List, [], ◌∷◌, filter, length, ⊤}
-use Rattle.run_frames.specs.of_life_model.Script.{life_started}
-use Rattle.run_frames.specs.of_protocol_models.Network.{Station}
-use Rattle.run_frames.specs.of_frame_view.View.{Lens}
-use Rattle.run_frames.specs.of_life_model.Lives.{Stand}
-use Rattle.run_frames.specs.of_life_runs.First.{lens_of, spot_of, script_for}
-use Rattle.run_frames.specs.of_life_runs.Led.{Exchanged, Leads, speech_at}
-use Rattle.run_frames.specs.of_master_hand.Spoken.{is_followed}
-use Rattle.plan_ring.specs.Plan.{first_app}
-use Rattle.run_frames.specs.of_segment_model.Laws.{WantsNothing}
-use Rattle.run_frames.specs.of_segment_plan.declared.plan.Scenario.{Scenario}
-use Rattle.run_frames.specs.of_segment_plan.declared.slave.SlaveSpec.{SlaveSpec}
-use Rattle.plan_ring.specs.Real.{real_clearing}
-use Rattle.plan_ring.specs.of_slave_parts.Parts.{Core}
-use Rattle.plan_ring.specs.of_slave_server.Serving.{Serving, next_mail}
-use Rattle.plan_ring.specs.of_slave_node.Node.{Node, is_settled}
-use Rattle.run_frames.specs.of_state_model.Families.{InState}
-use Rattle.plan_ring.specs.Round.{all_seen}
-use Rattle.run_frames.specs.Came.{AreThose, is_packet}
-use Rattle.plan_ring.specs.Epochs.{AreKept, NothingLeft, app_of}
+use Rattle.packets_heard.specs.of_life_model.Script.{life_started}
+use Rattle.packets_heard.specs.of_protocol_models.Network.{Station}
+use Rattle.packets_heard.specs.of_frame_view.View.{Lens}
+use Rattle.packets_heard.specs.of_life_model.Lives.{Stand}
+use Rattle.packets_heard.specs.of_life_runs.First.{lens_of, spot_of, script_for}
+use Rattle.packets_heard.specs.of_life_runs.Led.{Exchanged, Leads, speech_at}
+use Rattle.packets_heard.specs.of_master_hand.Spoken.{is_followed}
+use Rattle.served_rings.specs.of_plan_ring.Plan.{first_app}
+use Rattle.packets_heard.specs.of_segment_model.Laws.{WantsNothing}
+use Rattle.packets_heard.specs.of_segment_plan.declared.plan.Scenario.{Scenario}
+use Rattle.packets_heard.specs.of_segment_plan.declared.slave.SlaveSpec.{SlaveSpec}
+use Rattle.served_rings.specs.of_plan_ring.Real.{real_clearing}
+use Rattle.served_rings.specs.of_slave_parts.Parts.{Core}
+use Rattle.packets_heard.specs.of_slave_server.Serving.{Serving, next_mail}
+use Rattle.packets_heard.specs.of_slave_node.Node.{Node, is_settled}
+use Rattle.packets_heard.specs.of_state_model.Families.{InState}
+use Rattle.served_rings.specs.of_plan_ring.Round.{all_seen}
+use Rattle.served_rings.specs.of_run_frames.Came.{AreThose, is_packet}
+use Rattle.served_rings.specs.of_plan_ring.Epochs.{AreKept, NothingLeft, app_of}
 use Rattle.run_promises.specs.Slaves.{services_of}
 
 -- THE MASTER WANTS NOTHING of a slave: it is open, no service is in hand and none is left of its script, and both halves of its link are idle

@@ -1,19 +1,19 @@
 -- THE PACKETS THAT A SLAVE MAY SEND by a service of its master.
 use Rattle.std.specs.Prelude.{◌≡◌, ℕ, ◌<◌, ◌≤◌, Bool, true, false, Option, Some, None, List, [], ◌∷◌, sum_by, Ok, Err}
-use Rattle.protocol_models.specs.CoeServer.{Emission, emergency, packet}
-use Rattle.protocol_models.specs.Network.{Station}
-use Rattle.link_mails.specs.Body.{Body}
-use Rattle.mailbox_mail.specs.declared.mail.Kind.{Kind}
-use Rattle.master_hand.specs.Brings.{as_list}
-use Rattle.master_hand.specs.Joins.{fragment_in}
-use Rattle.master_hand.specs.Spoken.{Asked, sdo, file, drive, net, passed}
-use Rattle.object_dictionary.specs.Sound.{is_table}
+use Rattle.packets_heard.specs.of_protocol_models.CoeServer.{Emission, emergency, packet}
+use Rattle.packets_heard.specs.of_protocol_models.Network.{Station}
+use Rattle.packets_heard.specs.of_link_mails.Body.{Body}
+use Rattle.served_rings.specs.of_mailbox_mail.declared.mail.Kind.{Kind}
+use Rattle.packets_heard.specs.of_master_hand.Brings.{as_list}
+use Rattle.packets_heard.specs.of_master_hand.Joins.{fragment_in}
+use Rattle.packets_heard.specs.of_master_hand.Spoken.{Asked, sdo, file, drive, net, passed}
+use Rattle.packets_heard.specs.of_object_dictionary.Sound.{is_table}
 use Rattle.packets_heard.specs.Packets.{Emitted, ArePackets, all_fragments, octets_of, parts}
-use Rattle.few_replies.specs.Shapes.{sdo_emission, net_echo}
-use Rattle.slave_model.specs.Profile.{Protocol, Profile}
-use Rattle.slave_model.specs.Server.{ServiceOf}
-use Rattle.slave_parts.specs.Parts.{Core}
-use Rattle.state_model.specs.Stated.{Service}
+use Rattle.served_rings.specs.of_few_replies.Shapes.{sdo_emission, net_echo}
+use Rattle.served_rings.specs.of_slave_model.Profile.{Protocol, Profile}
+use Rattle.served_rings.specs.of_slave_model.Server.{ServiceOf}
+use Rattle.served_rings.specs.of_slave_parts.Parts.{Core}
+use Rattle.packets_heard.specs.of_state_model.Stated.{Service}
 
 -- of what a download emits: a packet
 abbrev pub of_emission : Option Emission → List (List ℕ)

@@ -1,26 +1,26 @@
 -- WHAT A MACHINE BUILDER MAY RELY ON of each slave of a plan, behind any frames of a run: which of its services came into hand, and what its
 -- application has carried out of them.
 use Rattle.std.specs.Prelude.{ℕ, suc, List, [], ◌∷◌, ⊤}
-use Rattle.run_frames.specs.of_life_model.Script.{life_started}
-use Rattle.run_frames.specs.of_protocol_models.Network.{Station}
-use Rattle.run_frames.specs.of_life_runs.First.{lens_of, spot_of, script_for}
-use Rattle.run_frames.specs.of_life_runs.Led.{Exchanged, Leads}
-use Rattle.run_frames.specs.of_master_duty.Reply.{Reply}
-use Rattle.run_frames.specs.of_master_hand.Spoken.{Asked, is_followed}
-use Rattle.plan_ring.specs.Asked.{asked}
-use Rattle.plan_ring.specs.Plan.{first_app}
-use Rattle.run_frames.specs.of_segment_plan.declared.plan.Scenario.{Scenario}
-use Rattle.run_frames.specs.of_segment_plan.declared.slave.SlaveSpec.{SlaveSpec}
-use Rattle.plan_ring.specs.Real.{real_clearing}
-use Rattle.plan_ring.specs.of_slave_lives.Lived.{Behind}
-use Rattle.plan_ring.specs.of_slave_parts.Parts.{Core, Server}
-use Rattle.plan_ring.specs.of_slave_server.Serving.{Serving}
-use Rattle.plan_ring.specs.of_slave_server.Spec.{profile_of}
-use Rattle.plan_ring.specs.of_slave_node.Node.{Node}
-use Rattle.run_frames.specs.of_state_model.Families.{InState}
-use Rattle.plan_ring.specs.Round.{all_seen}
-use Rattle.run_frames.specs.Came.{Came, AreFirst}
-use Rattle.plan_ring.specs.Epochs.{IsKeptLife}
+use Rattle.packets_heard.specs.of_life_model.Script.{life_started}
+use Rattle.packets_heard.specs.of_protocol_models.Network.{Station}
+use Rattle.packets_heard.specs.of_life_runs.First.{lens_of, spot_of, script_for}
+use Rattle.packets_heard.specs.of_life_runs.Led.{Exchanged, Leads}
+use Rattle.packets_heard.specs.of_master_duty.Reply.{Reply}
+use Rattle.packets_heard.specs.of_master_hand.Spoken.{Asked, is_followed}
+use Rattle.served_rings.specs.of_plan_ring.Asked.{asked}
+use Rattle.served_rings.specs.of_plan_ring.Plan.{first_app}
+use Rattle.packets_heard.specs.of_segment_plan.declared.plan.Scenario.{Scenario}
+use Rattle.packets_heard.specs.of_segment_plan.declared.slave.SlaveSpec.{SlaveSpec}
+use Rattle.served_rings.specs.of_plan_ring.Real.{real_clearing}
+use Rattle.served_rings.specs.of_slave_lives.Lived.{Behind}
+use Rattle.served_rings.specs.of_slave_parts.Parts.{Core, Server}
+use Rattle.packets_heard.specs.of_slave_server.Serving.{Serving}
+use Rattle.packets_heard.specs.of_slave_server.Spec.{profile_of}
+use Rattle.packets_heard.specs.of_slave_node.Node.{Node}
+use Rattle.packets_heard.specs.of_state_model.Families.{InState}
+use Rattle.served_rings.specs.of_plan_ring.Round.{all_seen}
+use Rattle.served_rings.specs.of_run_frames.Came.{Came, AreFirst}
+use Rattle.served_rings.specs.of_plan_ring.Epochs.{IsKeptLife}
 
 -- the services of a plan's slave, as its master asks for them
 abbrev pub services_of : Scenario → SlaveSpec → Behind Serving (InState Server) (InState (Station Core)) Asked Reply

@@ -1,27 +1,27 @@
 -- EACH EPOCH OF A SLAVE SENDS WHOLE PACKETS: what its carried out rows emit are, but for emergencies, all fragments of packets, and of these the first came in.
 use Rattle.std.specs.Prelude.{◌≡◌, ◌≤◌, ℕ, zero, suc, Bool, None, List, [], ◌∷◌, ◌++◌, length, take, ⊤}
-use Rattle.eoe.specs.Joining.{joins}
-use Rattle.exchange_model.specs.Rows.{heard_all}
-use Rattle.life_model.specs.Lives.{Era, Life, Stand}
-use Rattle.link_mails.specs.Body.{Body}
-use Rattle.master_duty.specs.Reply.{Reply}
-use Rattle.master_hand.specs.Joins.{fragment_in, packets_in}
-use Rattle.master_hand.specs.Spoken.{Asked}
+use Rattle.packets_heard.specs.of_eoe.Joining.{joins}
+use Rattle.packets_heard.specs.of_exchange_model.Rows.{heard_all}
+use Rattle.packets_heard.specs.of_life_model.Lives.{Era, Life, Stand}
+use Rattle.packets_heard.specs.of_link_mails.Body.{Body}
+use Rattle.packets_heard.specs.of_master_duty.Reply.{Reply}
+use Rattle.packets_heard.specs.of_master_hand.Joins.{fragment_in, packets_in}
+use Rattle.packets_heard.specs.of_master_hand.Spoken.{Asked}
 use Rattle.packets_heard.specs.Packets.{Emitted, HasArrived, parts, wholes}
 use Rattle.packets_heard.specs.Heard.{Times, ended}
-use Rattle.plan_ring.specs.of_slave_server.Serving.{Serving}
-use Rattle.plan_ring.specs.of_slave_server.Spec.{profile_of}
-use Rattle.run_work.specs.Lives.{first_server}
-use Rattle.segment_model.specs.Seats.{rows_of}
-use Rattle.segment_plan.specs.declared.slave.SlaveSpec.{SlaveSpec}
+use Rattle.packets_heard.specs.of_slave_server.Serving.{Serving}
+use Rattle.packets_heard.specs.of_slave_server.Spec.{profile_of}
+use Rattle.served_rings.specs.of_run_work.Lives.{first_server}
+use Rattle.packets_heard.specs.of_segment_model.Seats.{rows_of}
+use Rattle.packets_heard.specs.of_segment_plan.declared.slave.SlaveSpec.{SlaveSpec}
 use Rattle.run_promises.specs.Sends.{AreWhole}
 use Rattle.served_rings.specs.Served.{AllServeSo, AreServedEras, IsServedEra, IsServedLife, IsServedNewest, emitted_behind}
-use Rattle.life_runs.specs.Served.{Serves}
-use Rattle.slave_model.specs.Profile.{Profile}
-use Rattle.slave_parts.specs.Parts.{Server}
-use Rattle.slave_node.specs.Node.{Node}
-use Rattle.state_model.specs.Families.{InState}
-use Rattle.state_model.specs.Promise.{services_in}
+use Rattle.packets_heard.specs.of_life_runs.Served.{Serves}
+use Rattle.served_rings.specs.of_slave_model.Profile.{Profile}
+use Rattle.served_rings.specs.of_slave_parts.Parts.{Server}
+use Rattle.packets_heard.specs.of_slave_node.Node.{Node}
+use Rattle.packets_heard.specs.of_state_model.Families.{InState}
+use Rattle.packets_heard.specs.of_state_model.Promise.{services_in}
 
 -- THERE ARE PACKETS OF WHICH THESE MAILS HAVE JUST ALL FRAGMENTS, and of the mails that were heard the first of them are joined, each whole as it was sent, and no fragment is dropped: just the packets that
 -- these mails complete for their master

@@ -11,18 +11,20 @@ pub mod switched_servings;
 pub mod whole_packets;
 
 ghost use Rattle.std.specs.Prelude.{ℕ, List, ◌++◌};
-ghost use Rattle.run_frames.specs.of_life_runs.First.{lens_of, first_leads};
-ghost use Rattle.run_frames.specs.of_life_runs.Led.{Exchanged, Leads, IsLed};
-ghost use Rattle.run_frames.specs.of_segment_plan.Sound.{IsPlan};
-ghost use Rattle.run_frames.specs.of_segment_plan.declared.plan.Scenario.{Scenario};
-ghost use Rattle.plan_ring.specs.Lives.{IsKnown};
-ghost use Rattle.plan_ring.specs.Round.{ring_of, AllRound, ring_after};
+ghost use Rattle.packets_heard.specs.of_life_runs.First.{lens_of, first_leads};
+ghost use Rattle.packets_heard.specs.of_life_runs.Led.{Exchanged, Leads, IsLed};
+ghost use Rattle.packets_heard.specs.of_segment_plan.Sound.{IsPlan};
+ghost use Rattle.packets_heard.specs.of_segment_plan.declared.plan.Scenario.{Scenario};
+ghost use Rattle.served_rings.specs.of_plan_ring.Lives.{IsKnown};
+ghost use Rattle.served_rings.specs.of_plan_ring.Round.{ring_of, AllRound, ring_after};
 ghost use Rattle.run_promises.specs.Books.{AllHaveBooks};
 ghost use Rattle.run_promises.specs.Rests.{AllDoneIf};
 ghost use Rattle.run_promises.specs.Slaves.{AllServed};
-ghost use Rattle.scenario.specs.Told.{IsTold};
+ghost use Rattle.served_rings.specs.of_scenario.Told.{IsTold};
 ghost use Rattle.run_promises.specs.Promise.{Keeps};
 ghost use Rattle.run_promises.specs.Rest.{AllStayed, IsResting, NothingIsLeft, AllIsDone};
+
+pub use served_rings::{life_runs, plan_ring, run_frames};
 
 /// THE PROMISE OF A RUN, whatever frames are lost: of each slave just the first services of its script came into hand, with the packets of its port
 /// among them, and its application, which is that of the ring's node behind the frames, has carried out in each epoch just the first of these, each

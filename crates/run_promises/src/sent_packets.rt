@@ -1,15 +1,17 @@
 //! The packets that a master joins of what its slaves send are of the services that came into hand. Definitions and a law, no running code: the function
 //! here does nothing, and its contract states the law.
 
-ghost use Rattle.life_runs.specs.First.{lens_of, first_leads};
-ghost use Rattle.life_runs.specs.Led.{Exchanged, Leads, IsLed};
+ghost use Rattle.packets_heard.specs.of_life_runs.First.{lens_of, first_leads};
+ghost use Rattle.packets_heard.specs.of_life_runs.Led.{Exchanged, Leads, IsLed};
 ghost use Rattle.packets_heard.specs.Heard.{joined_in};
-ghost use Rattle.plan_ring.specs.Lives.{IsKnown};
-ghost use Rattle.plan_ring.specs.Round.{ring_of, AllRound};
-ghost use Rattle.segment_plan.specs.Sound.{IsPlan};
-ghost use Rattle.segment_plan.specs.declared.plan.Scenario.{Scenario};
+ghost use Rattle.served_rings.specs.of_plan_ring.Lives.{IsKnown};
+ghost use Rattle.served_rings.specs.of_plan_ring.Round.{ring_of, AllRound};
+ghost use Rattle.packets_heard.specs.of_segment_plan.Sound.{IsPlan};
+ghost use Rattle.packets_heard.specs.of_segment_plan.declared.plan.Scenario.{Scenario};
 ghost use Rattle.run_promises.specs.Sent.{AllSend};
 ghost use Rattle.std.specs.Prelude.{ℕ, List};
+
+use served_rings::plan_ring;
 
 /// WHAT A MASTER JOINED OF A SLAVE'S PACKETS over a run weighs no more, whatever each packet weighs, than what the services that came into hand of it may
 /// make it send: each service makes it send its packet once at most, in whatever epoch, whatever frames are lost and whoever is given up.

@@ -1,17 +1,19 @@
 //! The packets that a master joins of what its slaves send over a serving are of the services that came into hand. Definitions and a law, no running code: the
 //! function here does nothing, and its contract states the law.
 
-ghost use Rattle.life_runs.specs.Led.{Exchanged};
+ghost use Rattle.packets_heard.specs.of_life_runs.Led.{Exchanged};
 ghost use Rattle.packets_heard.specs.Servings.{served_joined};
-ghost use Rattle.plan_ring.specs.Lives.{IsKnown};
-ghost use Rattle.plan_ring.specs.Round.{AllRound, ring_of};
-ghost use Rattle.run_work.specs.ServedGained.{leads_of};
-ghost use Rattle.segment_plan.specs.Sound.{IsPlan};
-ghost use Rattle.segment_plan.specs.declared.plan.Scenario.{Scenario};
+ghost use Rattle.served_rings.specs.of_plan_ring.Lives.{IsKnown};
+ghost use Rattle.served_rings.specs.of_plan_ring.Round.{AllRound, ring_of};
+ghost use Rattle.served_rings.specs.of_run_work.ServedGained.{leads_of};
+ghost use Rattle.packets_heard.specs.of_segment_plan.Sound.{IsPlan};
+ghost use Rattle.packets_heard.specs.of_segment_plan.declared.plan.Scenario.{Scenario};
 ghost use Rattle.run_promises.specs.Sent.{AllSend};
 ghost use Rattle.run_promises.specs.Quiet.{AsksQuiet};
-ghost use Rattle.life_runs.specs.Served.{ServeTo, Serves};
+ghost use Rattle.packets_heard.specs.of_life_runs.Served.{ServeTo, Serves};
 ghost use Rattle.std.specs.Prelude.{ℕ, All, List};
+
+use served_rings::{few_replies, life_runs};
 
 /// WHAT A MASTER JOINED OF A SLAVE'S PACKETS over a serving weighs no more, whatever each packet weighs, than what the services that came into hand of it may make
 /// it send: a mail that is passed on makes it send none, where it is fair and none of EoE, whatever frames are lost and whoever is given up.

@@ -2,17 +2,17 @@
 //! contract states the law.
 
 ghost use Rattle.std.specs.Prelude.{◌≡◌, ℕ, true, false, List, [], sum_by};
-ghost use Rattle.protocol_models.specs.Network.{Station};
-ghost use Rattle.few_replies.specs.Packets.{is_calm, is_fair};
-ghost use Rattle.link_mails.specs.Body.{Body};
-ghost use Rattle.master_hand.specs.Joins.{fragment_in};
+ghost use Rattle.packets_heard.specs.of_protocol_models.Network.{Station};
+ghost use Rattle.served_rings.specs.of_few_replies.Packets.{is_calm, is_fair};
+ghost use Rattle.packets_heard.specs.of_link_mails.Body.{Body};
+ghost use Rattle.packets_heard.specs.of_master_hand.Joins.{fragment_in};
 ghost use Rattle.packets_heard.specs.Packets.{parts as packet_parts};
-ghost use Rattle.slave_model.specs.Product.{side};
-ghost use Rattle.slave_model.specs.Profile.{Protocol, Profile, IsProfile};
-ghost use Rattle.slave_model.specs.Server.{ServiceOf};
-ghost use Rattle.slave_parts.specs.Parts.{Core, Server, parts};
-ghost use Rattle.slave_parts.specs.Served.{product_whole};
-ghost use Rattle.state_model.specs.Families.{InState};
+ghost use Rattle.served_rings.specs.of_slave_model.Product.{side};
+ghost use Rattle.served_rings.specs.of_slave_model.Profile.{Protocol, Profile, IsProfile};
+ghost use Rattle.served_rings.specs.of_slave_model.Server.{ServiceOf};
+ghost use Rattle.served_rings.specs.of_slave_parts.Parts.{Core, Server, parts};
+ghost use Rattle.served_rings.specs.of_slave_parts.Served.{product_whole};
+ghost use Rattle.packets_heard.specs.of_state_model.Families.{InState};
 ghost use Rattle.run_promises.specs.Sends.{MaySend, Sends, is_network, may_send};
 
 /// WHAT A SLAVE SENDS BY A SERVICE, in whatever AL state, are the fragments of the packet that a download emits or of the one that goes back, or an

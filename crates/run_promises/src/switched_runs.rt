@@ -3,18 +3,20 @@
 
 ghost use Rattle.std.specs.Prelude.{◌≡◌, ◌++◌, ℕ, List, All};
 ghost use Rattle.arrayvec.specs.ArrayVec.{ArrayVec};
-ghost use Rattle.eoe_switch.specs.declared.switching.SwitchEvent.{SwitchEvent};
-ghost use Rattle.life_runs.specs.First.{lens_of, first_leads};
-ghost use Rattle.life_runs.specs.Led.{Exchanged, Leads, IsLed};
+ghost use Rattle.packets_heard.specs.of_eoe_switch.declared.switching.SwitchEvent.{SwitchEvent};
+ghost use Rattle.packets_heard.specs.of_life_runs.First.{lens_of, first_leads};
+ghost use Rattle.packets_heard.specs.of_life_runs.Led.{Exchanged, Leads, IsLed};
 ghost use Rattle.packets_heard.specs.of_master_node.Happened.{arrivals_at};
 ghost use Rattle.packets_heard.specs.of_master_node.Ports.{IsAtPort, ports_behind, ports_of};
 ghost use Rattle.packets_heard.specs.Over.{AreBegun};
-ghost use Rattle.plan_ring.specs.Lives.{IsKnown};
-ghost use Rattle.plan_ring.specs.Round.{ring_of, AllRound};
+ghost use Rattle.served_rings.specs.of_plan_ring.Lives.{IsKnown};
+ghost use Rattle.served_rings.specs.of_plan_ring.Round.{ring_of, AllRound};
 ghost use Rattle.packets_heard.specs.Listed.{Listed};
-ghost use Rattle.run_work.specs.Switched.{AreSwitched};
-ghost use Rattle.segment_plan.specs.Sound.{IsPlan};
-ghost use Rattle.segment_plan.specs.declared.plan.Scenario.{Scenario};
+ghost use Rattle.served_rings.specs.of_run_work.Switched.{AreSwitched};
+ghost use Rattle.packets_heard.specs.of_segment_plan.Sound.{IsPlan};
+ghost use Rattle.packets_heard.specs.of_segment_plan.declared.plan.Scenario.{Scenario};
+
+use served_rings::{run_frames, run_work};
 
 /// THE PACKETS OF A RUN ARE THOSE OF ONE SWITCH, where its events are just those that the frames list, at the ports of the plan: just the packets of the host,
 /// the first of them, came in at its port, and at a slave's port just those that its mails complete; and those that came into hand began there, each the oldest.

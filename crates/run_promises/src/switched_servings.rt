@@ -3,19 +3,21 @@
 
 ghost use Rattle.std.specs.Prelude.{◌≡◌, ◌++◌, ℕ, List, All};
 ghost use Rattle.arrayvec.specs.ArrayVec.{ArrayVec};
-ghost use Rattle.eoe_switch.specs.declared.switching.SwitchEvent.{SwitchEvent};
-ghost use Rattle.life_runs.specs.Led.{Exchanged};
+ghost use Rattle.packets_heard.specs.of_eoe_switch.declared.switching.SwitchEvent.{SwitchEvent};
+ghost use Rattle.packets_heard.specs.of_life_runs.Led.{Exchanged};
 ghost use Rattle.packets_heard.specs.of_master_node.Happened.{arrivals_at};
 ghost use Rattle.packets_heard.specs.of_master_node.Ports.{IsAtPort, ports_behind, ports_of};
 ghost use Rattle.packets_heard.specs.Servings.{AreServedBegun, ServedListed};
-ghost use Rattle.plan_ring.specs.Lives.{IsKnown};
-ghost use Rattle.plan_ring.specs.Round.{AllRound, ring_of};
-ghost use Rattle.run_work.specs.ServedGained.{leads_of};
-ghost use Rattle.run_work.specs.Switched.{AreSwitched};
-ghost use Rattle.segment_plan.specs.Sound.{IsPlan};
-ghost use Rattle.segment_plan.specs.declared.plan.Scenario.{Scenario};
+ghost use Rattle.served_rings.specs.of_plan_ring.Lives.{IsKnown};
+ghost use Rattle.served_rings.specs.of_plan_ring.Round.{AllRound, ring_of};
+ghost use Rattle.served_rings.specs.of_run_work.ServedGained.{leads_of};
+ghost use Rattle.served_rings.specs.of_run_work.Switched.{AreSwitched};
+ghost use Rattle.packets_heard.specs.of_segment_plan.Sound.{IsPlan};
+ghost use Rattle.packets_heard.specs.of_segment_plan.declared.plan.Scenario.{Scenario};
 ghost use Rattle.run_promises.specs.Quiet.{AsksQuiet};
-ghost use Rattle.life_runs.specs.Served.{ServeTo, Serves};
+ghost use Rattle.packets_heard.specs.of_life_runs.Served.{ServeTo, Serves};
+
+use served_rings::{life_runs, run_work};
 
 /// THE PACKETS OF A SERVING ARE THOSE OF ONE SWITCH, where its events are just those that the frames list, at the ports of the plan, as over a run: whatever mails
 /// are asked between the frames, if they are fair and none of EoE.

@@ -1,10 +1,10 @@
 -- The mails that are passed on.
 use Rattle.std.proofs.Common.{◌≡◌, ℕ, zero, suc, ◌<◌, List, [], ◌∷◌, ◌++◌, length, map, Bool, false, refl, sym, ap, ◌∙◌, arith}
 use Rattle.std.specs.Prelude.{MatchOption, slice_get, slice_set, slice_index_or, Option, Some, None, ◌↔◌}
-use Rattle.master_node.specs.Lives.{waiting_at, waiting_of}
-use Rattle.master_node.specs.declared.post.Post.{Post}
+use Rattle.packets_heard.specs.of_master_node.Lives.{waiting_at, waiting_of}
+use Rattle.packets_heard.specs.of_master_node.declared.post.Post.{Post}
 use Rattle.run_notes.specs.declared.standing.AskedMail.{AskedMail}
-use Rattle.mailbox_mail.specs.declared.mail.Mail.{Mail}
+use Rattle.plan_ring.specs.of_mailbox_mail.declared.mail.Mail.{Mail}
 use Rattle.run_record.specs.Session.{asked_more, asked_mail}
 
 pub waits_so : (ps : List Post) (k : ℕ) → k < length ps → slice_get (map waiting_of ps) k ≡ Some (waiting_at ps k)

@@ -2,15 +2,15 @@
 use Rattle.std.proofs.Common.{◌≡◌, ◌<◌, ℕ, suc, List, [], ◌∷◌, ◌++◌, length, length-append, arith}
 use Rattle.std.specs.Prelude.{⊤}
 use Rattle.std.proofs.lemmas.List.Elements.{All-nil}
-use Rattle.master_node.specs.of_life_model.Lives.{Era}
-use Rattle.master_node.specs.of_life_runs.First.{leads_from}
-use Rattle.master_node.specs.of_life_runs.Led.{Exchanged, Leads}
-use Rattle.slave_node.specs.of_link_mails.Body.{Body}
-use Rattle.master_node.specs.of_master_duty.Reply.{Reply}
-use Rattle.master_node.specs.of_master_hand.Spoken.{Asked}
-use Rattle.segment_plan.specs.declared.service.Service as Plan
-use Rattle.segment_plan.specs.declared.slave.SlaveSpec.{SlaveSpec}
-use Rattle.run_notes.specs.of_run_frames.Steps.{OpenedBefore, IsBefore}
+use Rattle.served_places.specs.of_life_model.Lives.{Era}
+use Rattle.served_places.specs.of_life_runs.First.{leads_from}
+use Rattle.served_places.specs.of_life_runs.Led.{Exchanged, Leads}
+use Rattle.served_places.specs.of_link_mails.Body.{Body}
+use Rattle.served_places.specs.of_master_duty.Reply.{Reply}
+use Rattle.served_places.specs.of_master_hand.Spoken.{Asked}
+use Rattle.packets_heard.specs.of_segment_plan.declared.service.Service as Plan
+use Rattle.packets_heard.specs.of_segment_plan.declared.slave.SlaveSpec.{SlaveSpec}
+use Rattle.served_places.specs.of_run_frames.Steps.{OpenedBefore, IsBefore}
 
 abbrev pub AllBefore : ℕ → List Leads → Type 0
 AllBefore made [] = ⊤

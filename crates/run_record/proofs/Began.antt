@@ -4,40 +4,40 @@ use Rattle.std.specs.Prelude.{if◌then◌else◌}
 use Rattle.std.proofs.Math.Nat.{mod-eq_of_lt}
 use Rattle.std.proofs.lemmas.Bool.{eq-eqb, eqb-true}
 use Rattle.std.proofs.lemmas.List.{length-map}
-use Rattle.master_node.specs.Begins.{begun_of, is_other}
-use Rattle.master_node.specs.Listing.{events_in, forwards_behind, told_in}
-use Rattle.master_node.specs.Origins.{forwards_at}
-use Rattle.master_node.specs.declared.event.Event.{Event}
-use Rattle.master_node.specs.declared.event.Origin.{Origin}
-use Rattle.master_node.specs.declared.node.MasterNode.{MasterNode}
-use Rattle.master_node.specs.of_frame_view.View.{Lens}
-use Rattle.master_node.specs.of_frame_view.Shares.{AllBoth}
-use Rattle.master_node.specs.of_life_model.Lives.{Life}
-use Rattle.master_node.specs.of_life_runs.Led.{Leads, Took, Turn, speech_at}
-use Rattle.master_node.specs.of_master_duty.Reply.{Reply}
-use Rattle.master_node.specs.of_master_duty.of_state_model.Stated.{Service}
-use Rattle.master_node.specs.of_master_hand.Spoken.{Asked, sdo, file, drive, net, passed}
-use Rattle.master_node.specs.of_master_hand.of_protocol_models.EoeClient as EoeClient
-use Rattle.master_node.specs.of_master_tour.Made.{is_in}
-use Rattle.master_node.specs.of_master_tour.Orders.{AreOnce}
-use Rattle.master_node.specs.of_state_model.Accounts.{starts}
+use Rattle.packets_heard.specs.of_master_node.Begins.{begun_of, is_other}
+use Rattle.packets_heard.specs.of_master_node.Listing.{events_in, forwards_behind, told_in}
+use Rattle.packets_heard.specs.of_master_node.Origins.{forwards_at}
+use Rattle.packets_heard.specs.of_master_node.declared.event.Event.{Event}
+use Rattle.packets_heard.specs.of_master_node.declared.event.Origin.{Origin}
+use Rattle.packets_heard.specs.of_master_node.declared.node.MasterNode.{MasterNode}
+use Rattle.plan_ring.specs.of_frame_view.View.{Lens}
+use Rattle.plan_ring.specs.of_frame_view.Shares.{AllBoth}
+use Rattle.served_places.specs.of_life_model.Lives.{Life}
+use Rattle.served_places.specs.of_life_runs.Led.{Leads, Took, Turn, speech_at}
+use Rattle.served_places.specs.of_master_duty.Reply.{Reply}
+use Rattle.served_places.specs.of_state_model.Stated.{Service}
+use Rattle.served_places.specs.of_master_hand.Spoken.{Asked, sdo, file, drive, net, passed}
+use Rattle.packets_heard.specs.of_protocol_models.EoeClient as EoeClient
+use Rattle.served_places.specs.of_master_tour.Made.{is_in}
+use Rattle.served_places.specs.of_master_tour.Orders.{AreOnce}
+use Rattle.served_places.specs.of_state_model.Accounts.{starts}
 use Rattle.packets_heard.specs.Numbers.{each_with}
 use Rattle.packets_heard.specs.Over.{packet_begun}
 use Rattle.run_record.specs.Forwarded.{PacketsNoted}
-use Rattle.run_book.specs.declared.book.Begun.{Begun}
+use Rattle.run_notes.specs.of_run_book.declared.book.Begun.{Begun}
 use Rattle.run_notes.specs.Packets.{AllBeside, BeginsOn, BesideAt, CameBeside, begun_noted, beside_at, beside_row, mail_row, mails_at, numbered_from, packet_row, packets_at, rows_at, rows_by, rows_with}
 use Rattle.run_notes.specs.Reports.{AllReport}
 use Rattle.run_notes.specs.Slaves.{first_notes}
 use Rattle.run_notes.specs.declared.notes.Notes.{Notes}
 use Rattle.run_notes.proofs.Packets.{mails_among, packets_among, rows_append, with_append}
-use Rattle.run_notes.specs.of_run_frames.ScriptAnswers.{turned}
-use Rattle.run_notes.specs.of_run_frames.Came.{is_beside}
-use Rattle.run_notes.specs.of_run_frames.Steps.{TurnsBy}
-use Rattle.run_notes.proofs.of_run_frames.Turns.{life_mails}
-use Rattle.segment_plan.specs.declared.plan.Scenario.{Scenario}
-use Rattle.segment_plan.specs.declared.service.Service as Plan
-use Rattle.segment_plan.specs.declared.slave.SlaveSpec.{SlaveSpec}
-use Rattle.slave_node.specs.of_link_mails.Body.{Body}
+use Rattle.served_places.specs.of_run_frames.ScriptAnswers.{turned}
+use Rattle.served_places.specs.of_run_frames.Came.{is_beside}
+use Rattle.served_places.specs.of_run_frames.Steps.{TurnsBy}
+use Rattle.served_places.proofs.of_run_frames.Turns.{life_mails}
+use Rattle.packets_heard.specs.of_segment_plan.declared.plan.Scenario.{Scenario}
+use Rattle.packets_heard.specs.of_segment_plan.declared.service.Service as Plan
+use Rattle.packets_heard.specs.of_segment_plan.declared.slave.SlaveSpec.{SlaveSpec}
+use Rattle.served_places.specs.of_link_mails.Body.{Body}
 
 -- ---- the slaves of which the master lists one
 

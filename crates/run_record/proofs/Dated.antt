@@ -2,21 +2,21 @@
 use Rattle.std.proofs.Common.{◌≡◌, ◌<◌, ◌≤◌, ◌+◌, ◌==◌, ℕ, zero, suc, Bool, true, false, List, [], ◌∷◌, length, refl, sym, ap, ◌∙◌, subst, arith}
 use Rattle.std.specs.Prelude.{if◌then◌else◌, Option, Some, None, slice_get}
 use Rattle.std.proofs.lemmas.Bool.{eq-eqb, eqb-true}
-use Rattle.eoe_switch.specs.declared.switching.SwitchEvent.{SwitchEvent}
-use Rattle.eoe_switch.specs.declared.switching.SwitchEvent.TheVariants.{Arrive, Begun, Down}
-use Rattle.master_node.specs.Forwards.{port_by}
-use Rattle.master_node.specs.Ports.{last_where, port_where, ports_behind}
+use Rattle.packets_heard.specs.of_eoe_switch.declared.switching.SwitchEvent.{SwitchEvent}
+use Rattle.packets_heard.specs.of_eoe_switch.declared.switching.SwitchEvent.TheVariants.{Arrive, Begun, Down}
+use Rattle.packets_heard.specs.of_master_node.Forwards.{port_by}
+use Rattle.packets_heard.specs.of_master_node.Ports.{last_where, port_where, ports_behind}
 use Rattle.packets_heard.specs.Numbers.{comes_in, numbers_where}
-use Rattle.run_book.specs.Book.{IsNew}
-use Rattle.run_book.specs.declared.book.Book.{Book}
+use Rattle.run_notes.specs.of_run_book.Book.{IsNew}
+use Rattle.run_notes.specs.of_run_book.declared.book.Book.{Book}
 use Rattle.run_notes.specs.Counted.{AreDated, IsDated, comes_from, is_from, is_there, numbers_from, slaves_at}
 use Rattle.run_notes.specs.Slaves.{first_notes}
 use Rattle.run_notes.specs.Times.{IsTimedBy, between}
 use Rattle.run_notes.proofs.Timings.{first_timed, rows_dated}
 use Rattle.run_record.specs.Ran.{packets_by, packets_of}
 use Rattle.run_record.specs.Session.{SessionState, session_rows}
-use Rattle.segment_plan.specs.declared.plan.Scenario.{Scenario}
-use Rattle.segment_plan.specs.declared.slave.SlaveSpec.{SlaveSpec}
+use Rattle.packets_heard.specs.of_segment_plan.declared.plan.Scenario.{Scenario}
+use Rattle.packets_heard.specs.of_segment_plan.declared.slave.SlaveSpec.{SlaveSpec}
 
 -- ---- the slave at a port
 

@@ -2,23 +2,23 @@
 use Rattle.std.proofs.Common.{◌≡◌, ◌≢◌, ◌≤◌, ◌<◌, ◌+◌, ℕ, zero, suc, Some, List, [], ◌∷◌, map, length, refl, sym, ap, ◌∙◌, subst, arith}
 use Rattle.std.specs.Prelude.{All, slice_get}
 use Rattle.std.proofs.lemmas.List.Elements.{All-head, All-tail}
-use Rattle.master_node.specs.Lives.{waiting_at, waiting_of}
-use Rattle.master_node.specs.Serving.{FitsAt}
-use Rattle.master_node.specs.declared.post.Post.{Post}
-use Rattle.master_node.specs.of_frame_view.View.{Lens}
-use Rattle.master_node.specs.of_life_model.Lives.{Spot}
-use Rattle.master_node.specs.of_life_runs.First.{HaveLens, first_leads, leads_from, lens_of, spot_of}
-use Rattle.master_node.specs.of_life_runs.Led.{Exchanged}
+use Rattle.packets_heard.specs.of_master_node.Lives.{waiting_at, waiting_of}
+use Rattle.packets_heard.specs.of_master_node.Serving.{FitsAt}
+use Rattle.packets_heard.specs.of_master_node.declared.post.Post.{Post}
+use Rattle.plan_ring.specs.of_frame_view.View.{Lens}
+use Rattle.served_places.specs.of_life_model.Lives.{Spot}
+use Rattle.served_places.specs.of_life_runs.First.{HaveLens, first_leads, leads_from, lens_of, spot_of}
+use Rattle.served_places.specs.of_life_runs.Led.{Exchanged}
 use Rattle.run_notes.specs.Slaves.{home_of}
 use Rattle.run_record.specs.Served.{ServeTo}
 use Rattle.run_record.proofs.Heads.{heads, not_none, rests}
-use Rattle.segment_plan.specs.declared.plan.Scenario.{Scenario}
-use Rattle.segment_plan.specs.declared.service.Service as Plan
-use Rattle.segment_plan.specs.declared.slave.SlaveSpec.{SlaveSpec}
+use Rattle.packets_heard.specs.of_segment_plan.declared.plan.Scenario.{Scenario}
+use Rattle.packets_heard.specs.of_segment_plan.declared.service.Service as Plan
+use Rattle.packets_heard.specs.of_segment_plan.declared.slave.SlaveSpec.{SlaveSpec}
 use Rattle.served_places.proofs.Places.{stay}
 use Rattle.served_places.proofs.Waits.{wait_few}
 use Rattle.served_places.specs.Places.{MayWait, spot_at}
-use Rattle.master_node.specs.of_life_runs.Served.{Serves, all_serve}
+use Rattle.served_places.specs.of_life_runs.Served.{Serves, all_serve}
 
 -- the places of a plan's slaves
 abbrev spots_from : ℕ → List SlaveSpec → List Spot

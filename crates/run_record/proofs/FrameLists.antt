@@ -2,26 +2,26 @@
 use Rattle.std.proofs.Common.{◌≡◌, ℕ, Option, List, ◌++◌, refl, ap, ◌∙◌}
 use Rattle.std.specs.Prelude.{All}
 use Rattle.arrayvec.specs.ArrayVec.{ArrayVec}
-use Rattle.eoe_switch.specs.Switch.{switched}
-use Rattle.eoe_switch.specs.declared.switching.SwitchEvent.{SwitchEvent}
-use Rattle.master_node.specs.Arrivals.{completed_at, ComeIn}
-use Rattle.master_node.specs.Begins.{PacketsBegin}
-use Rattle.master_node.specs.Downs.{GoDown, goes_down}
-use Rattle.master_node.specs.Happened.{events_of}
-use Rattle.master_node.specs.Made.{AreOfMaking}
-use Rattle.master_node.specs.Ports.{ports_behind, ports_of}
-use Rattle.master_node.specs.declared.node.MasterNode.{MasterNode}
-use Rattle.master_node.specs.of_frame_view.Seen.{seen}
-use Rattle.master_node.specs.of_life_runs.First.{lens_of}
-use Rattle.master_node.specs.of_life_runs.Led.{Exchanged, Leads, Turn}
+use Rattle.packets_heard.specs.of_eoe_switch.Switch.{switched}
+use Rattle.packets_heard.specs.of_eoe_switch.declared.switching.SwitchEvent.{SwitchEvent}
+use Rattle.packets_heard.specs.of_master_node.Arrivals.{completed_at, ComeIn}
+use Rattle.packets_heard.specs.of_master_node.Begins.{PacketsBegin}
+use Rattle.packets_heard.specs.of_master_node.Downs.{GoDown, goes_down}
+use Rattle.packets_heard.specs.of_master_node.Happened.{events_of}
+use Rattle.packets_heard.specs.of_master_node.Made.{AreOfMaking}
+use Rattle.packets_heard.specs.of_master_node.Ports.{ports_behind, ports_of}
+use Rattle.packets_heard.specs.of_master_node.declared.node.MasterNode.{MasterNode}
+use Rattle.plan_ring.specs.of_frame_view.Seen.{seen}
+use Rattle.served_places.specs.of_life_runs.First.{lens_of}
+use Rattle.served_places.specs.of_life_runs.Led.{Exchanged, Leads, Turn}
 use Rattle.packets_heard.proofs.Carries.{listed_on}
 use Rattle.packets_heard.proofs.PacketsRuns.{begun_on, none_behind}
 use Rattle.packets_heard.specs.Heard.{Joined}
 use Rattle.packets_heard.specs.Listed.{CarriesAll, ListedOn, packets_by, unfinished_of}
 use Rattle.packets_heard.specs.Over.{BegunOn, IsNoBegun}
-use Rattle.segment_plan.specs.declared.plan.Scenario.{Scenario}
-use Rattle.segment_ring.specs.declared.wire.Fate.{Fate}
-use Rattle.segment_ring.specs.declared.wire.Fate.TheVariants as Fates
+use Rattle.packets_heard.specs.of_segment_plan.declared.plan.Scenario.{Scenario}
+use Rattle.served_places.specs.of_segment_ring.declared.wire.Fate.{Fate}
+use Rattle.served_places.specs.of_segment_ring.declared.wire.Fate.TheVariants as Fates
 
 -- ONE FRAME, while it is under way and behind it: what comes in or goes down is by the lives of its slaves, which are those of its visit
 pub record FrameLists (plan : Scenario) (f : Exchanged) (us : List Turn) (leads : List Leads) (js : List Joined) (m n : MasterNode) : Type 0 where

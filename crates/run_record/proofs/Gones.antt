@@ -2,23 +2,23 @@
 use Rattle.std.proofs.Common.{◌≡◌, refl, ℕ, Bool, true, false, List, [], ◌∷◌, map}
 use Rattle.std.specs.Prelude.{◌||◌, ⊤}
 use Rattle.std.specs.List.{list_any}
-use Rattle.master_node.specs.of_frame_view.View.{Lens}
-use Rattle.master_node.specs.of_frame_view.Shares.{AllBoth}
-use Rattle.master_node.specs.of_life_model.Lives
-use Rattle.master_node.specs.of_life_model.Lives.{Spot, Life}
-use Rattle.master_node.specs.of_life_runs.Led.{Leads}
-use Rattle.slave_node.specs.of_link_mails.Body.{Body}
-use Rattle.master_node.specs.of_master_duty.Reply.{Reply}
-use Rattle.master_node.specs.of_master_hand.Spoken.{Asked}
-use Rattle.master_node.specs.of_master_hand.declared.hand.InHand.{InHand}
-use Rattle.master_node.specs.Shows.{IsLived, lived_of, side_shows}
-use Rattle.master_node.specs.of_master_side.declared.hand.Hand.{Ghosts}
-use Rattle.master_node.specs.of_master_tour.Goes.{is_live}
-use Rattle.master_node.specs.of_master_tour.Stands.{StandShows}
-use Rattle.master_node.specs.of_master_tour.declared.stop.Stand.{Stand}
-use Rattle.master_node.specs.of_master_tour.declared.stop.Stop.{Stop}
-use Rattle.master_node.specs.of_segment_model.Seats.{Side}
-use Rattle.master_node.specs.of_state_model.Accounts.{Account}
+use Rattle.plan_ring.specs.of_frame_view.View.{Lens}
+use Rattle.plan_ring.specs.of_frame_view.Shares.{AllBoth}
+use Rattle.served_places.specs.of_life_model.Lives
+use Rattle.served_places.specs.of_life_model.Lives.{Spot, Life}
+use Rattle.served_places.specs.of_life_runs.Led.{Leads}
+use Rattle.served_places.specs.of_link_mails.Body.{Body}
+use Rattle.served_places.specs.of_master_duty.Reply.{Reply}
+use Rattle.served_places.specs.of_master_hand.Spoken.{Asked}
+use Rattle.served_places.specs.of_master_hand.declared.hand.InHand.{InHand}
+use Rattle.packets_heard.specs.of_master_node.Shows.{IsLived, lived_of, side_shows}
+use Rattle.served_places.specs.of_master_side.declared.hand.Hand.{Ghosts}
+use Rattle.served_places.specs.of_master_tour.Goes.{is_live}
+use Rattle.served_places.specs.of_master_tour.Stands.{StandShows}
+use Rattle.served_places.specs.of_master_tour.declared.stop.Stand.{Stand}
+use Rattle.served_places.specs.of_master_tour.declared.stop.Stop.{Stop}
+use Rattle.served_places.specs.of_segment_model.Seats.{Side}
+use Rattle.served_places.specs.of_state_model.Accounts.{Account}
 
 -- each was given up for good
 abbrev pub AllGone : List Leads → Type 0

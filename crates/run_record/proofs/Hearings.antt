@@ -2,15 +2,15 @@
 use Rattle.std.proofs.Common.{◌≡◌, ◌∙◌, ℕ, List, refl, subst}
 use Rattle.run_notes.proofs.of_run_book.Heards.{loses}
 use Rattle.run_notes.specs.of_run_book.Heard.{Accepted, AllNoted, brought_by, heard_on}
-use Rattle.master_node.specs.Brought.{HasBrought}
-use Rattle.master_node.specs.declared.node.MasterNode.{MasterNode}
-use Rattle.master_node.specs.of_frame_view.Seen.{seen}
-use Rattle.master_node.specs.of_frame_view.View.{Lens}
-use Rattle.master_node.specs.of_life_runs.Led.{Exchanged, Turn}
+use Rattle.packets_heard.specs.of_master_node.Brought.{HasBrought}
+use Rattle.packets_heard.specs.of_master_node.declared.node.MasterNode.{MasterNode}
+use Rattle.plan_ring.specs.of_frame_view.Seen.{seen}
+use Rattle.plan_ring.specs.of_frame_view.View.{Lens}
+use Rattle.served_places.specs.of_life_runs.Led.{Exchanged, Turn}
 use Rattle.run_notes.specs.Heard.{HeardBy, emergencies_noted}
 use Rattle.run_notes.specs.declared.standing.Log.{Log}
-use Rattle.segment_ring.specs.declared.wire.Fate.{Fate}
-use Rattle.segment_ring.specs.declared.wire.Fate.TheVariants as Fates
+use Rattle.served_places.specs.of_segment_ring.declared.wire.Fate.{Fate}
+use Rattle.served_places.specs.of_segment_ring.declared.wire.Fate.TheVariants as Fates
 
 -- BEHIND A FRAME the emergency that its return brought is noted of each slave, and where it was lost none is
 pub heard_by : (lens : ℕ → Lens) (made : ℕ) (f : Exchanged) (m : MasterNode) (r r' : Log) (hss : List (List Accepted)) (us : List Turn) → AllNoted hss (emergencies_noted r.notes) → (f.fate ≡ Fates.Pass → HasBrought m us (seen lens f.back)) → HeardBy f.fate made m r r' →

@@ -1,21 +1,21 @@
 -- THE HANDS OF A SERVING GO ON KNOWING THEIR MAILS, as long as each that was accepted was due.
 use Rattle.std.proofs.Common.{◌≡◌, ℕ, zero, suc, true, Some, List, [], ◌∷◌, map, sym, subst}
 use Rattle.std.specs.Prelude.{slice_get}
-use Rattle.master_node.specs.Backtold.{known_at}
-use Rattle.master_node.specs.Recalled.{AllKnow}
-use Rattle.master_node.specs.ServedEager.{AllServedRecall}
-use Rattle.master_node.specs.Serving.{run_turn}
-use Rattle.master_node.specs.of_frame_view.View.{Lens}
-use Rattle.master_node.specs.of_life_model.Lives.{Stand}
-use Rattle.master_node.specs.of_life_runs.Led.{Turn, speech_at}
-use Rattle.master_node.specs.of_life_runs.of_link_mails.Body.{Body}
-use Rattle.master_node.specs.of_master_side.Due.{EachDue}
-use Rattle.master_node.specs.of_master_side.Recall.{Recall}
-use Rattle.master_node.specs.of_master_tour.Brings.{accepted_at}
-use Rattle.master_node.specs.of_segment_model.Slaves.{Datagram}
+use Rattle.packets_heard.specs.of_master_node.Backtold.{known_at}
+use Rattle.packets_heard.specs.of_master_node.Recalled.{AllKnow}
+use Rattle.packets_heard.specs.of_master_node.ServedEager.{AllServedRecall}
+use Rattle.packets_heard.specs.of_master_node.Serving.{run_turn}
+use Rattle.plan_ring.specs.of_frame_view.View.{Lens}
+use Rattle.served_places.specs.of_life_model.Lives.{Stand}
+use Rattle.served_places.specs.of_life_runs.Led.{Turn, speech_at}
+use Rattle.served_places.specs.of_link_mails.Body.{Body}
+use Rattle.served_places.specs.of_master_side.Due.{EachDue}
+use Rattle.served_places.specs.of_master_side.Recall.{Recall}
+use Rattle.served_places.specs.of_master_tour.Brings.{accepted_at}
+use Rattle.served_places.specs.of_segment_model.Slaves.{Datagram}
 use Rattle.plan_ring.specs.Dues.{AllDue}
 use Rattle.run_record.proofs.ServedNotes.{none_at}
-use Rattle.master_node.specs.of_life_runs.Served.{ServedTurn, Serves}
+use Rattle.served_places.specs.of_life_runs.Served.{ServedTurn, Serves}
 
 module _ (lens : ℕ → Lens) where
   -- A LOST FRAME brought none

@@ -1,17 +1,17 @@
 -- What is noted before the first frame goes with the plan's new lives; and the lives of more frames of a book.
 use Rattle.std.proofs.Common.{◌≡◌, ℕ, suc, ◌+◌, true, false, None, List, [], ◌∷◌, ◌++◌, map, length, refl, sym, ap, ◌∙◌, subst, arith}
 use Rattle.std.proofs.lemmas.List.{map-append}
-use Rattle.master_node.specs.of_life_runs.First.{script_for, first_leads, leads_from}
-use Rattle.master_node.specs.of_life_runs.Led.{Exchanged, IsLed, new_leads}
-use Rattle.master_node.specs.of_life_model.Lives.{Spot}
-use Rattle.master_node.specs.Wants.{gave_of}
-use Rattle.master_node.specs.of_master_tour.Toured.{new_tour}
+use Rattle.served_places.specs.of_life_runs.First.{script_for, first_leads, leads_from}
+use Rattle.served_places.specs.of_life_runs.Led.{Exchanged, IsLed, new_leads}
+use Rattle.served_places.specs.of_life_model.Lives.{Spot}
+use Rattle.packets_heard.specs.of_master_node.Wants.{gave_of}
+use Rattle.served_places.specs.of_master_tour.Toured.{new_tour}
 use Rattle.packets_heard.specs.Listed.{unfinished_of}
 use Rattle.packets_heard.specs.Heard.{joined_none}
-use Rattle.run_book.specs.declared.book.SentFrame.{SentFrame}
-use Rattle.segment_plan.specs.declared.plan.Scenario.{Scenario}
-use Rattle.segment_plan.specs.declared.service.Service as Plan
-use Rattle.segment_plan.specs.declared.slave.SlaveSpec.{SlaveSpec}
+use Rattle.run_notes.specs.of_run_book.declared.book.SentFrame.{SentFrame}
+use Rattle.packets_heard.specs.of_segment_plan.declared.plan.Scenario.{Scenario}
+use Rattle.packets_heard.specs.of_segment_plan.declared.service.Service as Plan
+use Rattle.packets_heard.specs.of_segment_plan.declared.slave.SlaveSpec.{SlaveSpec}
 use Rattle.run_record.specs.Led.{exchanged, AreLed}
 use Rattle.run_notes.specs.Slaves.{gaves_noted, first_notes, scripted}
 use Rattle.run_notes.specs.Notes.{new_notes}

@@ -6,41 +6,41 @@ use Rattle.std.proofs.lemmas.Bool.{ltb-true}
 use Rattle.std.proofs.lemmas.List.{length-map, length-take-le}
 use Rattle.std.proofs.lemmas.List.Elements.{All-cons, All-head, All-nil, All-tail}
 use Rattle.std.proofs.lemmas.Option.{slice_get_past}
-use Rattle.eoe_switch.specs.Switch.{switched}
-use Rattle.eoe_switch.specs.declared.switching.SwitchEvent.{SwitchEvent}
-use Rattle.master_node.proofs.Restings.{serves_idle}
-use Rattle.master_node.specs.Eager.{recall_of, recalls}
-use Rattle.master_node.specs.Forwards.{forwarded}
-use Rattle.master_node.specs.Happened.{arrivals_at, events_of}
-use Rattle.master_node.specs.Ports.{ports_behind, ports_of}
-use Rattle.master_node.specs.Recalled.{AllKnow}
-use Rattle.master_node.specs.Resting.{MayBegin}
-use Rattle.master_node.specs.ServedEager.{AllServedRest, ServedResting}
-use Rattle.master_node.specs.Serving.{IsServed, run_lead}
-use Rattle.master_node.specs.Shows.{is_led, is_live_lead}
-use Rattle.master_node.specs.Wants.{AllCounted, IsIdle, IsServedOut}
-use Rattle.master_node.specs.declared.lan.Lan.{Lan}
-use Rattle.master_node.specs.declared.node.MasterNode.{MasterNode}
-use Rattle.master_node.specs.declared.post.Post.{Post}
-use Rattle.master_node.specs.of_frame_view.View.{Lens}
-use Rattle.master_node.specs.of_frame_view.Shares.{AllBoth, AllThree}
-use Rattle.master_node.specs.of_frame_view.of_exchange_model.Exchange.{Speech}
-use Rattle.master_node.specs.of_frame_view.of_exchange_model.Rows.{Row}
-use Rattle.master_node.specs.of_life_runs.First.{lens_of}
-use Rattle.master_node.specs.of_life_runs.Led.{Exchanged, Leads, speech_at}
-use Rattle.master_node.specs.of_life_runs.of_link_mails.Body.{Body}
-use Rattle.master_node.specs.of_master_duty.Reply.{Reply}
-use Rattle.master_node.specs.of_master_hand.Spoken.{Asked, acknowledged}
-use Rattle.master_node.specs.of_master_hand.declared.hand.InHand.{InHand}
-use Rattle.master_node.specs.of_master_side.Recall.{Recall}
-use Rattle.master_node.specs.of_master_side.declared.hand.Hand.{Ghosts}
-use Rattle.master_node.specs.of_master_tour.Goes.{holds_at}
-use Rattle.master_node.specs.of_master_tour.declared.stop.Stop.{Stop}
-use Rattle.master_node.specs.of_segment_model.Laws.{NothingInHand}
-use Rattle.master_node.specs.of_segment_model.Seats.{Side}
-use Rattle.master_node.specs.of_state_model.Accounts.{is_acknowledged, is_free}
+use Rattle.packets_heard.specs.of_eoe_switch.Switch.{switched}
+use Rattle.packets_heard.specs.of_eoe_switch.declared.switching.SwitchEvent.{SwitchEvent}
+use Rattle.packets_heard.proofs.of_master_node.Restings.{serves_idle}
+use Rattle.packets_heard.specs.of_master_node.Eager.{recall_of, recalls}
+use Rattle.packets_heard.specs.of_master_node.Forwards.{forwarded}
+use Rattle.packets_heard.specs.of_master_node.Happened.{arrivals_at, events_of}
+use Rattle.packets_heard.specs.of_master_node.Ports.{ports_behind, ports_of}
+use Rattle.packets_heard.specs.of_master_node.Recalled.{AllKnow}
+use Rattle.packets_heard.specs.of_master_node.Resting.{MayBegin}
+use Rattle.packets_heard.specs.of_master_node.ServedEager.{AllServedRest, ServedResting}
+use Rattle.packets_heard.specs.of_master_node.Serving.{IsServed, run_lead}
+use Rattle.packets_heard.specs.of_master_node.Shows.{is_led, is_live_lead}
+use Rattle.packets_heard.specs.of_master_node.Wants.{AllCounted, IsIdle, IsServedOut}
+use Rattle.packets_heard.specs.of_master_node.declared.lan.Lan.{Lan}
+use Rattle.packets_heard.specs.of_master_node.declared.node.MasterNode.{MasterNode}
+use Rattle.packets_heard.specs.of_master_node.declared.post.Post.{Post}
+use Rattle.plan_ring.specs.of_frame_view.View.{Lens}
+use Rattle.plan_ring.specs.of_frame_view.Shares.{AllBoth, AllThree}
+use Rattle.served_places.specs.of_exchange_model.Exchange.{Speech}
+use Rattle.served_places.specs.of_exchange_model.Rows.{Row}
+use Rattle.served_places.specs.of_life_runs.First.{lens_of}
+use Rattle.served_places.specs.of_life_runs.Led.{Exchanged, Leads, speech_at}
+use Rattle.served_places.specs.of_link_mails.Body.{Body}
+use Rattle.served_places.specs.of_master_duty.Reply.{Reply}
+use Rattle.served_places.specs.of_master_hand.Spoken.{Asked, acknowledged}
+use Rattle.served_places.specs.of_master_hand.declared.hand.InHand.{InHand}
+use Rattle.served_places.specs.of_master_side.Recall.{Recall}
+use Rattle.served_places.specs.of_master_side.declared.hand.Hand.{Ghosts}
+use Rattle.served_places.specs.of_master_tour.Goes.{holds_at}
+use Rattle.served_places.specs.of_master_tour.declared.stop.Stop.{Stop}
+use Rattle.served_places.specs.of_segment_model.Laws.{NothingInHand}
+use Rattle.served_places.specs.of_segment_model.Seats.{Side}
+use Rattle.served_places.specs.of_state_model.Accounts.{is_acknowledged, is_free}
 use Rattle.packets_heard.specs.Recalled.{AllSettled}
-use Rattle.run_book.specs.declared.book.SlaveBook.{SlaveBook}
+use Rattle.run_notes.specs.of_run_book.declared.book.SlaveBook.{SlaveBook}
 use Rattle.run_notes.specs.Slaves.{slave_rows}
 use Rattle.run_notes.specs.declared.notes.Notes.{Notes}
 use Rattle.run_record.proofs.Ends.{settled_rest}
@@ -51,10 +51,10 @@ use Rattle.run_record.specs.Led.{LeavesNoPacket, RestsSo}
 use Rattle.run_record.specs.Served.{Serving}
 use Rattle.run_record.specs.Session.{IsDone, SessionState, has_live, session_rows}
 use Rattle.run_record.specs.Written.{WereServedDue}
-use Rattle.segment_plan.specs.declared.plan.Scenario.{Scenario}
-use Rattle.master_node.specs.of_life_runs.Served.{IsQuiet, IsRunOf, Serves}
-use Rattle.slave_node.specs.Node.{Node}
-use Rattle.slave_server.specs.declared.server.SlaveServer.{SlaveServer}
+use Rattle.packets_heard.specs.of_segment_plan.declared.plan.Scenario.{Scenario}
+use Rattle.served_places.specs.of_life_runs.Served.{IsQuiet, IsRunOf, Serves}
+use Rattle.packets_heard.specs.of_slave_node.Node.{Node}
+use Rattle.packets_heard.specs.of_slave_server.declared.server.SlaveServer.{SlaveServer}
 
 -- ---- A SLAVE OF WHICH THE MASTER WANTS NOTHING rests, as its hand knows its mails and no packet waits at its port
 

@@ -1,7 +1,8 @@
-pub use Rattle.served_places.proofs as of_served_places
-pub use Rattle.packets_heard.proofs as of_packets_heard
+pub use Rattle.served_places.proofs.of_exchange_model as of_exchange_model
+pub use Rattle.served_places.proofs.of_life_runs as of_life_runs
+pub use Rattle.packets_heard.proofs.of_master_node as of_master_node
 pub use Rattle.run_notes.proofs as of_run_notes
-pub use Rattle.run_notes.proofs.of_run_frames as of_run_frames
+pub use Rattle.served_places.proofs as of_served_places
 pub mod Asking
 pub mod Befores
 pub mod Began

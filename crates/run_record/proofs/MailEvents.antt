@@ -2,30 +2,30 @@
 use Rattle.std.proofs.Common.{◌≡◌, ◌==◌, ℕ, zero, suc, Bool, true, false, Option, Some, None, List, [], ◌∷◌, ◌++◌, length, map, refl, sym, ap, ◌∙◌, subst, append-nil}
 use Rattle.std.specs.Prelude.{◌&&◌, is_some, if◌then◌else◌, slice_get}
 use Rattle.std.proofs.lemmas.Bool.{eq-eqb, eqb-true}
-use Rattle.mailbox_mail.specs.declared.outcome.ReplyKind.{ReplyKind}
-use Rattle.master_node.specs.Backtold.{answer_told, change_kind, changes_told, emergencies_told, ended_told, has_packet, kind_of, over_told, packet_told, passed_told, returned_told, turned_told}
-use Rattle.master_node.specs.Besides.{given_told}
-use Rattle.master_node.specs.Gateways.{replies_told}
-use Rattle.master_node.specs.Lifetold.{lost_at, lost_told, told_at}
-use Rattle.master_node.specs.Listing.{told_in}
-use Rattle.master_node.specs.declared.event.Event.{Event}
-use Rattle.master_node.specs.of_frame_view.of_exchange_model.Exchange.{Speech}
-use Rattle.master_node.specs.of_life_model.Lives.{Life, Stand}
-use Rattle.master_node.specs.of_life_runs.of_link_mails.Body.{Body}
-use Rattle.master_node.specs.of_master_duty.Reply.{Reply}
-use Rattle.master_node.specs.of_master_hand.Brings.{emergencies_in}
-use Rattle.master_node.specs.of_master_hand.Spoken.{Asked}
-use Rattle.master_node.specs.of_master_tour.Made.{is_in}
-use Rattle.master_node.specs.of_master_tour.Orders.{AreOnce}
-use Rattle.master_node.specs.of_master_tour.Stands.{turned}
-use Rattle.master_node.specs.of_master_tour.declared.stop.Turned.{Turned}
-use Rattle.master_node.specs.of_segment_model.Ends.{Passing}
-use Rattle.master_node.specs.of_state_model.Accounts.{Change, is_free}
+use Rattle.plan_ring.specs.of_mailbox_mail.declared.outcome.ReplyKind.{ReplyKind}
+use Rattle.packets_heard.specs.of_master_node.Backtold.{answer_told, change_kind, changes_told, emergencies_told, ended_told, has_packet, kind_of, over_told, packet_told, passed_told, returned_told, turned_told}
+use Rattle.packets_heard.specs.of_master_node.Besides.{given_told}
+use Rattle.packets_heard.specs.of_master_node.Gateways.{replies_told}
+use Rattle.packets_heard.specs.of_master_node.Lifetold.{lost_at, lost_told, told_at}
+use Rattle.packets_heard.specs.of_master_node.Listing.{told_in}
+use Rattle.packets_heard.specs.of_master_node.declared.event.Event.{Event}
+use Rattle.served_places.specs.of_exchange_model.Exchange.{Speech}
+use Rattle.served_places.specs.of_life_model.Lives.{Life, Stand}
+use Rattle.served_places.specs.of_link_mails.Body.{Body}
+use Rattle.served_places.specs.of_master_duty.Reply.{Reply}
+use Rattle.served_places.specs.of_master_hand.Brings.{emergencies_in}
+use Rattle.served_places.specs.of_master_hand.Spoken.{Asked}
+use Rattle.served_places.specs.of_master_tour.Made.{is_in}
+use Rattle.served_places.specs.of_master_tour.Orders.{AreOnce}
+use Rattle.served_places.specs.of_master_tour.Stands.{turned}
+use Rattle.served_places.specs.of_master_tour.declared.stop.Turned.{Turned}
+use Rattle.served_places.specs.of_segment_model.Ends.{Passing}
+use Rattle.served_places.specs.of_state_model.Accounts.{Change, is_free}
 use Rattle.run_notes.specs.Handed.{kinds_in}
 use Rattle.run_notes.proofs.Handings.{kinds_append}
 use Rattle.run_record.proofs.MailLives.{emergency_kinds, five_kinds, reply_kinds}
-use Rattle.master_node.specs.of_life_runs.Served.{Serves, ServedTurn}
-use Rattle.master_node.specs.of_life_runs.Told.{Passed, replies_in}
+use Rattle.served_places.specs.of_life_runs.Served.{Serves, ServedTurn}
+use Rattle.served_places.specs.of_life_runs.Told.{Passed, replies_in}
 
 -- ---- of another slave
 

@@ -2,35 +2,35 @@
 use Rattle.std.proofs.Common.{◌≡◌, ℕ, Bool, true, false, Option, Some, None, List, [], ◌∷◌, ◌++◌, length, refl, sym, ap, ◌∙◌, subst}
 use Rattle.std.specs.Prelude.{◌&&◌, is_some, not, option_map, if◌then◌else◌, Ok, Err}
 use Rattle.std.proofs.lemmas.Bool.{eq-eqb}
-use Rattle.mailbox_mail.specs.declared.outcome.ReplyKind.{ReplyKind}
-use Rattle.master_node.specs.Backtold.{HasPassed, OpenHas, answer_told, changes_told, emergencies_told, ended_told, has_packet, kind_of, packet_told, passed_told, returned_told}
-use Rattle.master_node.specs.Inhand.{HasInHand}
-use Rattle.master_node.specs.Gateways.{replies_told}
-use Rattle.master_node.specs.Named.{IsHanded, is_left}
-use Rattle.master_node.specs.declared.event.Event.{Event}
-use Rattle.master_node.specs.declared.post.Work.{Work}
-use Rattle.master_node.specs.of_frame_view.of_exchange_model.Areas.{Areas}
-use Rattle.master_node.specs.of_frame_view.of_exchange_model.Exchange.{Speech}
-use Rattle.master_node.specs.of_frame_view.of_exchange_model.Rows.{row_heard}
-use Rattle.master_node.specs.of_frame_view.of_link_model.Frames.{all_accepted}
-use Rattle.master_node.specs.of_life_model.Lives.{Era, Life, Spot, Stand, era_back, life_back, reopens}
-use Rattle.master_node.specs.of_life_model.Own.{own}
-use Rattle.master_node.specs.of_life_runs.Spans.{is_open}
-use Rattle.master_node.specs.of_life_runs.of_link_mails.Body.{Body}
-use Rattle.master_node.specs.of_master_duty.Reply.{Reply}
-use Rattle.master_node.specs.of_master_hand.Brings.{emergencies_in}
-use Rattle.master_node.specs.of_master_hand.Spoken.{Asked, acknowledged, hand_speech, is_followed, is_passed}
-use Rattle.master_node.specs.of_segment_model.Ends.{Passing}
-use Rattle.master_node.specs.of_segment_model.Record.{News}
-use Rattle.master_node.specs.of_segment_model.Slaves.{Datagram, Found, grams}
-use Rattle.master_node.specs.of_state_model.Accounts.{Account, Duty, is_free}
-use Rattle.master_node.proofs.Changes.{none_back, none_more}
-use Rattle.master_node.proofs.Handeds.{back_handed, stays_open}
-use Rattle.master_node.proofs.Rowtells.{kind_told, passed_kind, passed_other}
+use Rattle.plan_ring.specs.of_mailbox_mail.declared.outcome.ReplyKind.{ReplyKind}
+use Rattle.packets_heard.specs.of_master_node.Backtold.{HasPassed, OpenHas, answer_told, changes_told, emergencies_told, ended_told, has_packet, kind_of, packet_told, passed_told, returned_told}
+use Rattle.packets_heard.specs.of_master_node.Inhand.{HasInHand}
+use Rattle.packets_heard.specs.of_master_node.Gateways.{replies_told}
+use Rattle.packets_heard.specs.of_master_node.Named.{IsHanded, is_left}
+use Rattle.packets_heard.specs.of_master_node.declared.event.Event.{Event}
+use Rattle.packets_heard.specs.of_master_node.declared.post.Work.{Work}
+use Rattle.served_places.specs.of_exchange_model.Areas.{Areas}
+use Rattle.served_places.specs.of_exchange_model.Exchange.{Speech}
+use Rattle.served_places.specs.of_exchange_model.Rows.{row_heard}
+use Rattle.served_places.specs.of_link_model.Frames.{all_accepted}
+use Rattle.served_places.specs.of_life_model.Lives.{Era, Life, Spot, Stand, era_back, life_back, reopens}
+use Rattle.served_places.specs.of_life_model.Own.{own}
+use Rattle.served_places.specs.of_life_runs.Spans.{is_open}
+use Rattle.served_places.specs.of_link_mails.Body.{Body}
+use Rattle.served_places.specs.of_master_duty.Reply.{Reply}
+use Rattle.served_places.specs.of_master_hand.Brings.{emergencies_in}
+use Rattle.served_places.specs.of_master_hand.Spoken.{Asked, acknowledged, hand_speech, is_followed, is_passed}
+use Rattle.served_places.specs.of_segment_model.Ends.{Passing}
+use Rattle.served_places.specs.of_segment_model.Record.{News}
+use Rattle.served_places.specs.of_segment_model.Slaves.{Datagram, Found, grams}
+use Rattle.served_places.specs.of_state_model.Accounts.{Account, Duty, is_free}
+use Rattle.packets_heard.proofs.of_master_node.Changes.{none_back, none_more}
+use Rattle.packets_heard.proofs.of_master_node.Handeds.{back_handed, stays_open}
+use Rattle.packets_heard.proofs.of_master_node.Rowtells.{kind_told, passed_kind, passed_other}
 use Rattle.run_notes.specs.Handed.{kinds_in}
 use Rattle.run_notes.proofs.Handings.{kinds_append}
 use Rattle.run_record.specs.Mails.{has_passing}
-use Rattle.master_node.specs.of_life_runs.Told.{Passed, replies_in}
+use Rattle.served_places.specs.of_life_runs.Told.{Passed, replies_in}
 
 pub open_is : (stand : Stand) → is_open stand ≡ true → stand ≡ Stand.Open
 open_is (Stand.Opens o) e = absurd (let bad : false ≡ true = e in cc)

@@ -3,16 +3,16 @@ use Rattle.std.proofs.Common.{◌≡◌, ◌==◌, ℕ, zero, suc, Bool, true, f
 use Rattle.std.specs.Prelude.{◌&&◌, if◌then◌else◌, replicate, slice_get}
 use Rattle.std.proofs.lemmas.Bool.{eq-eqb}
 use Rattle.std.proofs.lemmas.List.{map-append}
-use Rattle.mailbox_mail.specs.declared.outcome.ReplyKind.{ReplyKind}
-use Rattle.master_node.specs.declared.event.Origin.{Origin}
-use Rattle.master_node.specs.declared.event.Origin.TheVariants.{Script, Forward, Gateway}
-use Rattle.master_node.specs.of_life_runs.Led.{Leads}
-use Rattle.master_node.specs.of_master_duty.of_state_model.Stated.{Service}
-use Rattle.master_node.specs.of_master_hand.Spoken.{Asked, is_passed}
-use Rattle.run_book.specs.declared.book.Answer.{Answer}
-use Rattle.run_book.specs.declared.book.Answer.TheVariants.{InDoubt, NotSent}
-use Rattle.run_book.specs.declared.book.Begun.{Begun}
-use Rattle.run_book.specs.declared.book.SlaveBook.{SlaveBook}
+use Rattle.plan_ring.specs.of_mailbox_mail.declared.outcome.ReplyKind.{ReplyKind}
+use Rattle.packets_heard.specs.of_master_node.declared.event.Origin.{Origin}
+use Rattle.packets_heard.specs.of_master_node.declared.event.Origin.TheVariants.{Script, Forward, Gateway}
+use Rattle.served_places.specs.of_life_runs.Led.{Leads}
+use Rattle.served_places.specs.of_state_model.Stated.{Service}
+use Rattle.served_places.specs.of_master_hand.Spoken.{Asked, is_passed}
+use Rattle.run_notes.specs.of_run_book.declared.book.Answer.{Answer}
+use Rattle.run_notes.specs.of_run_book.declared.book.Answer.TheVariants.{InDoubt, NotSent}
+use Rattle.run_notes.specs.of_run_book.declared.book.Begun.{Begun}
+use Rattle.run_notes.specs.of_run_book.declared.book.SlaveBook.{SlaveBook}
 use Rattle.run_notes.specs.Handed.{AllHanded, AllWhere, AreForwarded, AreHanded, Doubts, GoesBy, HandedFirst, IsBeside, IsNotedWhere, Sound, answer_where, answers_told, answers_where, doubts, hand_behind, has_where, is_mail, is_packet, noted_where, newest_where, over_answer, still_there}
 use Rattle.run_notes.specs.Notes.{answers_doubted, ended}
 use Rattle.run_notes.specs.Packets.{mail_row, packet_row, rows_with}
@@ -23,9 +23,9 @@ use Rattle.run_notes.specs.declared.notes.Notes.{Notes}
 use Rattle.run_notes.proofs.Handed.{all_answered, answers_append, last_map}
 use Rattle.run_record.proofs.MailLives.{Goes}
 use Rattle.run_record.specs.Mails.{mail_begun, mail_over, overs_behind}
-use Rattle.segment_ring.specs.declared.wire.Fate.TheVariants as Fates
-use Rattle.slave_node.specs.Node.{Node}
-use Rattle.slave_server.specs.declared.server.SlaveServer.{SlaveServer}
+use Rattle.served_places.specs.of_segment_ring.declared.wire.Fate.TheVariants as Fates
+use Rattle.packets_heard.specs.of_slave_node.Node.{Node}
+use Rattle.packets_heard.specs.of_slave_server.declared.server.SlaveServer.{SlaveServer}
 
 -- ---- BEHIND A RETURN
 

@@ -1,20 +1,20 @@
 -- Where some slave is live there is a next frame, and it is led.
 use Rattle.std.proofs.Common.{◌≡◌, ◌<◌, ◌^◌, ℕ, suc, List, length, true, false, refl, sym, ◌∙◌}
 use Rattle.std.specs.Prelude.{◌↔◌}
-use Rattle.master_node.specs.Events.{ServedBegin}
-use Rattle.master_node.specs.Origins.{forwards_at}
-use Rattle.master_node.specs.Serving.{ServedShows, ServedUnder}
-use Rattle.master_node.specs.Touring.{IsServedVisit}
-use Rattle.master_node.specs.declared.node.MasterNode.{MasterNode}
-use Rattle.master_node.specs.declared.node.Next.{Next}
-use Rattle.master_node.specs.declared.node.Next.TheVariants as nexts
-use Rattle.master_node.specs.of_frame_view.View.{Lens}
-use Rattle.master_node.specs.of_life_runs.First.{lens_of}
-use Rattle.master_node.specs.of_life_runs.Led.{Exchanged}
+use Rattle.packets_heard.specs.of_master_node.Events.{ServedBegin}
+use Rattle.packets_heard.specs.of_master_node.Origins.{forwards_at}
+use Rattle.packets_heard.specs.of_master_node.Serving.{ServedShows, ServedUnder}
+use Rattle.packets_heard.specs.of_master_node.Touring.{IsServedVisit}
+use Rattle.packets_heard.specs.of_master_node.declared.node.MasterNode.{MasterNode}
+use Rattle.packets_heard.specs.of_master_node.declared.node.Next.{Next}
+use Rattle.packets_heard.specs.of_master_node.declared.node.Next.TheVariants as nexts
+use Rattle.plan_ring.specs.of_frame_view.View.{Lens}
+use Rattle.served_places.specs.of_life_runs.First.{lens_of}
+use Rattle.served_places.specs.of_life_runs.Led.{Exchanged}
 use Rattle.run_record.specs.ServedLed.{LeadsFrame, ServedLeading}
 use Rattle.run_record.specs.Session.{has_live}
-use Rattle.segment_plan.specs.declared.plan.Scenario.{Scenario}
-use Rattle.master_node.specs.of_life_runs.Served.{IsServedFrame, ServedTurn, Serves}
+use Rattle.packets_heard.specs.of_segment_plan.declared.plan.Scenario.{Scenario}
+use Rattle.served_places.specs.of_life_runs.Served.{IsServedFrame, ServedTurn, Serves}
 
 pub next_frame : (m : MasterNode) (result : Next) → (result ≡ nexts.Idle) ↔ (has_live m ≡ false) → has_live m ≡ true → result ≡ nexts.Frame
 next_frame m nexts.Frame idle live = refl

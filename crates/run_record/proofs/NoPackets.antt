@@ -3,29 +3,29 @@ use Rattle.std.proofs.Common.{◌≡◌, ℕ, zero, suc, List, [], ◌∷◌, ma
 use Rattle.std.specs.Prelude.{◌||◌}
 use Rattle.std.specs.List.{list_any}
 use Rattle.std.proofs.lemmas.List.{take_all}
-use Rattle.eoe_switch.specs.Switch.{Switched, switched}
-use Rattle.eoe_switch.specs.declared.switching.SwitchEvent.{SwitchEvent}
-use Rattle.master_node.proofs.Sents.{stand_lives}
-use Rattle.master_node.specs.Forwards.{forwarded}
-use Rattle.master_node.specs.Happened.{arrivals_at}
-use Rattle.master_node.specs.Ports.{ports_behind}
-use Rattle.master_node.specs.Shows.{IsLived, is_live_lead, lived_of}
-use Rattle.master_node.specs.Told.{HasLives}
-use Rattle.master_node.specs.Wants.{NoneToCome}
-use Rattle.master_node.specs.declared.node.MasterNode.{MasterNode}
-use Rattle.master_node.specs.of_frame_view.View.{Lens}
-use Rattle.master_node.specs.of_frame_view.Shares.{AllBoth}
-use Rattle.master_node.specs.of_life_runs.Led.{Leads}
-use Rattle.master_node.specs.of_master_hand.declared.hand.InHand.{InHand}
-use Rattle.master_node.specs.of_master_side.declared.hand.Hand.{Ghosts}
-use Rattle.master_node.specs.of_master_tour.Goes.{holds_at, is_live}
-use Rattle.master_node.specs.of_master_tour.declared.stop.Stop.{Stop}
-use Rattle.run_book.specs.Ports.{ports_of}
-use Rattle.run_book.specs.declared.book.Book.{Book}
+use Rattle.packets_heard.specs.of_eoe_switch.Switch.{Switched, switched}
+use Rattle.packets_heard.specs.of_eoe_switch.declared.switching.SwitchEvent.{SwitchEvent}
+use Rattle.packets_heard.proofs.of_master_node.Sents.{stand_lives}
+use Rattle.packets_heard.specs.of_master_node.Forwards.{forwarded}
+use Rattle.packets_heard.specs.of_master_node.Happened.{arrivals_at}
+use Rattle.packets_heard.specs.of_master_node.Ports.{ports_behind}
+use Rattle.packets_heard.specs.of_master_node.Shows.{IsLived, is_live_lead, lived_of}
+use Rattle.packets_heard.specs.of_master_node.Told.{HasLives}
+use Rattle.packets_heard.specs.of_master_node.Wants.{NoneToCome}
+use Rattle.packets_heard.specs.of_master_node.declared.node.MasterNode.{MasterNode}
+use Rattle.plan_ring.specs.of_frame_view.View.{Lens}
+use Rattle.plan_ring.specs.of_frame_view.Shares.{AllBoth}
+use Rattle.served_places.specs.of_life_runs.Led.{Leads}
+use Rattle.served_places.specs.of_master_hand.declared.hand.InHand.{InHand}
+use Rattle.served_places.specs.of_master_side.declared.hand.Hand.{Ghosts}
+use Rattle.served_places.specs.of_master_tour.Goes.{holds_at, is_live}
+use Rattle.served_places.specs.of_master_tour.declared.stop.Stop.{Stop}
+use Rattle.run_notes.specs.of_run_book.Ports.{ports_of}
+use Rattle.run_notes.specs.of_run_book.declared.book.Book.{Book}
 use Rattle.run_notes.proofs.Switched.{switch_stood}
 use Rattle.run_notes.specs.Switched.{IsSwitched}
 use Rattle.run_record.specs.Led.{LeavesNoPacket}
-use Rattle.segment_plan.specs.declared.plan.Scenario.{Scenario}
+use Rattle.packets_heard.specs.of_segment_plan.declared.plan.Scenario.{Scenario}
 
 -- the slaves that a master has as live are those that weren't given up for good
 module _ {G : Ghosts InHand} (lens : ℕ → Lens) (recover : ℕ) where

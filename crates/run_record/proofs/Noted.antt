@@ -2,26 +2,26 @@
 use Rattle.std.proofs.Common.{◌≡◌, ◌++◌, ℕ, Bool, true, false, List, [], ◌∷◌, map, length, length-append, refl, sym, ap, ◌∙◌, subst, arith}
 use Rattle.std.specs.Prelude.{◌&&◌, nat_lt, if◌then◌else◌}
 use Rattle.std.proofs.lemmas.Bool.{lt-ltb, le-ltb}
-use Rattle.master_node.proofs.Counts.{back_gave, lost_gave, next_gave}
-use Rattle.master_node.specs.Shows.{lived_of}
-use Rattle.master_node.specs.Told.{HasLives}
-use Rattle.master_node.specs.Wants.{AllCounted, gave_of}
-use Rattle.master_node.specs.declared.node.MasterNode.{MasterNode}
-use Rattle.master_node.specs.of_frame_view.Seen.{seen}
-use Rattle.master_node.specs.of_frame_view.View.{Lens}
-use Rattle.master_node.specs.of_frame_view.of_segment_model.Record.{News}
-use Rattle.master_node.specs.of_frame_view.Frames.{Share}
-use Rattle.master_node.specs.of_frame_view.Shares.{AllBoth, IsNext, Lived, came_at, given_where, lived_back, lived_lost}
-use Rattle.master_node.specs.of_life_model.Lives.{Life, life_lost}
-use Rattle.master_node.specs.of_life_runs.Led.{Exchanged, Leads, speech_at}
-use Rattle.master_node.specs.of_master_duty.Reply.{Reply}
-use Rattle.master_node.specs.of_master_hand.Spoken.{Asked, acknowledged, is_followed, is_passed}
+use Rattle.packets_heard.proofs.of_master_node.Counts.{back_gave, lost_gave, next_gave}
+use Rattle.packets_heard.specs.of_master_node.Shows.{lived_of}
+use Rattle.packets_heard.specs.of_master_node.Told.{HasLives}
+use Rattle.packets_heard.specs.of_master_node.Wants.{AllCounted, gave_of}
+use Rattle.packets_heard.specs.of_master_node.declared.node.MasterNode.{MasterNode}
+use Rattle.plan_ring.specs.of_frame_view.Seen.{seen}
+use Rattle.plan_ring.specs.of_frame_view.View.{Lens}
+use Rattle.served_places.specs.of_segment_model.Record.{News}
+use Rattle.plan_ring.specs.of_frame_view.Frames.{Share}
+use Rattle.plan_ring.specs.of_frame_view.Shares.{AllBoth, IsNext, Lived, came_at, given_where, lived_back, lived_lost}
+use Rattle.served_places.specs.of_life_model.Lives.{Life, life_lost}
+use Rattle.served_places.specs.of_life_runs.Led.{Exchanged, Leads, speech_at}
+use Rattle.served_places.specs.of_master_duty.Reply.{Reply}
+use Rattle.served_places.specs.of_master_hand.Spoken.{Asked, acknowledged, is_followed, is_passed}
 use Rattle.run_notes.proofs.Gaves.{with_more}
 use Rattle.run_notes.specs.Slaves.{GaveBy, gaves_behind, gaves_noted}
 use Rattle.run_notes.specs.declared.standing.Log.{Log}
-use Rattle.segment_ring.specs.declared.wire.Fate.{Fate}
-use Rattle.segment_ring.specs.declared.wire.Fate.TheVariants as Fates
-use Rattle.slave_node.specs.of_link_mails.Body.{Body}
+use Rattle.served_places.specs.of_segment_ring.declared.wire.Fate.{Fate}
+use Rattle.served_places.specs.of_segment_ring.declared.wire.Fate.TheVariants as Fates
+use Rattle.served_places.specs.of_link_mails.Body.{Body}
 
 -- behind a frame of this fate, by the give-ups of the lives behind it
 abbrev pub NotedBy : Fate → ℕ → List (List ℕ) → List (List ℕ) → List (List ℕ) → Type 0

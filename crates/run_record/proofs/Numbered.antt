@@ -1,11 +1,11 @@
 -- The numbers that a step notes of the switch's events: how many frames had been sent when its frame was made, and one more behind it.
 use Rattle.std.proofs.Common.{◌≡◌, ℕ, suc, ◌+◌, List, [], ◌∷◌, ◌++◌, refl, sym, ap, ◌∙◌, arith, append_assoc, add-one}
 use Rattle.arrayvec.specs.ArrayVec.{ArrayVec}
-use Rattle.master_node.specs.Happened.{events_of, HappensSo}
-use Rattle.master_node.specs.declared.happened.Happening.{Happening}
-use Rattle.master_node.specs.declared.lan.Lan.{Lan}
+use Rattle.packets_heard.specs.of_master_node.Happened.{events_of, HappensSo}
+use Rattle.packets_heard.specs.of_master_node.declared.happened.Happening.{Happening}
+use Rattle.packets_heard.specs.of_master_node.declared.lan.Lan.{Lan}
 use Rattle.packets_heard.specs.Numbers.{each_with}
-use Rattle.run_book.specs.declared.book.Book.{Book}
+use Rattle.run_notes.specs.of_run_book.declared.book.Book.{Book}
 use Rattle.run_notes.specs.Switched.{rows_of, numbers_of, stamped, HasNoted, NotesSwitch, SameSwitch, IsSwitched}
 use Rattle.run_notes.proofs.Switched.{all_last, all_rows, numbers_more, switched_on, switched_same}
 

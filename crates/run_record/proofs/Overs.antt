@@ -2,28 +2,28 @@
 use Rattle.std.proofs.Common.{◌≡◌, ◌⊎◌, inl, inr, ℕ, Bool, true, false, List, [], map, length, refl, ap, sym, ◌∙◌, subst}
 use Rattle.std.specs.Prelude.{◌≢◌, Option}
 use Rattle.std.specs.Bool.{OnTrue, OnFalse}
-use Rattle.eoe_switch.specs.declared.switching.SwitchEvent.{SwitchEvent}
+use Rattle.packets_heard.specs.of_eoe_switch.declared.switching.SwitchEvent.{SwitchEvent}
 use Rattle.run_notes.specs.of_run_book.Heard.{emergencies_of}
-use Rattle.master_node.proofs.Counts.{counted}
-use Rattle.master_node.specs.Ports.{ports_behind, ports_of}
-use Rattle.master_node.specs.Serving.{run_lead}
-use Rattle.master_node.specs.Shows.{lived_of}
-use Rattle.master_node.specs.Told.{HasLives}
-use Rattle.master_node.specs.Toured.{tour_of}
-use Rattle.master_node.specs.Wants.{AllCounted, AllLeft, gave_of}
-use Rattle.master_node.specs.of_frame_view.View.{Lens}
-use Rattle.master_node.specs.of_frame_view.Shares.{AllBoth}
-use Rattle.master_node.specs.of_life_runs.First.{lens_of}
-use Rattle.master_node.specs.of_life_runs.Led.{Exchanged, Leads}
-use Rattle.master_node.specs.of_master_tour.Toured.{Tour}
+use Rattle.packets_heard.proofs.of_master_node.Counts.{counted}
+use Rattle.packets_heard.specs.of_master_node.Ports.{ports_behind, ports_of}
+use Rattle.packets_heard.specs.of_master_node.Serving.{run_lead}
+use Rattle.packets_heard.specs.of_master_node.Shows.{lived_of}
+use Rattle.packets_heard.specs.of_master_node.Told.{HasLives}
+use Rattle.packets_heard.specs.of_master_node.Toured.{tour_of}
+use Rattle.packets_heard.specs.of_master_node.Wants.{AllCounted, AllLeft, gave_of}
+use Rattle.plan_ring.specs.of_frame_view.View.{Lens}
+use Rattle.plan_ring.specs.of_frame_view.Shares.{AllBoth}
+use Rattle.served_places.specs.of_life_runs.First.{lens_of}
+use Rattle.served_places.specs.of_life_runs.Led.{Exchanged, Leads}
+use Rattle.served_places.specs.of_master_tour.Toured.{Tour}
 use Rattle.packets_heard.specs.Numbers.{frames_begun}
 use Rattle.packets_heard.specs.Recalled.{RecalledIn, State}
 use Rattle.packets_heard.specs.ServedRecalled.{ServedRecalledIn}
 use Rattle.packets_heard.specs.Servings.{AreServedBegun, ServedListed, ServedNumbered, served_begun}
-use Rattle.run_book.specs.declared.book.Book.{Book}
-use Rattle.run_book.specs.declared.book.Ending.{Ending}
-use Rattle.run_book.specs.declared.book.Ending.TheVariants as endings
-use Rattle.run_book.specs.declared.book.SlaveBook.{SlaveBook}
+use Rattle.run_notes.specs.of_run_book.declared.book.Book.{Book}
+use Rattle.run_notes.specs.of_run_book.declared.book.Ending.{Ending}
+use Rattle.run_notes.specs.of_run_book.declared.book.Ending.TheVariants as endings
+use Rattle.run_notes.specs.of_run_book.declared.book.SlaveBook.{SlaveBook}
 use Rattle.run_notes.proofs.Heard.{heard_of_rows}
 use Rattle.run_notes.proofs.Packets.{begun_of_rows}
 use Rattle.run_notes.proofs.Reporting.{all_booked, all_spent, all_epochs}
@@ -53,8 +53,8 @@ use Rattle.run_record.specs.Recalling.{state_of}
 use Rattle.run_record.specs.Served.{Serving, ServingLives, ServingRests}
 use Rattle.run_record.specs.Session.{IsDone, SessionState, are_at_rest, session_rows, some_given_up}
 use Rattle.run_record.specs.Written.{WereDue, forwards_now, packets_written, served_written}
-use Rattle.segment_plan.specs.declared.plan.Scenario.{Scenario}
-use Rattle.master_node.specs.of_life_runs.Served.{Serves}
+use Rattle.packets_heard.specs.of_segment_plan.declared.plan.Scenario.{Scenario}
+use Rattle.served_places.specs.of_life_runs.Served.{Serves}
 
 not_done : endings.Done ≡ endings.NoMemory → ⊥
 not_done e = absurd (cc)

@@ -2,40 +2,40 @@
 use Rattle.std.proofs.Common.{◌≡◌, ◌==◌, ℕ, Bool, true, false, Option, Some, None, List, [], ◌∷◌, ◌++◌, length, refl, sym, ap, ◌∙◌, subst, append-nil}
 use Rattle.std.specs.Prelude.{◌&&◌, is_some, nat_lt, not, option_map, if◌then◌else◌}
 use Rattle.std.proofs.lemmas.Bool.{eq-eqb, eqb-true}
-use Rattle.mailbox_mail.specs.declared.outcome.ReplyKind.{ReplyKind}
-use Rattle.master_node.specs.Backtold.{NewestHas, OpenHas, answer_told, changes_told, emergencies_told, has_packet, kind_of, over_told, packet_told, passed_told, returned_told}
-use Rattle.master_node.specs.Begins.{is_other}
-use Rattle.master_node.specs.Inhand.{HasInHand, ServiceHas}
-use Rattle.master_node.specs.Gateways.{replies_told}
-use Rattle.master_node.specs.declared.post.Work.{Work}
-use Rattle.master_node.specs.of_frame_view.of_exchange_model.Areas.{Areas}
-use Rattle.master_node.specs.of_frame_view.of_exchange_model.Exchange.{Speech}
-use Rattle.master_node.specs.of_frame_view.of_exchange_model.Rows.{Row, row_heard}
-use Rattle.master_node.specs.of_frame_view.of_link_model.Frames.{all_accepted, halves_after, halves_answered}
-use Rattle.master_node.specs.of_frame_view.of_link_model.Link.{Halves}
-use Rattle.master_node.specs.Named.{is_left}
-use Rattle.master_node.specs.of_life_model.Lives.{Era, Life, Opening, Spot, Stand, clears, is_shown, last_step, life_lost, opens, opens_state, reopening, reopens, reopens_at, returns_to_init, shows_clear, steps_on}
-use Rattle.master_node.specs.of_life_model.Own.{own}
-use Rattle.master_node.specs.of_life_runs.Spans.{is_open}
-use Rattle.master_node.specs.of_life_runs.of_link_mails.Body.{Body}
-use Rattle.master_node.specs.of_master_duty.Reply.{Reply}
-use Rattle.master_node.specs.of_master_hand.Brings.{emergencies_in}
-use Rattle.master_node.specs.of_master_hand.Hears.{kind_in}
-use Rattle.master_node.specs.of_master_hand.Spoken.{Asked, acknowledged, hand_speech, is_followed, is_passed}
-use Rattle.master_node.specs.of_master_tour.Under.{mine}
-use Rattle.master_node.specs.of_segment_model.Ends.{Passing}
-use Rattle.master_node.specs.of_segment_model.Record.{News, is_for}
-use Rattle.master_node.specs.of_segment_model.Seats.{Side, side_lost}
-use Rattle.master_node.specs.of_segment_model.Slaves.{Datagram, Found, grams}
-use Rattle.master_node.specs.of_state_model.Accounts.{Account, Duty, Stage, is_free}
-use Rattle.master_node.proofs.Handeds.{stays_open}
-use Rattle.master_node.proofs.PacketRows.{idle_back, out_lost, packet_ends, same_over, stays_over}
-use Rattle.master_node.proofs.Rowtells.{kind_told, passed_other}
+use Rattle.plan_ring.specs.of_mailbox_mail.declared.outcome.ReplyKind.{ReplyKind}
+use Rattle.packets_heard.specs.of_master_node.Backtold.{NewestHas, OpenHas, answer_told, changes_told, emergencies_told, has_packet, kind_of, over_told, packet_told, passed_told, returned_told}
+use Rattle.packets_heard.specs.of_master_node.Begins.{is_other}
+use Rattle.packets_heard.specs.of_master_node.Inhand.{HasInHand, ServiceHas}
+use Rattle.packets_heard.specs.of_master_node.Gateways.{replies_told}
+use Rattle.packets_heard.specs.of_master_node.declared.post.Work.{Work}
+use Rattle.served_places.specs.of_exchange_model.Areas.{Areas}
+use Rattle.served_places.specs.of_exchange_model.Exchange.{Speech}
+use Rattle.served_places.specs.of_exchange_model.Rows.{Row, row_heard}
+use Rattle.served_places.specs.of_link_model.Frames.{all_accepted, halves_after, halves_answered}
+use Rattle.served_places.specs.of_link_model.Link.{Halves}
+use Rattle.packets_heard.specs.of_master_node.Named.{is_left}
+use Rattle.served_places.specs.of_life_model.Lives.{Era, Life, Opening, Spot, Stand, clears, is_shown, last_step, life_lost, opens, opens_state, reopening, reopens, reopens_at, returns_to_init, shows_clear, steps_on}
+use Rattle.served_places.specs.of_life_model.Own.{own}
+use Rattle.served_places.specs.of_life_runs.Spans.{is_open}
+use Rattle.served_places.specs.of_link_mails.Body.{Body}
+use Rattle.served_places.specs.of_master_duty.Reply.{Reply}
+use Rattle.served_places.specs.of_master_hand.Brings.{emergencies_in}
+use Rattle.served_places.specs.of_master_hand.Hears.{kind_in}
+use Rattle.served_places.specs.of_master_hand.Spoken.{Asked, acknowledged, hand_speech, is_followed, is_passed}
+use Rattle.served_places.specs.of_master_tour.Under.{mine}
+use Rattle.served_places.specs.of_segment_model.Ends.{Passing}
+use Rattle.served_places.specs.of_segment_model.Record.{News, is_for}
+use Rattle.served_places.specs.of_segment_model.Seats.{Side, side_lost}
+use Rattle.served_places.specs.of_segment_model.Slaves.{Datagram, Found, grams}
+use Rattle.served_places.specs.of_state_model.Accounts.{Account, Duty, Stage, is_free}
+use Rattle.packets_heard.proofs.of_master_node.Handeds.{stays_open}
+use Rattle.packets_heard.proofs.of_master_node.PacketRows.{idle_back, out_lost, packet_ends, same_over, stays_over}
+use Rattle.packets_heard.proofs.of_master_node.Rowtells.{kind_told, passed_other}
 use Rattle.run_notes.specs.Handed.{kinds_in}
 use Rattle.run_notes.proofs.Handings.{kinds_append}
 use Rattle.run_record.proofs.MailLives.{Goes, behind_so, both_true, changes_none, e as era_behind, emergency_kinds, era_is, five_kinds, open_is, reply_kinds, same_account}
 use Rattle.run_record.specs.Written.{has_fragments}
-use Rattle.master_node.specs.of_life_runs.Told.{Passed, replies_in}
+use Rattle.served_places.specs.of_life_runs.Told.{Passed, replies_in}
 
 not_true : (b : Bool) → not b ≡ true → b ≡ false
 not_true true e = absurd (let bad : false ≡ true = e in cc)

@@ -1,28 +1,28 @@
 -- A PACKET IN HAND OF A SLAVE, by its life before a frame: what came into hand, and which fragment was taken up.
 use Rattle.std.proofs.Common.{◌≡◌, ℕ, zero, suc, Bool, true, false, Option, Some, None, List, [], ◌∷◌, refl, sym, ap, ◌∙◌, subst}
 use Rattle.std.specs.Prelude.{◌&&◌, if◌then◌else◌, not, option_map}
-use Rattle.master_node.proofs.Frees.{none_next}
-use Rattle.master_node.proofs.Newest.{Newest, no_more}
-use Rattle.master_node.proofs.PacketRows.{held_open, packet_begins}
-use Rattle.master_node.specs.Backtold.{has_packet}
-use Rattle.master_node.specs.Begins.{is_other}
-use Rattle.master_node.specs.of_frame_view.View.{Lens}
-use Rattle.master_node.specs.of_frame_view.of_exchange_model.Areas.{Areas}
-use Rattle.master_node.specs.of_frame_view.of_exchange_model.Exchange.{Speech}
-use Rattle.master_node.specs.of_frame_view.of_exchange_model.Rows.{Row, begun, row_told}
-use Rattle.master_node.specs.of_life_model.Lives.{Life, Stand, granted, life_next}
-use Rattle.master_node.specs.of_life_runs.First.{leads_from}
-use Rattle.master_node.specs.of_life_runs.Spans.{is_open}
-use Rattle.master_node.specs.of_life_runs.of_link_mails.Body.{Body}
-use Rattle.master_node.specs.of_master_duty.Reply.{Reply}
-use Rattle.master_node.specs.of_master_duty.of_state_model.Stated.{Service}
-use Rattle.master_node.specs.of_master_hand.Spoken.{Asked, acknowledged, hand_speech, is_followed, is_passed}
-use Rattle.master_node.specs.of_segment_model.Ends.{Passing}
-use Rattle.master_node.specs.of_segment_model.Seats.{Side, next_mail, side_holds, side_next}
-use Rattle.master_node.specs.of_state_model.Accounts.{Account, Duty, Pick, account_begins, account_next, is_acknowledged, is_free, mails_begin, starts, state_begins}
+use Rattle.packets_heard.proofs.of_master_node.Frees.{none_next}
+use Rattle.packets_heard.proofs.of_master_node.Newest.{Newest, no_more}
+use Rattle.packets_heard.proofs.of_master_node.PacketRows.{held_open, packet_begins}
+use Rattle.packets_heard.specs.of_master_node.Backtold.{has_packet}
+use Rattle.packets_heard.specs.of_master_node.Begins.{is_other}
+use Rattle.plan_ring.specs.of_frame_view.View.{Lens}
+use Rattle.served_places.specs.of_exchange_model.Areas.{Areas}
+use Rattle.served_places.specs.of_exchange_model.Exchange.{Speech}
+use Rattle.served_places.specs.of_exchange_model.Rows.{Row, begun, row_told}
+use Rattle.served_places.specs.of_life_model.Lives.{Life, Stand, granted, life_next}
+use Rattle.served_places.specs.of_life_runs.First.{leads_from}
+use Rattle.served_places.specs.of_life_runs.Spans.{is_open}
+use Rattle.served_places.specs.of_link_mails.Body.{Body}
+use Rattle.served_places.specs.of_master_duty.Reply.{Reply}
+use Rattle.served_places.specs.of_state_model.Stated.{Service}
+use Rattle.served_places.specs.of_master_hand.Spoken.{Asked, acknowledged, hand_speech, is_followed, is_passed}
+use Rattle.served_places.specs.of_segment_model.Ends.{Passing}
+use Rattle.served_places.specs.of_segment_model.Seats.{Side, next_mail, side_holds, side_next}
+use Rattle.served_places.specs.of_state_model.Accounts.{Account, Duty, Pick, account_begins, account_next, is_acknowledged, is_free, mails_begin, starts, state_begins}
 use Rattle.run_record.specs.Written.{forwards_now, has_fragments}
-use Rattle.segment_plan.specs.declared.service.Service as Plan
-use Rattle.segment_plan.specs.declared.slave.SlaveSpec.{SlaveSpec}
+use Rattle.packets_heard.specs.of_segment_plan.declared.service.Service as Plan
+use Rattle.packets_heard.specs.of_segment_plan.declared.slave.SlaveSpec.{SlaveSpec}
 
 -- in the epoch of a slave that is open
 abbrev pub unwritten_in : Speech Body Asked Reply → Side Body Asked Reply → Bool

@@ -2,13 +2,13 @@
 use Rattle.std.proofs.Common.{◌≡◌, ℕ, suc, ◌+◌, ◌≤◌, ◌&&◌, Bool, true, false, List, [], ◌∷◌, map, refl, leb-true, arith}
 use Rattle.std.specs.Prelude.{All, nat_le}
 use Rattle.std.proofs.lemmas.List.Elements.{All-head, All-tail}
-use Rattle.segment_plan.specs.declared.slave.SlaveSpec.{SlaveSpec}
-use Rattle.segment_plan.specs.Sound.{are_lost_from, IsPace}
-use Rattle.segment_ring.specs.Ring.{ArePaces, AllFew}
-use Rattle.segment_ring.specs.Schedule.{AllFrom, Rises}
-use Rattle.slave_node.specs.Node.{Node}
-use Rattle.slave_server.specs.Spec.{node_of}
-use Rattle.slave_server.specs.declared.server.SlaveServer.{SlaveServer}
+use Rattle.packets_heard.specs.of_segment_plan.declared.slave.SlaveSpec.{SlaveSpec}
+use Rattle.packets_heard.specs.of_segment_plan.Sound.{are_lost_from, IsPace}
+use Rattle.served_places.specs.of_segment_ring.Ring.{ArePaces, AllFew}
+use Rattle.served_places.specs.of_segment_ring.Schedule.{AllFrom, Rises}
+use Rattle.packets_heard.specs.of_slave_node.Node.{Node}
+use Rattle.packets_heard.specs.of_slave_server.Spec.{node_of}
+use Rattle.packets_heard.specs.of_slave_server.declared.server.SlaveServer.{SlaveServer}
 
 weaker : (lose : List (ℕ × ℕ)) (a b : ℕ) → a ≤ b → AllFrom b lose → AllFrom a lose
 weaker [] a b le from = tt

@@ -1,12 +1,12 @@
 -- The replay with one more frame.
 use Rattle.std.proofs.Common.{◌≡◌, ℕ, zero, suc, ◌+◌, List, [], ◌∷◌, ◌++◌, length, refl, ap, ◌∙◌, arith}
-use Rattle.segment_ring.specs.Ring.{RingState, nodes_passed, nodes_stepped, frame_met}
-use Rattle.segment_ring.specs.Schedule.{fate_at}
-use Rattle.segment_ring.specs.declared.wire.Fate.{Fate}
-use Rattle.segment_ring.specs.declared.wire.Fate.TheVariants.{Pass, Lost}
-use Rattle.slave_node.specs.Node.{Node, node_passed}
-use Rattle.slave_server.specs.declared.server.SlaveServer.{SlaveServer}
-use Rattle.run_book.specs.declared.book.SentFrame.{SentFrame}
+use Rattle.served_places.specs.of_segment_ring.Ring.{RingState, nodes_passed, nodes_stepped, frame_met}
+use Rattle.served_places.specs.of_segment_ring.Schedule.{fate_at}
+use Rattle.served_places.specs.of_segment_ring.declared.wire.Fate.{Fate}
+use Rattle.served_places.specs.of_segment_ring.declared.wire.Fate.TheVariants.{Pass, Lost}
+use Rattle.packets_heard.specs.of_slave_node.Node.{Node, node_passed}
+use Rattle.packets_heard.specs.of_slave_server.declared.server.SlaveServer.{SlaveServer}
+use Rattle.run_notes.specs.of_run_book.declared.book.SentFrame.{SentFrame}
 use Rattle.run_record.specs.Replay.{stepped, behind, ring_after, IsRecorded, AreRecorded}
 
 pub after_more : (r : RingState (Node SlaveServer)) (fs : List SentFrame) (f : SentFrame) → ring_after r (fs ++ f ∷ []) ≡ behind (ring_after r fs) f.sent

@@ -3,9 +3,9 @@ use Rattle.std.proofs.Common.{◌≡◌, ℕ, zero, suc, ◌||◌, ◌&&◌, Lis
 use Rattle.std.specs.Prelude.{All, slice_get}
 use Rattle.std.specs.List.{list_any}
 use Rattle.std.proofs.lemmas.List.Elements.{All-nil, All-cons}
-use Rattle.slave_node.specs.Node.{Node}
-use Rattle.slave_server.specs.declared.server.SlaveServer.{SlaveServer}
-use Rattle.run_book.specs.declared.book.SlaveBook.{SlaveBook}
+use Rattle.packets_heard.specs.of_slave_node.Node.{Node}
+use Rattle.packets_heard.specs.of_slave_server.declared.server.SlaveServer.{SlaveServer}
+use Rattle.run_notes.specs.of_run_book.declared.book.SlaveBook.{SlaveBook}
 use Rattle.run_notes.specs.declared.notes.Notes.{Notes}
 use Rattle.run_notes.specs.Notes.{has_given_up}
 use Rattle.run_record.specs.Session.{some_given_up, rests_at, are_at_rest}

@@ -2,19 +2,19 @@
 -- happened at its switch are the same.
 use Rattle.std.proofs.Common.{◌≡◌, ℕ, zero, suc, Bool, Option, Some, None, List, [], ◌∷◌, ◌++◌, map, length, refl, sym, ap, subst}
 use Rattle.std.specs.Prelude.{if◌then◌else◌}
-use Rattle.datagrams.specs.Datagram as Raw
-use Rattle.eoe_switch.specs.declared.switching.SwitchEvent.{SwitchEvent}
+use Rattle.served_places.specs.of_datagrams.Datagram as Raw
+use Rattle.packets_heard.specs.of_eoe_switch.declared.switching.SwitchEvent.{SwitchEvent}
 use Rattle.run_notes.specs.of_run_book.Heard.{brought_by, heard_in, heard_none, heard_on}
-use Rattle.master_node.proofs.Handeds.{comes_own}
-use Rattle.master_node.specs.Begins.{begun_of}
-use Rattle.master_node.specs.Events.{oldest_in}
-use Rattle.master_node.specs.Ports.{ports_behind, ports_of}
-use Rattle.master_node.specs.Serving.{run_lead, run_turn}
-use Rattle.master_node.specs.of_frame_view.View.{Lens}
-use Rattle.master_node.specs.of_life_runs.First.{first_leads, leads_from, lens_of}
-use Rattle.master_node.specs.of_life_runs.Led.{AllTurn, Comes, Exchanged, IsLed, IsLedFrame, Leads, Turn, gives_up_at, led_behind}
-use Rattle.master_node.specs.of_master_duty.of_state_model.Stated.{Service}
-use Rattle.master_node.specs.of_master_hand.Spoken.{Asked}
+use Rattle.packets_heard.proofs.of_master_node.Handeds.{comes_own}
+use Rattle.packets_heard.specs.of_master_node.Begins.{begun_of}
+use Rattle.packets_heard.specs.of_master_node.Events.{oldest_in}
+use Rattle.packets_heard.specs.of_master_node.Ports.{ports_behind, ports_of}
+use Rattle.packets_heard.specs.of_master_node.Serving.{run_lead, run_turn}
+use Rattle.plan_ring.specs.of_frame_view.View.{Lens}
+use Rattle.served_places.specs.of_life_runs.First.{first_leads, leads_from, lens_of}
+use Rattle.served_places.specs.of_life_runs.Led.{AllTurn, Comes, Exchanged, IsLed, IsLedFrame, Leads, Turn, gives_up_at, led_behind}
+use Rattle.served_places.specs.of_state_model.Stated.{Service}
+use Rattle.served_places.specs.of_master_hand.Spoken.{Asked}
 use Rattle.packets_heard.specs.Heard.{Joined, joined_in, joined_none, joined_on}
 use Rattle.packets_heard.specs.Listed.{ListedOn}
 use Rattle.packets_heard.specs.Numbers.{each_with, frames_begun}
@@ -26,10 +26,10 @@ use Rattle.run_record.specs.Led.{BeginsAll, LeadTo, ListsAll, NumbersAll}
 use Rattle.run_record.specs.Mails.{mail_begun, served_mails}
 use Rattle.run_record.specs.Served.{ServeTo, served_heard}
 use Rattle.run_record.specs.Written.{WereDue, WereServedDue, packets_written, served_written, written_on}
-use Rattle.segment_plan.specs.declared.plan.Scenario.{Scenario}
-use Rattle.segment_plan.specs.declared.service.Service as Plan
-use Rattle.segment_plan.specs.declared.slave.SlaveSpec.{SlaveSpec}
-use Rattle.master_node.specs.of_life_runs.Served.{IsRunOf, IsServedFrame, IsServedLed, ServedTurn, Serves, all_serve, served_behind}
+use Rattle.packets_heard.specs.of_segment_plan.declared.plan.Scenario.{Scenario}
+use Rattle.packets_heard.specs.of_segment_plan.declared.service.Service as Plan
+use Rattle.packets_heard.specs.of_segment_plan.declared.slave.SlaveSpec.{SlaveSpec}
+use Rattle.served_places.specs.of_life_runs.Served.{IsRunOf, IsServedFrame, IsServedLed, ServedTurn, Serves, all_serve, served_behind}
 
 -- ---- WHAT CAME INTO HAND is no mail that is passed on
 one_mailed : (room : ℕ) (script : List Plan.Service) (n m number frame : ℕ) (b : Option (Service Asked)) → Comes room script n b m → mail_begun number frame b ≡ []

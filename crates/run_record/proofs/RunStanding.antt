@@ -2,20 +2,20 @@
 use Rattle.std.proofs.Common.{◌≡◌, ℕ, zero, suc, List, [], ◌∷◌, ◌++◌, map, length, refl, sym, ap, ◌∙◌, subst}
 use Rattle.std.specs.Prelude.{replicate}
 use Rattle.std.proofs.lemmas.List.{map-append}
-use Rattle.eoe_switch.specs.declared.switching.SwitchEvent.{SwitchEvent}
-use Rattle.master_node.specs.Happened.{events_of}
-use Rattle.master_node.specs.Ports.{ports_behind, ports_of}
-use Rattle.master_node.specs.Serving.{run_lead}
-use Rattle.master_node.specs.Toured.{tour_of}
-use Rattle.master_node.specs.of_life_runs.First.{lens_of}
-use Rattle.master_node.specs.of_life_runs.Led.{Exchanged, gives_up_at}
-use Rattle.master_node.specs.of_master_tour.Toured.{Tour}
+use Rattle.packets_heard.specs.of_eoe_switch.declared.switching.SwitchEvent.{SwitchEvent}
+use Rattle.packets_heard.specs.of_master_node.Happened.{events_of}
+use Rattle.packets_heard.specs.of_master_node.Ports.{ports_behind, ports_of}
+use Rattle.packets_heard.specs.of_master_node.Serving.{run_lead}
+use Rattle.packets_heard.specs.of_master_node.Toured.{tour_of}
+use Rattle.served_places.specs.of_life_runs.First.{lens_of}
+use Rattle.served_places.specs.of_life_runs.Led.{Exchanged, gives_up_at}
+use Rattle.served_places.specs.of_master_tour.Toured.{Tour}
 use Rattle.packets_heard.specs.Served.{IsTourServed, serves_behind}
 use Rattle.packets_heard.specs.Servings.{ServedNumbered}
 use Rattle.packets_heard.specs.Toured.{tour_behind}
-use Rattle.run_book.specs.Book.{IsNew}
-use Rattle.run_book.specs.declared.book.Book.{Book}
-use Rattle.run_book.specs.declared.book.SentFrame.{SentFrame}
+use Rattle.run_notes.specs.of_run_book.Book.{IsNew}
+use Rattle.run_notes.specs.of_run_book.declared.book.Book.{Book}
+use Rattle.run_notes.specs.of_run_book.declared.book.SentFrame.{SentFrame}
 use Rattle.run_record.proofs.Heads.{heads, not_none, rests}
 use Rattle.run_record.proofs.RunLives.{run_lives}
 use Rattle.run_record.proofs.RunTours.{run_tour, tour_by}
@@ -24,8 +24,8 @@ use Rattle.run_record.specs.Led.{AreLed, exchanged}
 use Rattle.run_record.specs.Served.{ServesOn, Serving, ServingBegins, as_asked}
 use Rattle.run_record.specs.ServedLed.{LeadsFrame, ServeTo, ServedTouredTo}
 use Rattle.run_record.specs.Session.{FrameEvents, IsGrown, SessionState, first_session, numbers_over}
-use Rattle.segment_plan.specs.declared.plan.Scenario.{Scenario}
-use Rattle.master_node.specs.of_life_runs.Served.{IsServedLed, Keyed, Serves}
+use Rattle.packets_heard.specs.of_segment_plan.declared.plan.Scenario.{Scenario}
+use Rattle.served_places.specs.of_life_runs.Served.{IsServedLed, Keyed, Serves}
 
 -- behind these frames, with just these events of its switch, each with its number
 pub record StandsSo (plan : Scenario) (s : SessionState) (fs : List Exchanged) (es : List SwitchEvent) (ns : List ℕ) : Type 0 where

@@ -1,24 +1,24 @@
 -- THE TOUR OF A SERVING TO WHICH NO MAIL WAS ASKED IS THAT OF A RUN, and no visit of it is in vain, by what its master remembers.
 use Rattle.std.proofs.Common.{◌≡◌, inl, inr, ℕ, suc, Bool, false, None, List, [], ◌∷◌, map, length, refl, sym, ap, ◌∙◌, subst}
 use Rattle.std.specs.Prelude.{is_some}
-use Rattle.master_node.proofs.Visitings.{run_next}
-use Rattle.master_node.specs.Eager.{AllVisit, EachSo, VisitAsks}
-use Rattle.master_node.specs.Recalled.{AllRecall, RecallsBack}
-use Rattle.master_node.specs.Resting.{AllRest, IsResting, Rests}
-use Rattle.master_node.specs.ServedEager.{AllServedAsk, AllServedBegin, AllServedRecall, AllServedRest, AllServedStill, ServedRecallsBack, ServedResting, ServedVisitAsks}
-use Rattle.master_node.specs.Serving.{run_lead, run_turn}
-use Rattle.master_node.specs.Starts.{AllBegin, BeginsAll}
-use Rattle.master_node.specs.declared.lan.Lan.{Lan}
-use Rattle.master_node.specs.of_frame_view.Seen.{seen}
-use Rattle.master_node.specs.of_frame_view.View.{Lens}
-use Rattle.master_node.specs.of_life_model.Lives.{Stand}
-use Rattle.master_node.specs.of_life_model.Own.{own}
-use Rattle.master_node.specs.of_life_runs.First.{first_leads, lens_of}
-use Rattle.master_node.specs.of_life_runs.Led.{AllTurn, Exchanged, IsLedFrame, Leads, Turn, gives_up_at}
-use Rattle.master_node.specs.of_life_runs.of_link_mails.Body.{Body}
-use Rattle.master_node.specs.of_master_side.Recall.{Recall}
-use Rattle.master_node.specs.of_master_tour.Toured.{Tour, new_tour}
-use Rattle.master_node.specs.of_segment_model.Slaves.{Datagram}
+use Rattle.packets_heard.proofs.of_master_node.Visitings.{run_next}
+use Rattle.packets_heard.specs.of_master_node.Eager.{AllVisit, EachSo, VisitAsks}
+use Rattle.packets_heard.specs.of_master_node.Recalled.{AllRecall, RecallsBack}
+use Rattle.packets_heard.specs.of_master_node.Resting.{AllRest, IsResting, Rests}
+use Rattle.packets_heard.specs.of_master_node.ServedEager.{AllServedAsk, AllServedBegin, AllServedRecall, AllServedRest, AllServedStill, ServedRecallsBack, ServedResting, ServedVisitAsks}
+use Rattle.packets_heard.specs.of_master_node.Serving.{run_lead, run_turn}
+use Rattle.packets_heard.specs.of_master_node.Starts.{AllBegin, BeginsAll}
+use Rattle.packets_heard.specs.of_master_node.declared.lan.Lan.{Lan}
+use Rattle.plan_ring.specs.of_frame_view.Seen.{seen}
+use Rattle.plan_ring.specs.of_frame_view.View.{Lens}
+use Rattle.served_places.specs.of_life_model.Lives.{Stand}
+use Rattle.served_places.specs.of_life_model.Own.{own}
+use Rattle.served_places.specs.of_life_runs.First.{first_leads, lens_of}
+use Rattle.served_places.specs.of_life_runs.Led.{AllTurn, Exchanged, IsLedFrame, Leads, Turn, gives_up_at}
+use Rattle.served_places.specs.of_link_mails.Body.{Body}
+use Rattle.served_places.specs.of_master_side.Recall.{Recall}
+use Rattle.served_places.specs.of_master_tour.Toured.{Tour, new_tour}
+use Rattle.served_places.specs.of_segment_model.Slaves.{Datagram}
 use Rattle.packets_heard.specs.Recalled.{AllSettled, AllStill, IsRecalledFrame, RecalledIn, State}
 use Rattle.packets_heard.specs.Served.{IsTourServed, serves_behind}
 use Rattle.packets_heard.specs.ServedRecalled.{IsServedRecalled, ServedRecalledIn}
@@ -27,9 +27,9 @@ use Rattle.run_record.proofs.RunLives.{first_run}
 use Rattle.run_record.proofs.Unasked.{AllBare, IsBare, NoneAsked, all_behind, all_run, leads_of, never_asked, none_before, none_passed}
 use Rattle.run_record.specs.Led.{TouredTo}
 use Rattle.run_record.specs.Served.{ServedTouredTo}
-use Rattle.segment_plan.specs.declared.plan.Scenario.{Scenario}
+use Rattle.packets_heard.specs.of_segment_plan.declared.plan.Scenario.{Scenario}
 use Rattle.served_places.proofs.Behind.{unpassed_behind}
-use Rattle.master_node.specs.of_life_runs.Served.{IsQuiet, IsRunOf, IsServedFrame, ServedTurn, Serves, all_serve, served_behind}
+use Rattle.served_places.specs.of_life_runs.Served.{IsQuiet, IsRunOf, IsServedFrame, ServedTurn, Serves, all_serve, served_behind}
 
 -- ---- WHAT IS REMEMBERED over a frame
 

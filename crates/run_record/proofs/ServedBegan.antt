@@ -1,20 +1,20 @@
 -- WHAT CAME INTO HAND BESIDE THE SCRIPTS over a serving, as its master lists them and by the lives of its slaves, packets and mails that are passed on.
 use Rattle.std.proofs.Common.{◌≡◌, ◌<◌, ◌≤◌, ◌+◌, ◌==◌, ℕ, true, Option, Some, None, List, [], ◌∷◌, map, length, length-append, refl, sym, ◌∙◌, subst, arith}
 use Rattle.std.specs.Prelude.{if◌then◌else◌}
-use Rattle.datagrams.specs.Datagram as Raw
-use Rattle.master_node.specs.Begins.{begun_of}
-use Rattle.master_node.specs.Events.{ServedBegin, begun_told, oldest_in, origin_for, served_tells}
-use Rattle.master_node.specs.Listing.{number_at}
-use Rattle.master_node.specs.Origins.{forwards_at}
-use Rattle.master_node.specs.Serving.{run_lead, run_turn}
-use Rattle.master_node.specs.declared.node.MasterNode.{MasterNode}
-use Rattle.master_node.specs.of_frame_view.View.{Lens}
-use Rattle.master_node.specs.of_frame_view.Shares.{AllBoth}
-use Rattle.master_node.specs.of_life_runs.First.{lens_of}
-use Rattle.master_node.specs.of_life_runs.Led.{Exchanged, Turn}
-use Rattle.master_node.specs.of_master_duty.of_state_model.Stated.{Service}
-use Rattle.master_node.specs.of_master_hand.Spoken.{Asked, sdo, file, drive, net, passed}
-use Rattle.master_node.specs.of_master_hand.of_protocol_models.EoeClient as EoeClient
+use Rattle.served_places.specs.of_datagrams.Datagram as Raw
+use Rattle.packets_heard.specs.of_master_node.Begins.{begun_of}
+use Rattle.packets_heard.specs.of_master_node.Events.{ServedBegin, begun_told, oldest_in, origin_for, served_tells}
+use Rattle.packets_heard.specs.of_master_node.Listing.{number_at}
+use Rattle.packets_heard.specs.of_master_node.Origins.{forwards_at}
+use Rattle.packets_heard.specs.of_master_node.Serving.{run_lead, run_turn}
+use Rattle.packets_heard.specs.of_master_node.declared.node.MasterNode.{MasterNode}
+use Rattle.plan_ring.specs.of_frame_view.View.{Lens}
+use Rattle.plan_ring.specs.of_frame_view.Shares.{AllBoth}
+use Rattle.served_places.specs.of_life_runs.First.{lens_of}
+use Rattle.served_places.specs.of_life_runs.Led.{Exchanged, Turn}
+use Rattle.served_places.specs.of_state_model.Stated.{Service}
+use Rattle.served_places.specs.of_master_hand.Spoken.{Asked, sdo, file, drive, net, passed}
+use Rattle.packets_heard.specs.of_protocol_models.EoeClient as EoeClient
 use Rattle.packets_heard.specs.Numbers.{each_with}
 use Rattle.packets_heard.specs.Over.{packet_begun}
 use Rattle.packets_heard.specs.Servings.{served_begun}
@@ -26,11 +26,11 @@ use Rattle.run_record.proofs.ServedReports.{turn_by}
 use Rattle.run_record.specs.Mails.{mail_begun, served_mails}
 use Rattle.run_record.specs.Forwarded.{PacketsNoted}
 use Rattle.run_record.specs.Served.{ServeTo}
-use Rattle.run_notes.specs.of_run_frames.ScriptAnswers.{turned}
-use Rattle.run_notes.specs.of_run_frames.Came.{is_beside}
-use Rattle.run_notes.specs.of_run_frames.Steps.{TurnsBy}
-use Rattle.segment_plan.specs.declared.plan.Scenario.{Scenario}
-use Rattle.master_node.specs.of_life_runs.Served.{AllServedTurn, IsServedFrame, IsServedLed, Serves, ServedTurn}
+use Rattle.served_places.specs.of_run_frames.ScriptAnswers.{turned}
+use Rattle.served_places.specs.of_run_frames.Came.{is_beside}
+use Rattle.served_places.specs.of_run_frames.Steps.{TurnsBy}
+use Rattle.packets_heard.specs.of_segment_plan.declared.plan.Scenario.{Scenario}
+use Rattle.served_places.specs.of_life_runs.Served.{AllServedTurn, IsServedFrame, IsServedLed, Serves, ServedTurn}
 
 all_by : (lens : ℕ → Lens) (made : ℕ) (ds : List Raw.Datagram) (ws : List Serves) (vs : List ServedTurn) → AllServedTurn lens made ds ws vs → AllBoth (λ a u. TurnsBy lens made a u) (map run_lead ws) (map run_turn vs)
 all_by lens made ds [] [] t = tt

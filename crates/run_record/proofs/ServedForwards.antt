@@ -2,38 +2,38 @@
 use Rattle.std.proofs.Common.{◌≡◌, ℕ, suc, Option, None, List, [], ◌∷◌, ◌++◌, map, length, refl, sym, ap, subst, ◌∙◌, append_assoc}
 use Rattle.std.proofs.lemmas.List.{map-append}
 use Rattle.arrayvec.specs.ArrayVec.{ArrayVec}
-use Rattle.eoe_switch.specs.Switch.{Switched, switched}
-use Rattle.eoe_switch.specs.declared.switching.SwitchEvent.{SwitchEvent}
-use Rattle.master_node.proofs.OnFrames.{served_way}
-use Rattle.master_node.specs.Arrivals.{completed_at, ComeIn}
-use Rattle.master_node.specs.Begins.{PacketsBegin}
-use Rattle.master_node.specs.Brought.{HasBrought}
-use Rattle.master_node.specs.Downs.{GoDown}
-use Rattle.master_node.specs.Eager.{recalls}
-use Rattle.master_node.specs.Happened.{HappensSo, HasHappened, events_of}
-use Rattle.master_node.specs.Joined.{HasUnfinished, IsUnfinished, JoinsKept, stand_before, stand_under, unfinished_after}
-use Rattle.master_node.specs.Made.{AreOfMaking}
-use Rattle.master_node.specs.Origins.{forwards_at}
-use Rattle.master_node.specs.Ports.{ports_behind, ports_of}
-use Rattle.master_node.specs.Rooms.{area_at}
-use Rattle.master_node.specs.ServedEager.{AllServedAsk, AllServedRecall}
-use Rattle.master_node.specs.Serving.{ServedUnder, run_lead, run_turn}
-use Rattle.master_node.specs.Shows.{IsUnderWay, is_live_lead}
-use Rattle.master_node.specs.Toured.{tour_of}
-use Rattle.master_node.specs.Touring.{IsServedVisit}
-use Rattle.master_node.specs.declared.happened.Happening.{Happening}
-use Rattle.master_node.specs.declared.node.MasterNode.{MasterNode}
-use Rattle.master_node.specs.of_frame_view.Seen.{seen}
-use Rattle.master_node.specs.of_frame_view.View.{Lens}
-use Rattle.master_node.specs.of_frame_view.Shares.{AllThree}
-use Rattle.master_node.specs.of_life_runs.First.{first_leads, lens_of}
-use Rattle.master_node.specs.of_life_runs.Led.{Exchanged, Leads, Turn, gives_up_at}
-use Rattle.master_node.specs.of_master_hand.declared.hand.InHand.{InHand}
-use Rattle.master_node.specs.of_master_side.declared.hand.Hand.{Ghosts}
-use Rattle.master_node.specs.of_master_tour.Goes.{holds_at}
-use Rattle.master_node.specs.of_master_tour.Sizes.{frame_size}
-use Rattle.master_node.specs.of_master_tour.declared.stop.Stop.{Stop}
-use Rattle.master_node.specs.of_segment_model.Returned.{Returns}
+use Rattle.packets_heard.specs.of_eoe_switch.Switch.{Switched, switched}
+use Rattle.packets_heard.specs.of_eoe_switch.declared.switching.SwitchEvent.{SwitchEvent}
+use Rattle.packets_heard.proofs.of_master_node.OnFrames.{served_way}
+use Rattle.packets_heard.specs.of_master_node.Arrivals.{completed_at, ComeIn}
+use Rattle.packets_heard.specs.of_master_node.Begins.{PacketsBegin}
+use Rattle.packets_heard.specs.of_master_node.Brought.{HasBrought}
+use Rattle.packets_heard.specs.of_master_node.Downs.{GoDown}
+use Rattle.packets_heard.specs.of_master_node.Eager.{recalls}
+use Rattle.packets_heard.specs.of_master_node.Happened.{HappensSo, HasHappened, events_of}
+use Rattle.packets_heard.specs.of_master_node.Joined.{HasUnfinished, IsUnfinished, JoinsKept, stand_before, stand_under, unfinished_after}
+use Rattle.packets_heard.specs.of_master_node.Made.{AreOfMaking}
+use Rattle.packets_heard.specs.of_master_node.Origins.{forwards_at}
+use Rattle.packets_heard.specs.of_master_node.Ports.{ports_behind, ports_of}
+use Rattle.packets_heard.specs.of_master_node.Rooms.{area_at}
+use Rattle.packets_heard.specs.of_master_node.ServedEager.{AllServedAsk, AllServedRecall}
+use Rattle.packets_heard.specs.of_master_node.Serving.{ServedUnder, run_lead, run_turn}
+use Rattle.packets_heard.specs.of_master_node.Shows.{IsUnderWay, is_live_lead}
+use Rattle.packets_heard.specs.of_master_node.Toured.{tour_of}
+use Rattle.packets_heard.specs.of_master_node.Touring.{IsServedVisit}
+use Rattle.packets_heard.specs.of_master_node.declared.happened.Happening.{Happening}
+use Rattle.packets_heard.specs.of_master_node.declared.node.MasterNode.{MasterNode}
+use Rattle.plan_ring.specs.of_frame_view.Seen.{seen}
+use Rattle.plan_ring.specs.of_frame_view.View.{Lens}
+use Rattle.plan_ring.specs.of_frame_view.Shares.{AllThree}
+use Rattle.served_places.specs.of_life_runs.First.{first_leads, lens_of}
+use Rattle.served_places.specs.of_life_runs.Led.{Exchanged, Leads, Turn, gives_up_at}
+use Rattle.served_places.specs.of_master_hand.declared.hand.InHand.{InHand}
+use Rattle.served_places.specs.of_master_side.declared.hand.Hand.{Ghosts}
+use Rattle.served_places.specs.of_master_tour.Goes.{holds_at}
+use Rattle.served_places.specs.of_master_tour.Sizes.{frame_size}
+use Rattle.served_places.specs.of_master_tour.declared.stop.Stop.{Stop}
+use Rattle.served_places.specs.of_segment_model.Returned.{Returns}
 use Rattle.packets_heard.proofs.Carries.{carries_all, events_making, serves_asked}
 use Rattle.packets_heard.proofs.PacketsRuns.{begun_on}
 use Rattle.packets_heard.proofs.Steps.{at_switch, before_is, made_is}
@@ -48,9 +48,9 @@ use Rattle.run_record.proofs.Leads.{none_unfinished}
 use Rattle.run_record.proofs.ServedGaves.{serve_leads}
 use Rattle.run_record.specs.Served.{IsServedForwarded, ServeTo}
 use Rattle.run_record.specs.Session.{FrameEvents, numbers_over}
-use Rattle.segment_plan.specs.declared.plan.Scenario.{Scenario}
-use Rattle.segment_ring.specs.declared.wire.Fate.TheVariants as Fates
-use Rattle.master_node.specs.of_life_runs.Served.{Keyed, Serves, ServedTurn, IsServedFrame, IsServedLed, MayAsk, all_serve, asked_at, served_behind}
+use Rattle.packets_heard.specs.of_segment_plan.declared.plan.Scenario.{Scenario}
+use Rattle.served_places.specs.of_segment_ring.declared.wire.Fate.TheVariants as Fates
+use Rattle.served_places.specs.of_life_runs.Served.{Keyed, Serves, ServedTurn, IsServedFrame, IsServedLed, MayAsk, all_serve, asked_at, served_behind}
 
 -- as many slaves
 pub as_many : {G : Ghosts InHand} (us : List Turn) (js : List Joined) (ss : List (Stop InHand G)) → AllThree (λ l j s. IsUnfinished l s.side.hand.found.join j) (map stand_under us) (unfinished_of js) ss → length js ≡ length us

@@ -1,36 +1,36 @@
 -- HOW OFTEN EACH SLAVE OF A SERVING WAS GIVEN UP, as its lives have it and as it is noted; so some slave is live where not all is at rest.
 use Rattle.std.proofs.Common.{◌≡◌, ◌⊎◌, ℕ, Bool, true, false, List, [], ◌∷◌, map, length, refl, sym, ap, ◌∙◌, subst}
-use Rattle.datagrams.specs.Datagram as Raw
-use Rattle.master_node.specs.Serving.{IsServed, ServedShows, run_lead}
-use Rattle.master_node.specs.Shows.{IsLived, lived_of}
-use Rattle.master_node.specs.Told.{HasLives}
-use Rattle.master_node.specs.Wants.{AllCounted, IsCounted, gave_of}
-use Rattle.master_node.specs.declared.node.MasterNode.{MasterNode}
-use Rattle.master_node.specs.declared.post.Post.{Post}
-use Rattle.master_node.specs.of_frame_view.Seen.{seen}
-use Rattle.master_node.specs.of_frame_view.View.{Lens}
-use Rattle.master_node.specs.of_frame_view.Shares.{AllBoth, AllThree, came_at}
-use Rattle.master_node.specs.of_life_model.Lives.{Life, Stand, life_lost}
-use Rattle.master_node.specs.of_life_runs.First.{first_leads, lens_of}
-use Rattle.master_node.specs.of_life_runs.Led.{Exchanged, IsLed, Leads, gives_up_at, speech_at}
-use Rattle.master_node.specs.of_master_duty.Reply.{Reply}
-use Rattle.master_node.specs.of_master_hand.Spoken.{Asked, acknowledged, is_followed, is_passed}
-use Rattle.master_node.specs.of_master_hand.declared.hand.InHand.{InHand}
-use Rattle.master_node.specs.of_master_side.Passing.{news_back, news_lost}
-use Rattle.master_node.specs.of_master_side.declared.hand.Hand.{Ghosts}
-use Rattle.master_node.specs.of_master_tour.declared.stop.Stop.{Stop}
-use Rattle.master_node.proofs.Counts.{Counted, back_counted, counted, given_by, lost_gave, lost_stand, next_stand}
-use Rattle.master_node.proofs.Servings.{leads_same}
+use Rattle.served_places.specs.of_datagrams.Datagram as Raw
+use Rattle.packets_heard.specs.of_master_node.Serving.{IsServed, ServedShows, run_lead}
+use Rattle.packets_heard.specs.of_master_node.Shows.{IsLived, lived_of}
+use Rattle.packets_heard.specs.of_master_node.Told.{HasLives}
+use Rattle.packets_heard.specs.of_master_node.Wants.{AllCounted, IsCounted, gave_of}
+use Rattle.packets_heard.specs.of_master_node.declared.node.MasterNode.{MasterNode}
+use Rattle.packets_heard.specs.of_master_node.declared.post.Post.{Post}
+use Rattle.plan_ring.specs.of_frame_view.Seen.{seen}
+use Rattle.plan_ring.specs.of_frame_view.View.{Lens}
+use Rattle.plan_ring.specs.of_frame_view.Shares.{AllBoth, AllThree, came_at}
+use Rattle.served_places.specs.of_life_model.Lives.{Life, Stand, life_lost}
+use Rattle.served_places.specs.of_life_runs.First.{first_leads, lens_of}
+use Rattle.served_places.specs.of_life_runs.Led.{Exchanged, IsLed, Leads, gives_up_at, speech_at}
+use Rattle.served_places.specs.of_master_duty.Reply.{Reply}
+use Rattle.served_places.specs.of_master_hand.Spoken.{Asked, acknowledged, is_followed, is_passed}
+use Rattle.served_places.specs.of_master_hand.declared.hand.InHand.{InHand}
+use Rattle.served_places.specs.of_master_side.Passing.{news_back, news_lost}
+use Rattle.served_places.specs.of_master_side.declared.hand.Hand.{Ghosts}
+use Rattle.served_places.specs.of_master_tour.declared.stop.Stop.{Stop}
+use Rattle.packets_heard.proofs.of_master_node.Counts.{Counted, back_counted, counted, given_by, lost_gave, lost_stand, next_stand}
+use Rattle.packets_heard.proofs.of_master_node.Servings.{leads_same}
 use Rattle.run_notes.specs.Slaves.{gaves_noted}
 use Rattle.run_record.specs.Served.{ServeTo, ServedLeading}
 use Rattle.run_record.specs.Session.{SessionState, are_at_rest, has_live, session_rows}
 use Rattle.run_record.proofs.Ends.{some_lived}
 use Rattle.run_record.proofs.Noted.{GivesOne, lost_gives, next_gives, pass_gives}
-use Rattle.segment_plan.specs.declared.plan.Scenario.{Scenario}
-use Rattle.segment_ring.specs.declared.wire.Fate.{Fate}
-use Rattle.segment_ring.specs.declared.wire.Fate.TheVariants as Fates
-use Rattle.master_node.specs.of_life_runs.Served.{Serves, ServedTurn, AllServedTurn, IsServedLed, IsServedTurn, all_serve, served_behind, served_life}
-use Rattle.slave_node.specs.of_link_mails.Body.{Body}
+use Rattle.packets_heard.specs.of_segment_plan.declared.plan.Scenario.{Scenario}
+use Rattle.served_places.specs.of_segment_ring.declared.wire.Fate.{Fate}
+use Rattle.served_places.specs.of_segment_ring.declared.wire.Fate.TheVariants as Fates
+use Rattle.served_places.specs.of_life_runs.Served.{Serves, ServedTurn, AllServedTurn, IsServedLed, IsServedTurn, all_serve, served_behind, served_life}
+use Rattle.served_places.specs.of_link_mails.Body.{Body}
 
 -- ---- what is known of each life at its stop
 

@@ -2,51 +2,51 @@
 use Rattle.std.proofs.Common.{◌≡◌, ◌==◌, ◌≤◌, ℕ, Bool, true, false, Option, Some, None, List, [], ◌∷◌, ◌++◌, length, length-append, map, refl, sym, ap, ◌∙◌, subst, append-nil, arith}
 use Rattle.std.specs.Prelude.{◌&&◌, is_some, nat_lt, nat_le, if◌then◌else◌, not}
 use Rattle.std.proofs.lemmas.Bool.{eq-eqb, eqb-true, leb-true}
-use Rattle.datagrams.specs.Datagram as Raw
-use Rattle.datagrams.specs.Frame.{IsFrame, chained}
-use Rattle.master_node.proofs.Counts.{lost_gave, next_stand}
-use Rattle.master_node.proofs.Handeds.{comes_own, lost_on}
-use Rattle.master_node.proofs.ServedJoins.{holds_map}
-use Rattle.master_node.proofs.Serveds.{unread_behind}
-use Rattle.master_node.specs.Backtold.{has_packet, known_at, returned_told}
-use Rattle.master_node.specs.Begins.{begun_of}
-use Rattle.master_node.specs.Eager.{recalls}
-use Rattle.master_node.specs.Events.{oldest_in}
-use Rattle.master_node.specs.Serving.{IsServedUnder, run_lead, run_turn}
-use Rattle.master_node.specs.declared.event.Event.{Event}
-use Rattle.master_node.specs.declared.event.Origin.TheVariants.{Forward, Gateway, Script}
-use Rattle.master_node.specs.declared.event.Origin.{Origin}
-use Rattle.master_node.specs.declared.node.MasterNode.{MasterNode}
-use Rattle.master_node.specs.declared.post.Post.{Post}
-use Rattle.master_node.specs.of_frame_view.Seen.{seen}
-use Rattle.master_node.specs.of_frame_view.View.{Lens}
-use Rattle.master_node.specs.of_frame_view.Shares.{Lived, came_at, given_where}
-use Rattle.master_node.specs.of_frame_view.of_exchange_model.Areas.{Areas}
-use Rattle.master_node.specs.of_life_model.Lives.{Life, Stand, life_lost, reopening}
-use Rattle.master_node.specs.of_life_runs.First.{lens_of}
-use Rattle.master_node.specs.of_life_runs.Led.{Comes as OwnComes, Exchanged, Leads, Turn, gives_up_at, speech_at}
-use Rattle.master_node.specs.of_life_runs.Spans.{is_open}
-use Rattle.master_node.specs.of_life_runs.of_link_mails.Body.{Body}
-use Rattle.master_node.specs.of_life_runs.of_segment_plan.declared.service.Service as Plan
-use Rattle.master_node.specs.of_master_duty.Reply.{Reply}
-use Rattle.master_node.specs.of_master_duty.of_state_model.Stated.{Service}
-use Rattle.master_node.specs.of_master_hand.Shown.{knows}
-use Rattle.master_node.specs.of_master_hand.Spoken.{Asked, acknowledged, drive, file, is_followed, is_passed, net, passed, sdo}
-use Rattle.master_node.specs.of_master_hand.declared.hand.InHand.{InHand}
-use Rattle.master_node.specs.of_master_side.Passing.{news_back, news_lost, passing_behind}
-use Rattle.master_node.specs.of_master_side.declared.hand.Hand.{Ghosts}
-use Rattle.master_node.specs.of_master_tour.Brings.{accepted_in}
-use Rattle.master_node.specs.of_master_tour.Goes.{holds_at}
-use Rattle.master_node.specs.of_master_tour.declared.stop.Stop.{Stop}
-use Rattle.master_node.specs.of_segment_model.Ends.{Passing}
-use Rattle.master_node.specs.of_segment_model.Record.{News}
-use Rattle.master_node.specs.of_segment_model.Returned.{Returns}
-use Rattle.master_node.specs.of_segment_model.Slaves.{Found}
-use Rattle.master_node.specs.of_state_model.Accounts.{is_free}
+use Rattle.served_places.specs.of_datagrams.Datagram as Raw
+use Rattle.served_places.specs.of_datagrams.Frame.{IsFrame, chained}
+use Rattle.packets_heard.proofs.of_master_node.Counts.{lost_gave, next_stand}
+use Rattle.packets_heard.proofs.of_master_node.Handeds.{comes_own, lost_on}
+use Rattle.packets_heard.proofs.of_master_node.ServedJoins.{holds_map}
+use Rattle.packets_heard.proofs.of_master_node.Serveds.{unread_behind}
+use Rattle.packets_heard.specs.of_master_node.Backtold.{has_packet, known_at, returned_told}
+use Rattle.packets_heard.specs.of_master_node.Begins.{begun_of}
+use Rattle.packets_heard.specs.of_master_node.Eager.{recalls}
+use Rattle.packets_heard.specs.of_master_node.Events.{oldest_in}
+use Rattle.packets_heard.specs.of_master_node.Serving.{IsServedUnder, run_lead, run_turn}
+use Rattle.packets_heard.specs.of_master_node.declared.event.Event.{Event}
+use Rattle.packets_heard.specs.of_master_node.declared.event.Origin.TheVariants.{Forward, Gateway, Script}
+use Rattle.packets_heard.specs.of_master_node.declared.event.Origin.{Origin}
+use Rattle.packets_heard.specs.of_master_node.declared.node.MasterNode.{MasterNode}
+use Rattle.packets_heard.specs.of_master_node.declared.post.Post.{Post}
+use Rattle.plan_ring.specs.of_frame_view.Seen.{seen}
+use Rattle.plan_ring.specs.of_frame_view.View.{Lens}
+use Rattle.plan_ring.specs.of_frame_view.Shares.{Lived, came_at, given_where}
+use Rattle.served_places.specs.of_exchange_model.Areas.{Areas}
+use Rattle.served_places.specs.of_life_model.Lives.{Life, Stand, life_lost, reopening}
+use Rattle.served_places.specs.of_life_runs.First.{lens_of}
+use Rattle.served_places.specs.of_life_runs.Led.{Comes as OwnComes, Exchanged, Leads, Turn, gives_up_at, speech_at}
+use Rattle.served_places.specs.of_life_runs.Spans.{is_open}
+use Rattle.served_places.specs.of_link_mails.Body.{Body}
+use Rattle.packets_heard.specs.of_segment_plan.declared.service.Service as Plan
+use Rattle.served_places.specs.of_master_duty.Reply.{Reply}
+use Rattle.served_places.specs.of_state_model.Stated.{Service}
+use Rattle.served_places.specs.of_master_hand.Shown.{knows}
+use Rattle.served_places.specs.of_master_hand.Spoken.{Asked, acknowledged, drive, file, is_followed, is_passed, net, passed, sdo}
+use Rattle.served_places.specs.of_master_hand.declared.hand.InHand.{InHand}
+use Rattle.served_places.specs.of_master_side.Passing.{news_back, news_lost, passing_behind}
+use Rattle.served_places.specs.of_master_side.declared.hand.Hand.{Ghosts}
+use Rattle.served_places.specs.of_master_tour.Brings.{accepted_in}
+use Rattle.served_places.specs.of_master_tour.Goes.{holds_at}
+use Rattle.served_places.specs.of_master_tour.declared.stop.Stop.{Stop}
+use Rattle.served_places.specs.of_segment_model.Ends.{Passing}
+use Rattle.served_places.specs.of_segment_model.Record.{News}
+use Rattle.served_places.specs.of_segment_model.Returned.{Returns}
+use Rattle.served_places.specs.of_segment_model.Slaves.{Found}
+use Rattle.served_places.specs.of_state_model.Accounts.{is_free}
 use Rattle.packets_heard.specs.Numbers.{each_with}
 use Rattle.packets_heard.specs.Over.{packet_begun}
 use Rattle.packets_heard.specs.Servings.{served_begun}
-use Rattle.run_book.specs.declared.book.Begun.{Begun}
+use Rattle.run_notes.specs.of_run_book.declared.book.Begun.{Begun}
 use Rattle.run_notes.proofs.Packets.{with_append}
 use Rattle.run_notes.specs.Handed.{AllHanded, IsHanded, is_mail, kinds_in}
 use Rattle.run_notes.specs.Packets.{mail_row, numbered_from, packet_row, rows_with}
@@ -59,13 +59,13 @@ use Rattle.run_record.proofs.ServedNotes.{GoesOver, IsTurnNoted, Known, all_note
 use Rattle.run_record.specs.Mails.{has_passing, mail_begun, mail_over, overs_behind, passing_at, passing_before, served_mails, served_overs}
 use Rattle.run_record.specs.Served.{ServeTo}
 use Rattle.run_record.specs.Written.{has_fragments}
-use Rattle.segment_plan.specs.declared.plan.Scenario.{Scenario}
-use Rattle.segment_ring.specs.declared.wire.Fate.TheVariants as Fates
-use Rattle.segment_ring.specs.declared.wire.Fate.{Fate}
+use Rattle.packets_heard.specs.of_segment_plan.declared.plan.Scenario.{Scenario}
+use Rattle.served_places.specs.of_segment_ring.declared.wire.Fate.TheVariants as Fates
+use Rattle.served_places.specs.of_segment_ring.declared.wire.Fate.{Fate}
 use Rattle.served_places.proofs.Next.{next_free, next_open, next_passing}
 use Rattle.served_places.proofs.Unread.{unread_passing}
-use Rattle.master_node.specs.of_life_runs.Served.{IsServedFrame, IsServedTurn, Keyed, ServedComes, ServedTurn, Serves, served_life}
-use Rattle.master_node.specs.of_life_runs.Told.{Passed}
+use Rattle.served_places.specs.of_life_runs.Served.{IsServedFrame, IsServedTurn, Keyed, ServedComes, ServedTurn, Serves, served_life}
+use Rattle.served_places.specs.of_life_runs.Told.{Passed}
 
 pub cancel : {X : Type 0} (xs ys zs : List X) → xs ++ ys ≡ xs ++ zs → ys ≡ zs
 cancel [] ys zs e = e

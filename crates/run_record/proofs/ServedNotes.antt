@@ -1,37 +1,37 @@
 -- WHAT IS NOTED OF ROWS BESIDE THE SCRIPTS over a serving goes with the lives of its slaves: their answers, and whether one is in hand; by one kind of rows.
 use Rattle.std.proofs.Common.{◌≡◌, ◌==◌, ◌<◌, ◌+◌, ℕ, zero, suc, Bool, true, false, Option, Some, None, List, [], ◌∷◌, ◌++◌, length, map, refl, sym, ap, ◌∙◌, subst, arith}
 use Rattle.std.specs.Prelude.{◌&&◌, if◌then◌else◌, slice_get}
-use Rattle.datagrams.specs.Datagram as Raw
-use Rattle.master_node.specs.Backtold.{known_at, returned_at, returned_told}
-use Rattle.master_node.specs.Begins.{begun_of}
-use Rattle.master_node.specs.Eager.{recalls}
-use Rattle.master_node.specs.Events.{oldest_in}
-use Rattle.master_node.specs.Lifetold.{lost_at}
-use Rattle.master_node.specs.Listing.{events_in, told_in}
-use Rattle.master_node.specs.Serving.{IsServedUnder, ServedUnder, run_lead, run_turn}
-use Rattle.master_node.specs.Wants.{gave_of}
-use Rattle.master_node.specs.declared.event.Event.{Event}
-use Rattle.master_node.specs.declared.event.Origin.{Origin}
-use Rattle.master_node.specs.declared.node.MasterNode.{MasterNode}
-use Rattle.master_node.specs.declared.post.Post.{Post}
-use Rattle.master_node.specs.of_frame_view.Seen.{seen}
-use Rattle.master_node.specs.of_frame_view.View.{Lens}
-use Rattle.master_node.specs.of_frame_view.Shares.{AllThree, Lived}
-use Rattle.master_node.specs.of_life_model.Lives.{Life}
-use Rattle.master_node.specs.of_life_runs.First.{first_leads, lens_of}
-use Rattle.master_node.specs.of_life_runs.Led.{Exchanged, Leads, Turn, gives_up_at, missed_behind, speech_at}
-use Rattle.master_node.specs.of_life_runs.of_link_mails.Body.{Body}
-use Rattle.master_node.specs.of_life_runs.of_segment_plan.declared.service.Service as Plan
-use Rattle.master_node.specs.of_master_duty.Reply.{Reply}
-use Rattle.master_node.specs.of_master_duty.of_state_model.Stated.{Service}
-use Rattle.master_node.specs.of_master_hand.Spoken.{Asked}
-use Rattle.master_node.specs.of_master_hand.declared.hand.InHand.{InHand}
-use Rattle.master_node.specs.of_master_side.declared.hand.Hand.{Ghosts}
-use Rattle.master_node.specs.of_master_tour.Brings.{accepted_in}
-use Rattle.master_node.specs.of_master_tour.Goes.{holds_at}
-use Rattle.master_node.specs.of_master_tour.Made.{is_in}
-use Rattle.master_node.specs.of_master_tour.declared.stop.Stop.{Stop}
-use Rattle.master_node.specs.of_segment_model.Returned.{Returns}
+use Rattle.served_places.specs.of_datagrams.Datagram as Raw
+use Rattle.packets_heard.specs.of_master_node.Backtold.{known_at, returned_at, returned_told}
+use Rattle.packets_heard.specs.of_master_node.Begins.{begun_of}
+use Rattle.packets_heard.specs.of_master_node.Eager.{recalls}
+use Rattle.packets_heard.specs.of_master_node.Events.{oldest_in}
+use Rattle.packets_heard.specs.of_master_node.Lifetold.{lost_at}
+use Rattle.packets_heard.specs.of_master_node.Listing.{events_in, told_in}
+use Rattle.packets_heard.specs.of_master_node.Serving.{IsServedUnder, ServedUnder, run_lead, run_turn}
+use Rattle.packets_heard.specs.of_master_node.Wants.{gave_of}
+use Rattle.packets_heard.specs.of_master_node.declared.event.Event.{Event}
+use Rattle.packets_heard.specs.of_master_node.declared.event.Origin.{Origin}
+use Rattle.packets_heard.specs.of_master_node.declared.node.MasterNode.{MasterNode}
+use Rattle.packets_heard.specs.of_master_node.declared.post.Post.{Post}
+use Rattle.plan_ring.specs.of_frame_view.Seen.{seen}
+use Rattle.plan_ring.specs.of_frame_view.View.{Lens}
+use Rattle.plan_ring.specs.of_frame_view.Shares.{AllThree, Lived}
+use Rattle.served_places.specs.of_life_model.Lives.{Life}
+use Rattle.served_places.specs.of_life_runs.First.{first_leads, lens_of}
+use Rattle.served_places.specs.of_life_runs.Led.{Exchanged, Leads, Turn, gives_up_at, missed_behind, speech_at}
+use Rattle.served_places.specs.of_link_mails.Body.{Body}
+use Rattle.packets_heard.specs.of_segment_plan.declared.service.Service as Plan
+use Rattle.served_places.specs.of_master_duty.Reply.{Reply}
+use Rattle.served_places.specs.of_state_model.Stated.{Service}
+use Rattle.served_places.specs.of_master_hand.Spoken.{Asked}
+use Rattle.served_places.specs.of_master_hand.declared.hand.InHand.{InHand}
+use Rattle.served_places.specs.of_master_side.declared.hand.Hand.{Ghosts}
+use Rattle.served_places.specs.of_master_tour.Brings.{accepted_in}
+use Rattle.served_places.specs.of_master_tour.Goes.{holds_at}
+use Rattle.served_places.specs.of_master_tour.Made.{is_in}
+use Rattle.served_places.specs.of_master_tour.declared.stop.Stop.{Stop}
+use Rattle.served_places.specs.of_segment_model.Returned.{Returns}
 use Rattle.packets_heard.specs.Numbers.{each_with}
 use Rattle.packets_heard.specs.Over.{packet_begun}
 use Rattle.packets_heard.specs.Servings.{served_begun}
@@ -50,12 +50,12 @@ use Rattle.run_record.proofs.ServedGaves.{one_gives}
 use Rattle.run_record.specs.Forwarded.{PacketsNoted}
 use Rattle.run_record.specs.Mails.{mail_begun, overs_behind, served_mails}
 use Rattle.run_record.specs.Served.{ServeTo, events_behind}
-use Rattle.run_notes.specs.of_run_frames.ScriptAnswers.{turned}
-use Rattle.segment_plan.specs.declared.plan.Scenario.{Scenario}
-use Rattle.segment_plan.specs.declared.slave.SlaveSpec.{SlaveSpec}
-use Rattle.segment_ring.specs.declared.wire.Fate.TheVariants as Fates
-use Rattle.segment_ring.specs.declared.wire.Fate.{Fate}
-use Rattle.master_node.specs.of_life_runs.Served.{AllServedTurn, IsServedFrame, IsServedLed, IsServedTurn, ServedTurn, Serves, all_serve, served_behind, served_life}
+use Rattle.served_places.specs.of_run_frames.ScriptAnswers.{turned}
+use Rattle.packets_heard.specs.of_segment_plan.declared.plan.Scenario.{Scenario}
+use Rattle.packets_heard.specs.of_segment_plan.declared.slave.SlaveSpec.{SlaveSpec}
+use Rattle.served_places.specs.of_segment_ring.declared.wire.Fate.TheVariants as Fates
+use Rattle.served_places.specs.of_segment_ring.declared.wire.Fate.{Fate}
+use Rattle.served_places.specs.of_life_runs.Served.{AllServedTurn, IsServedFrame, IsServedLed, IsServedTurn, ServedTurn, Serves, all_serve, served_behind, served_life}
 
 -- ---- at a place
 

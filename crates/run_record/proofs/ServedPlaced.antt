@@ -1,21 +1,21 @@
 -- NO MORE OF A SCRIPT CAME INTO HAND than it has, over the frames of a serving.
 use Rattle.std.proofs.Common.{◌≤◌, ℕ, Bool, Option, Some, List, [], ◌∷◌, map, length, sym, subst}
-use Rattle.datagrams.specs.Datagram as Raw
-use Rattle.master_node.proofs.Counts.{one_placed, placed}
-use Rattle.master_node.proofs.Servings.{leads_same}
-use Rattle.master_node.specs.Serving.{run_lead}
-use Rattle.master_node.specs.Wants.{AllPlaced}
-use Rattle.master_node.specs.of_frame_view.View.{Lens}
-use Rattle.master_node.specs.of_life_runs.First.{first_leads, lens_of}
-use Rattle.master_node.specs.of_life_runs.Led.{Exchanged, IsLed, gives_up_at}
-use Rattle.master_node.specs.of_master_hand.Spoken.{Asked}
-use Rattle.master_node.specs.of_master_duty.of_state_model.Stated.{Service}
+use Rattle.served_places.specs.of_datagrams.Datagram as Raw
+use Rattle.packets_heard.proofs.of_master_node.Counts.{one_placed, placed}
+use Rattle.packets_heard.proofs.of_master_node.Servings.{leads_same}
+use Rattle.packets_heard.specs.of_master_node.Serving.{run_lead}
+use Rattle.packets_heard.specs.of_master_node.Wants.{AllPlaced}
+use Rattle.plan_ring.specs.of_frame_view.View.{Lens}
+use Rattle.served_places.specs.of_life_runs.First.{first_leads, lens_of}
+use Rattle.served_places.specs.of_life_runs.Led.{Exchanged, IsLed, gives_up_at}
+use Rattle.served_places.specs.of_master_hand.Spoken.{Asked}
+use Rattle.served_places.specs.of_state_model.Stated.{Service}
 use Rattle.run_record.proofs.ServedGaves.{serve_leads}
 use Rattle.run_record.specs.Served.{ServeTo}
-use Rattle.segment_plan.specs.declared.plan.Scenario.{Scenario}
-use Rattle.segment_plan.specs.declared.service.Service as Plan
-use Rattle.master_node.specs.of_life_runs.Served.{Keyed, Serves, ServedComes, ServedTurn, AllServedTurn, IsServedLed, served_behind}
-use Rattle.master_node.specs.of_life_runs.Told.{Passed}
+use Rattle.packets_heard.specs.of_segment_plan.declared.plan.Scenario.{Scenario}
+use Rattle.packets_heard.specs.of_segment_plan.declared.service.Service as Plan
+use Rattle.served_places.specs.of_life_runs.Served.{Keyed, Serves, ServedComes, ServedTurn, AllServedTurn, IsServedLed, served_behind}
+use Rattle.served_places.specs.of_life_runs.Told.{Passed}
 
 -- a mail that is passed on is none of the script
 comes_placed : (room : ℕ) (script : List Plan.Service) (waits : List Keyed) (hand : Option Passed) (n : ℕ) (b : Option (Service Asked)) (k : ℕ) (rest : List Keyed) (now : Option Passed) → ServedComes room script waits hand n b k rest now → n ≤ length script → k ≤ length script

@@ -1,25 +1,25 @@
 -- A serving's master makes no visit in vain, by what it remembers, frame by frame.
 use Rattle.std.proofs.Common.{◌≡◌, ℕ, Bool, true, false, List, [], ◌++◌, length, map, refl, sym, ap, ◌∙◌, subst}
 use Rattle.std.specs.Prelude.{nat_lt}
-use Rattle.eoe_switch.specs.declared.switching.SwitchEvent.{SwitchEvent}
-use Rattle.master_node.proofs.Restings.{serves_idle}
-use Rattle.master_node.specs.Eager.{AllTakeUp, recall_of, recalls}
-use Rattle.master_node.specs.Entering.{EntersFirst}
-use Rattle.master_node.specs.Happened.{events_of}
-use Rattle.master_node.specs.Recalled.{AllKnow}
-use Rattle.master_node.specs.ServedEager.{AllServedAsk, AllServedBegin, AllServedRecall, AllServedRest}
-use Rattle.master_node.specs.Serving.{ServedShows, ServedUnder, run_lead, run_turn}
-use Rattle.master_node.specs.Toured.{again_of, tour_of}
-use Rattle.master_node.specs.Touring.{IsServedVisit}
-use Rattle.master_node.specs.Wants.{AllCounted, gave_of}
-use Rattle.master_node.specs.declared.happened.Happening.{Happening}
-use Rattle.master_node.specs.declared.node.MasterNode.{MasterNode}
-use Rattle.master_node.specs.of_frame_view.Seen.{seen}
-use Rattle.master_node.specs.of_frame_view.View.{Lens}
-use Rattle.master_node.specs.of_life_runs.First.{first_leads, lens_of}
-use Rattle.master_node.specs.of_life_runs.Led.{Exchanged, Turn, gives_up_at}
-use Rattle.master_node.specs.of_master_tour.Toured.{Tour, new_tour}
-use Rattle.master_node.specs.of_segment_model.Returned.{Returns}
+use Rattle.packets_heard.specs.of_eoe_switch.declared.switching.SwitchEvent.{SwitchEvent}
+use Rattle.packets_heard.proofs.of_master_node.Restings.{serves_idle}
+use Rattle.packets_heard.specs.of_master_node.Eager.{AllTakeUp, recall_of, recalls}
+use Rattle.packets_heard.specs.of_master_node.Entering.{EntersFirst}
+use Rattle.packets_heard.specs.of_master_node.Happened.{events_of}
+use Rattle.packets_heard.specs.of_master_node.Recalled.{AllKnow}
+use Rattle.packets_heard.specs.of_master_node.ServedEager.{AllServedAsk, AllServedBegin, AllServedRecall, AllServedRest}
+use Rattle.packets_heard.specs.of_master_node.Serving.{ServedShows, ServedUnder, run_lead, run_turn}
+use Rattle.packets_heard.specs.of_master_node.Toured.{again_of, tour_of}
+use Rattle.packets_heard.specs.of_master_node.Touring.{IsServedVisit}
+use Rattle.packets_heard.specs.of_master_node.Wants.{AllCounted, gave_of}
+use Rattle.packets_heard.specs.of_master_node.declared.happened.Happening.{Happening}
+use Rattle.packets_heard.specs.of_master_node.declared.node.MasterNode.{MasterNode}
+use Rattle.plan_ring.specs.of_frame_view.Seen.{seen}
+use Rattle.plan_ring.specs.of_frame_view.View.{Lens}
+use Rattle.served_places.specs.of_life_runs.First.{first_leads, lens_of}
+use Rattle.served_places.specs.of_life_runs.Led.{Exchanged, Turn, gives_up_at}
+use Rattle.served_places.specs.of_master_tour.Toured.{Tour, new_tour}
+use Rattle.served_places.specs.of_segment_model.Returned.{Returns}
 use Rattle.packets_heard.proofs.RecalledQuiet.{quiet_served}
 use Rattle.packets_heard.specs.Recalled.{AllSettled, AtSwitch, IsLanOf, State, has_entered, stepped}
 use Rattle.packets_heard.specs.Served.{IsTourServed}
@@ -32,12 +32,12 @@ use Rattle.run_record.specs.Recalling.{state_of}
 use Rattle.run_record.specs.Replay.{first_ring}
 use Rattle.run_record.specs.Served.{IsServedForwarded, ServedTouredTo, ServeTo}
 use Rattle.run_record.specs.Session.{IsDone, SessionState}
-use Rattle.segment_plan.specs.declared.plan.Scenario.{Scenario}
-use Rattle.segment_ring.specs.Ring.{RingState, ring_behind}
-use Rattle.segment_ring.specs.declared.wire.Fate.TheVariants as Fates
-use Rattle.master_node.specs.of_life_runs.Served.{Keyed, Serves, ServedTurn, IsServedFrame, MayAsk, all_serve, asked_at, served_behind}
-use Rattle.slave_node.specs.Node.{Node, node_passed}
-use Rattle.slave_server.specs.declared.server.SlaveServer.{SlaveServer}
+use Rattle.packets_heard.specs.of_segment_plan.declared.plan.Scenario.{Scenario}
+use Rattle.served_places.specs.of_segment_ring.Ring.{RingState, ring_behind}
+use Rattle.served_places.specs.of_segment_ring.declared.wire.Fate.TheVariants as Fates
+use Rattle.served_places.specs.of_life_runs.Served.{Keyed, Serves, ServedTurn, IsServedFrame, MayAsk, all_serve, asked_at, served_behind}
+use Rattle.packets_heard.specs.of_slave_node.Node.{Node, node_passed}
+use Rattle.packets_heard.specs.of_slave_server.declared.server.SlaveServer.{SlaveServer}
 
 -- where a packet of the host comes in first one has come in
 first_enters : (rows : List Happening) → EntersFirst rows → has_entered (events_of rows) ≡ true

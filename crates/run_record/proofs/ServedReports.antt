@@ -1,37 +1,37 @@
 -- What is noted of a slave's services and epochs over a frame of a serving goes with its life, also while mails are passed on to it.
 use Rattle.std.proofs.Common.{◌≡◌, ℕ, suc, Bool, Option, Some, None, List, [], ◌∷◌, map, length, refl, sym, subst}
-use Rattle.datagrams.specs.Datagram as Raw
-use Rattle.master_node.proofs.Servings.{leads_same}
-use Rattle.master_node.specs.Serving.{IsServed, IsServedUnder, ServedShows, ServedUnder, run_lead, run_turn}
-use Rattle.master_node.specs.Told.{HasLeads, IsTold}
-use Rattle.master_node.specs.Wants.{AllCounted}
-use Rattle.master_node.specs.declared.node.MasterNode.{MasterNode}
-use Rattle.master_node.specs.declared.post.Post.{Post}
-use Rattle.master_node.specs.of_frame_view.Seen.{seen}
-use Rattle.master_node.specs.of_frame_view.View.{Lens}
-use Rattle.master_node.specs.of_frame_view.Shares.{AllBoth, AllThree}
-use Rattle.master_node.specs.of_life_runs.First.{first_leads, lens_of}
-use Rattle.master_node.specs.of_life_runs.Led.{Comes, Exchanged, Leads, gives_up_at}
-use Rattle.master_node.specs.of_master_hand.declared.hand.InHand.{InHand}
-use Rattle.master_node.specs.of_master_side.Passing.{news_back, news_lost}
-use Rattle.master_node.specs.of_master_side.declared.hand.Hand.{Ghosts}
-use Rattle.master_node.specs.of_master_tour.declared.stop.Stop.{Stop}
+use Rattle.served_places.specs.of_datagrams.Datagram as Raw
+use Rattle.packets_heard.proofs.of_master_node.Servings.{leads_same}
+use Rattle.packets_heard.specs.of_master_node.Serving.{IsServed, IsServedUnder, ServedShows, ServedUnder, run_lead, run_turn}
+use Rattle.packets_heard.specs.of_master_node.Told.{HasLeads, IsTold}
+use Rattle.packets_heard.specs.of_master_node.Wants.{AllCounted}
+use Rattle.packets_heard.specs.of_master_node.declared.node.MasterNode.{MasterNode}
+use Rattle.packets_heard.specs.of_master_node.declared.post.Post.{Post}
+use Rattle.plan_ring.specs.of_frame_view.Seen.{seen}
+use Rattle.plan_ring.specs.of_frame_view.View.{Lens}
+use Rattle.plan_ring.specs.of_frame_view.Shares.{AllBoth, AllThree}
+use Rattle.served_places.specs.of_life_runs.First.{first_leads, lens_of}
+use Rattle.served_places.specs.of_life_runs.Led.{Comes, Exchanged, Leads, gives_up_at}
+use Rattle.served_places.specs.of_master_hand.declared.hand.InHand.{InHand}
+use Rattle.served_places.specs.of_master_side.Passing.{news_back, news_lost}
+use Rattle.served_places.specs.of_master_side.declared.hand.Hand.{Ghosts}
+use Rattle.served_places.specs.of_master_tour.declared.stop.Stop.{Stop}
 use Rattle.run_notes.specs.Reports.{AllReport, ReportsBy}
 use Rattle.run_notes.specs.declared.standing.Log.{Log}
 use Rattle.run_record.proofs.Befores.{AllBefore, first_before, one_more}
 use Rattle.run_record.proofs.ServedGaves.{Behind, serve_leads}
 use Rattle.run_record.specs.Served.{ServeTo}
-use Rattle.run_notes.proofs.of_run_frames.Losses.{loses_so, passes_so}
-use Rattle.run_notes.proofs.of_run_frames.Turns.{turns_by}
-use Rattle.run_notes.specs.of_run_frames.ScriptAnswers.{turned}
-use Rattle.run_notes.specs.of_run_frames.Steps.{ComesBy, IsBefore, LosesSo, PassesSo, TurnsBy, TurnsSo}
-use Rattle.segment_plan.specs.declared.plan.Scenario.{Scenario}
-use Rattle.segment_ring.specs.declared.wire.Fate.{Fate}
-use Rattle.segment_ring.specs.declared.wire.Fate.TheVariants as Fates
-use Rattle.master_node.specs.of_master_duty.of_state_model.Stated.{Service}
-use Rattle.master_node.specs.of_master_hand.Spoken.{Asked}
-use Rattle.master_node.specs.of_life_runs.Told.{Passed}
-use Rattle.master_node.specs.of_life_runs.Served.{AllServedTurn, IsServedLed, IsServedTurn, Keyed, Serves, ServedComes, ServedTurn, served_life}
+use Rattle.served_places.proofs.of_run_frames.Losses.{loses_so, passes_so}
+use Rattle.served_places.proofs.of_run_frames.Turns.{turns_by}
+use Rattle.served_places.specs.of_run_frames.ScriptAnswers.{turned}
+use Rattle.served_places.specs.of_run_frames.Steps.{ComesBy, IsBefore, LosesSo, PassesSo, TurnsBy, TurnsSo}
+use Rattle.packets_heard.specs.of_segment_plan.declared.plan.Scenario.{Scenario}
+use Rattle.served_places.specs.of_segment_ring.declared.wire.Fate.{Fate}
+use Rattle.served_places.specs.of_segment_ring.declared.wire.Fate.TheVariants as Fates
+use Rattle.served_places.specs.of_state_model.Stated.{Service}
+use Rattle.served_places.specs.of_master_hand.Spoken.{Asked}
+use Rattle.served_places.specs.of_life_runs.Told.{Passed}
+use Rattle.served_places.specs.of_life_runs.Served.{AllServedTurn, IsServedLed, IsServedTurn, Keyed, Serves, ServedComes, ServedTurn, served_life}
 
 -- ---- what is known of each at its stop
 

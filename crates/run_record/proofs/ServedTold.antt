@@ -2,34 +2,34 @@
 use Rattle.std.proofs.Common.{◌≡◌, ℕ, zero, suc, Option, Some, None, List, [], ◌∷◌, ◌++◌, map, refl, sym, ap, ◌∙◌}
 use Rattle.std.specs.Prelude.{filter}
 use Rattle.std.proofs.lemmas.List.Elements.{filter-append}
-use Rattle.master_node.specs.Begins.{begun_of}
-use Rattle.master_node.specs.Besides.{given_told}
-use Rattle.master_node.specs.Events.{ServedBegin, begun_told, oldest_in, served_tells}
-use Rattle.master_node.specs.Gateways.{is_gateway, lives_told}
-use Rattle.master_node.specs.Lifetold.{lost_at, lost_told, told_at}
-use Rattle.master_node.specs.Listed.{listed}
-use Rattle.master_node.specs.Listing.{events_in, number_at, told_in}
-use Rattle.master_node.specs.Serving.{IsServedUnder, ServedUnder, run_lead, run_turn}
-use Rattle.master_node.specs.Shows.{is_carried}
-use Rattle.master_node.specs.declared.event.Event.{Event}
-use Rattle.master_node.specs.declared.node.MasterNode.{MasterNode}
-use Rattle.master_node.specs.declared.post.Post.{Post}
-use Rattle.master_node.specs.of_frame_view.Seen.{seen}
-use Rattle.master_node.specs.of_frame_view.View.{Lens}
-use Rattle.master_node.specs.of_frame_view.Shares.{AllThree}
-use Rattle.master_node.specs.of_life_runs.Led.{Exchanged}
-use Rattle.master_node.specs.of_master_duty.of_state_model.Stated.{Service}
-use Rattle.master_node.specs.of_master_hand.Spoken.{Asked}
-use Rattle.master_node.specs.of_master_hand.declared.hand.InHand.{InHand}
-use Rattle.master_node.specs.of_master_side.declared.hand.Hand.{Ghosts}
-use Rattle.master_node.specs.of_master_tour.Goes.{holds_at}
-use Rattle.master_node.specs.of_master_tour.Stands.{turned}
-use Rattle.master_node.specs.of_master_tour.declared.stop.Stop.{Stop}
-use Rattle.master_node.specs.of_master_tour.declared.stop.Turned.{Turned}
+use Rattle.packets_heard.specs.of_master_node.Begins.{begun_of}
+use Rattle.packets_heard.specs.of_master_node.Besides.{given_told}
+use Rattle.packets_heard.specs.of_master_node.Events.{ServedBegin, begun_told, oldest_in, served_tells}
+use Rattle.packets_heard.specs.of_master_node.Gateways.{is_gateway, lives_told}
+use Rattle.packets_heard.specs.of_master_node.Lifetold.{lost_at, lost_told, told_at}
+use Rattle.packets_heard.specs.of_master_node.Listed.{listed}
+use Rattle.packets_heard.specs.of_master_node.Listing.{events_in, number_at, told_in}
+use Rattle.packets_heard.specs.of_master_node.Serving.{IsServedUnder, ServedUnder, run_lead, run_turn}
+use Rattle.packets_heard.specs.of_master_node.Shows.{is_carried}
+use Rattle.packets_heard.specs.of_master_node.declared.event.Event.{Event}
+use Rattle.packets_heard.specs.of_master_node.declared.node.MasterNode.{MasterNode}
+use Rattle.packets_heard.specs.of_master_node.declared.post.Post.{Post}
+use Rattle.plan_ring.specs.of_frame_view.Seen.{seen}
+use Rattle.plan_ring.specs.of_frame_view.View.{Lens}
+use Rattle.plan_ring.specs.of_frame_view.Shares.{AllThree}
+use Rattle.served_places.specs.of_life_runs.Led.{Exchanged}
+use Rattle.served_places.specs.of_state_model.Stated.{Service}
+use Rattle.served_places.specs.of_master_hand.Spoken.{Asked}
+use Rattle.served_places.specs.of_master_hand.declared.hand.InHand.{InHand}
+use Rattle.served_places.specs.of_master_side.declared.hand.Hand.{Ghosts}
+use Rattle.served_places.specs.of_master_tour.Goes.{holds_at}
+use Rattle.served_places.specs.of_master_tour.Stands.{turned}
+use Rattle.served_places.specs.of_master_tour.declared.stop.Stop.{Stop}
+use Rattle.served_places.specs.of_master_tour.declared.stop.Turned.{Turned}
 use Rattle.run_record.specs.Served.{TellsFrame, told_behind}
-use Rattle.segment_ring.specs.declared.wire.Fate.{Fate}
-use Rattle.segment_ring.specs.declared.wire.Fate.TheVariants as Fates
-use Rattle.master_node.specs.of_life_runs.Served.{Serves, ServedTurn}
+use Rattle.served_places.specs.of_segment_ring.declared.wire.Fate.{Fate}
+use Rattle.served_places.specs.of_segment_ring.declared.wire.Fate.TheVariants as Fates
+use Rattle.served_places.specs.of_life_runs.Served.{Serves, ServedTurn}
 
 -- where all that is told of a slave gets known, all that is told of these does
 known_in : (tells : ℕ → List Event) → ((k : ℕ) → filter is_gateway (tells k) ≡ tells k) → (ps : List ℕ) → filter is_gateway (told_in tells ps) ≡ told_in tells ps

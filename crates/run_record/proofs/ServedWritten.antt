@@ -1,34 +1,34 @@
 -- A PACKET IN HAND of a slave of a serving: whether one is before a frame, by what came into hand, and what is noted of it over the frame.
 use Rattle.std.proofs.Common.{◌≡◌, ◌+◌, ℕ, suc, Bool, true, false, Option, Some, None, List, [], ◌∷◌, ◌++◌, length, map, refl, sym, ap, ◌∙◌, subst, append-nil, arith}
 use Rattle.std.specs.Prelude.{◌&&◌, if◌then◌else◌, nat_lt, slice_get}
-use Rattle.datagrams.specs.Datagram as Raw
-use Rattle.master_node.proofs.Counts.{next_stand}
-use Rattle.master_node.proofs.Newest.{Newest, newest}
-use Rattle.master_node.specs.Backtold.{known_at}
-use Rattle.master_node.specs.Begins.{is_other}
-use Rattle.master_node.specs.Eager.{recalls}
-use Rattle.master_node.specs.Events.{oldest_in}
-use Rattle.master_node.specs.Serving.{run_lead}
-use Rattle.master_node.specs.declared.node.MasterNode.{MasterNode}
-use Rattle.master_node.specs.of_frame_view.View.{Lens}
-use Rattle.master_node.specs.of_frame_view.of_exchange_model.Areas.{Areas}
-use Rattle.master_node.specs.of_frame_view.of_exchange_model.Exchange.{Speech}
-use Rattle.master_node.specs.of_life_model.Lives.{Life, Spot, Stand, life_next}
-use Rattle.master_node.specs.of_life_runs.First.{lens_of}
-use Rattle.master_node.specs.of_life_runs.Led.{Comes as OwnComes, Exchanged, Took, gives_up_at, speech_at}
-use Rattle.master_node.specs.of_life_runs.Spans.{is_open}
-use Rattle.master_node.specs.of_life_runs.of_link_mails.Body.{Body}
-use Rattle.master_node.specs.of_life_runs.of_segment_plan.declared.service.Service as Plan
-use Rattle.master_node.specs.of_master_duty.Reply.{Reply}
-use Rattle.master_node.specs.of_master_duty.of_state_model.Stated.{Service}
-use Rattle.master_node.specs.of_master_hand.Spoken.{Asked, acknowledged, drive, file, is_followed, is_passed, net, passed, sdo}
-use Rattle.master_node.specs.of_master_hand.Talk.{asked_of}
-use Rattle.master_node.specs.of_master_hand.of_protocol_models.EoeClient as EoeClient
-use Rattle.master_node.specs.of_state_model.Accounts.{Pick, starts}
+use Rattle.served_places.specs.of_datagrams.Datagram as Raw
+use Rattle.packets_heard.proofs.of_master_node.Counts.{next_stand}
+use Rattle.packets_heard.proofs.of_master_node.Newest.{Newest, newest}
+use Rattle.packets_heard.specs.of_master_node.Backtold.{known_at}
+use Rattle.packets_heard.specs.of_master_node.Begins.{is_other}
+use Rattle.packets_heard.specs.of_master_node.Eager.{recalls}
+use Rattle.packets_heard.specs.of_master_node.Events.{oldest_in}
+use Rattle.packets_heard.specs.of_master_node.Serving.{run_lead}
+use Rattle.packets_heard.specs.of_master_node.declared.node.MasterNode.{MasterNode}
+use Rattle.plan_ring.specs.of_frame_view.View.{Lens}
+use Rattle.served_places.specs.of_exchange_model.Areas.{Areas}
+use Rattle.served_places.specs.of_exchange_model.Exchange.{Speech}
+use Rattle.served_places.specs.of_life_model.Lives.{Life, Spot, Stand, life_next}
+use Rattle.served_places.specs.of_life_runs.First.{lens_of}
+use Rattle.served_places.specs.of_life_runs.Led.{Comes as OwnComes, Exchanged, Took, gives_up_at, speech_at}
+use Rattle.served_places.specs.of_life_runs.Spans.{is_open}
+use Rattle.served_places.specs.of_link_mails.Body.{Body}
+use Rattle.packets_heard.specs.of_segment_plan.declared.service.Service as Plan
+use Rattle.served_places.specs.of_master_duty.Reply.{Reply}
+use Rattle.served_places.specs.of_state_model.Stated.{Service}
+use Rattle.served_places.specs.of_master_hand.Spoken.{Asked, acknowledged, drive, file, is_followed, is_passed, net, passed, sdo}
+use Rattle.served_places.specs.of_master_hand.Talk.{asked_of}
+use Rattle.packets_heard.specs.of_protocol_models.EoeClient as EoeClient
+use Rattle.served_places.specs.of_state_model.Accounts.{Pick, starts}
 use Rattle.packets_heard.specs.Numbers.{each_with}
 use Rattle.packets_heard.specs.Over.{packet_begun, packet_of}
 use Rattle.packets_heard.specs.Servings.{served_begun}
-use Rattle.run_book.specs.declared.book.Answer.TheVariants.{InDoubt}
+use Rattle.run_notes.specs.of_run_book.declared.book.Answer.TheVariants.{InDoubt}
 use Rattle.run_notes.proofs.Packets.{with_append}
 use Rattle.run_notes.specs.Handed.{AllWhere, IsNotedWhere, is_packet, kinds_in, over_answer}
 use Rattle.run_notes.specs.Packets.{mail_row, numbered_from, packet_row, rows_with}
@@ -43,11 +43,11 @@ use Rattle.run_record.proofs.ServedNotes.{GoesOver, IsTurnNoted, Known, all_note
 use Rattle.run_record.specs.Mails.{mail_begun, served_mails}
 use Rattle.run_record.specs.Served.{ServeTo}
 use Rattle.run_record.specs.Written.{forwards_now, has_fragments, has_unwritten, packet_open, served_written}
-use Rattle.segment_plan.specs.declared.plan.Scenario.{Scenario}
-use Rattle.segment_ring.specs.declared.wire.Fate.TheVariants as Fates
+use Rattle.packets_heard.specs.of_segment_plan.declared.plan.Scenario.{Scenario}
+use Rattle.served_places.specs.of_segment_ring.declared.wire.Fate.TheVariants as Fates
 use Rattle.served_places.proofs.Next.{next_open}
-use Rattle.master_node.specs.of_life_runs.Served.{IsServedFrame, IsServedTurn, Keyed, ServedComes, ServedTurn, Serves, served_life}
-use Rattle.master_node.specs.of_life_runs.Told.{Passed}
+use Rattle.served_places.specs.of_life_runs.Served.{IsServedFrame, IsServedTurn, Keyed, ServedComes, ServedTurn, Serves, served_life}
+use Rattle.served_places.specs.of_life_runs.Told.{Passed}
 
 -- the rows of what came into hand, where that is a packet
 abbrev pub rows_came : ℕ → ℕ → Option (Service Asked) → List (ℕ × ℕ)

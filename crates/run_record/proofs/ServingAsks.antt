@@ -1,29 +1,29 @@
 -- A mail is asked of a slave of a serving, or none is, as its master has it.
 use Rattle.std.proofs.Common.{◌≡◌, ◌≢◌, ◌<◌, ℕ, zero, suc, Bool, true, false, List, [], ◌∷◌, ◌++◌, length, map, refl, sym, ap, ◌∙◌, subst}
 use Rattle.std.proofs.lemmas.List.{length-map}
-use Rattle.mailbox_mail.specs.declared.mail.Mail.{Mail}
-use Rattle.master_node.proofs.Servings.{keyed, leads_same}
-use Rattle.master_node.specs.Eager.{recall_of, recalls}
-use Rattle.master_node.specs.Happened.{events_of}
-use Rattle.master_node.specs.Lives.{waiting_at, waiting_of}
-use Rattle.master_node.specs.Numbered.{IsNumbered}
-use Rattle.master_node.specs.Origins.{forwards_at}
-use Rattle.master_node.specs.Recalled.{AllKnow}
-use Rattle.master_node.specs.Rooms.{FitAgain}
-use Rattle.master_node.specs.Serving.{FitsAt, IsAsked, IsServed, ServedShows, run_lead}
-use Rattle.master_node.specs.Shows.{GoesOn}
-use Rattle.master_node.specs.Toured.{tour_of}
-use Rattle.master_node.specs.Wants.{gave_of}
-use Rattle.master_node.specs.declared.node.MasterNode.{MasterNode}
-use Rattle.master_node.specs.declared.post.Post.{Post}
-use Rattle.master_node.specs.of_frame_view.View.{Lens}
-use Rattle.master_node.specs.of_frame_view.Shares.{AllBoth, AllThree}
-use Rattle.master_node.specs.of_life_runs.First.{lens_of}
-use Rattle.master_node.specs.of_life_runs.Led.{Exchanged, Leads}
-use Rattle.master_node.specs.of_master_hand.declared.hand.InHand.{InHand}
-use Rattle.master_node.specs.of_master_side.declared.hand.Hand.{Ghosts}
-use Rattle.master_node.specs.of_master_tour.Walks.{StepsAt}
-use Rattle.master_node.specs.of_master_tour.declared.stop.Stop.{Stop}
+use Rattle.plan_ring.specs.of_mailbox_mail.declared.mail.Mail.{Mail}
+use Rattle.packets_heard.proofs.of_master_node.Servings.{keyed, leads_same}
+use Rattle.packets_heard.specs.of_master_node.Eager.{recall_of, recalls}
+use Rattle.packets_heard.specs.of_master_node.Happened.{events_of}
+use Rattle.packets_heard.specs.of_master_node.Lives.{waiting_at, waiting_of}
+use Rattle.packets_heard.specs.of_master_node.Numbered.{IsNumbered}
+use Rattle.packets_heard.specs.of_master_node.Origins.{forwards_at}
+use Rattle.packets_heard.specs.of_master_node.Recalled.{AllKnow}
+use Rattle.packets_heard.specs.of_master_node.Rooms.{FitAgain}
+use Rattle.packets_heard.specs.of_master_node.Serving.{FitsAt, IsAsked, IsServed, ServedShows, run_lead}
+use Rattle.packets_heard.specs.of_master_node.Shows.{GoesOn}
+use Rattle.packets_heard.specs.of_master_node.Toured.{tour_of}
+use Rattle.packets_heard.specs.of_master_node.Wants.{gave_of}
+use Rattle.packets_heard.specs.of_master_node.declared.node.MasterNode.{MasterNode}
+use Rattle.packets_heard.specs.of_master_node.declared.post.Post.{Post}
+use Rattle.plan_ring.specs.of_frame_view.View.{Lens}
+use Rattle.plan_ring.specs.of_frame_view.Shares.{AllBoth, AllThree}
+use Rattle.served_places.specs.of_life_runs.First.{lens_of}
+use Rattle.served_places.specs.of_life_runs.Led.{Exchanged, Leads}
+use Rattle.served_places.specs.of_master_hand.declared.hand.InHand.{InHand}
+use Rattle.served_places.specs.of_master_side.declared.hand.Hand.{Ghosts}
+use Rattle.served_places.specs.of_master_tour.Walks.{StepsAt}
+use Rattle.served_places.specs.of_master_tour.declared.stop.Stop.{Stop}
 use Rattle.packets_heard.specs.Servings.{served_begun}
 use Rattle.run_notes.specs.Handed.{AllHanded, AllWhere, IsHanded, IsNotedWhere, is_packet}
 use Rattle.run_notes.specs.Heard.{emergencies_noted}
@@ -40,9 +40,9 @@ use Rattle.run_record.specs.Recalling.{state_of}
 use Rattle.run_record.specs.Served.{ServeTo, ServingAsks, as_asked}
 use Rattle.run_record.specs.Session.{SessionState, asked_mail, asked_more}
 use Rattle.run_record.specs.Written.{forwards_now, served_written}
-use Rattle.segment_plan.specs.declared.plan.Scenario.{Scenario}
+use Rattle.packets_heard.specs.of_segment_plan.declared.plan.Scenario.{Scenario}
 use Rattle.served_places.proofs.of_life_runs.First.{apart_from, have_lens}
-use Rattle.master_node.specs.of_life_runs.Served.{IsServedLed, Keyed, MayAsk, Serves, asked_at}
+use Rattle.served_places.specs.of_life_runs.Served.{IsServedLed, Keyed, MayAsk, Serves, asked_at}
 
 -- the mails that were asked of a slave, as the session has them, and how many wait for it
 abbrev pub mails_of : Serves → List AskedMail

@@ -1,44 +1,44 @@
 -- A serving goes on, frame by frame and mail by mail, as its master leads it.
 use Rattle.std.proofs.Common.{◌≡◌, ◌<◌, ◌^◌, ℕ, zero, suc, Bool, true, false, Some, None, List, [], ◌∷◌, ◌++◌, length, map, refl, sym, ap, ◌∙◌, subst, arith}
 use Rattle.std.specs.Prelude.{◌↔◌, replicate, slice_get}
-use Rattle.datagrams.specs.Datagram as Raw
-use Rattle.datagrams.specs.Frame.{chained}
+use Rattle.served_places.specs.of_datagrams.Datagram as Raw
+use Rattle.served_places.specs.of_datagrams.Frame.{chained}
 use Rattle.run_notes.specs.of_run_book.Heard.{AllNoted, emergencies_of, heard_none}
-use Rattle.master_node.proofs.OnFrames.{served_way}
-use Rattle.master_node.specs.Backtold.{known_at}
-use Rattle.master_node.specs.Eager.{recalls}
-use Rattle.master_node.specs.Events.{ServedBegin}
-use Rattle.master_node.specs.Happened.{HasHappened, events_of}
-use Rattle.master_node.specs.Joined.{HasUnfinished, stand_before}
-use Rattle.master_node.specs.Listed.{listed}
-use Rattle.master_node.specs.Listing.{events_in}
-use Rattle.master_node.specs.Lives.{waiting_of}
-use Rattle.master_node.specs.Origins.{forwards_at}
-use Rattle.master_node.specs.Ports.{ports_behind, ports_of}
-use Rattle.master_node.specs.Recalled.{AllKnow}
-use Rattle.master_node.specs.Serving.{ServedShows, ServedUnder, run_lead, run_turn}
-use Rattle.master_node.specs.Shows.{lived_of}
-use Rattle.master_node.specs.Told.{HasLives}
-use Rattle.master_node.specs.Toured.{tour_of}
-use Rattle.master_node.specs.Touring.{IsServedVisit}
-use Rattle.master_node.specs.Wants.{AllCounted, gave_of}
-use Rattle.master_node.specs.declared.node.MasterNode.{MasterNode}
-use Rattle.master_node.specs.declared.node.Next.TheVariants as nexts
-use Rattle.master_node.specs.declared.node.Next.{Next}
-use Rattle.master_node.specs.of_frame_view.Seen.{seen}
-use Rattle.master_node.specs.of_frame_view.View.{Lens}
-use Rattle.master_node.specs.of_frame_view.Shares.{AllBoth}
-use Rattle.master_node.specs.of_life_runs.First.{first_leads, leads_from, lens_of, script_for, spot_of}
-use Rattle.master_node.specs.of_life_runs.Led.{Exchanged, Leads, gives_up_at, missed_behind, new_leads}
-use Rattle.master_node.specs.of_master_tour.Toured.{Tour, new_tour}
-use Rattle.master_node.specs.of_segment_model.Returned.{Returns}
+use Rattle.packets_heard.proofs.of_master_node.OnFrames.{served_way}
+use Rattle.packets_heard.specs.of_master_node.Backtold.{known_at}
+use Rattle.packets_heard.specs.of_master_node.Eager.{recalls}
+use Rattle.packets_heard.specs.of_master_node.Events.{ServedBegin}
+use Rattle.packets_heard.specs.of_master_node.Happened.{HasHappened, events_of}
+use Rattle.packets_heard.specs.of_master_node.Joined.{HasUnfinished, stand_before}
+use Rattle.packets_heard.specs.of_master_node.Listed.{listed}
+use Rattle.packets_heard.specs.of_master_node.Listing.{events_in}
+use Rattle.packets_heard.specs.of_master_node.Lives.{waiting_of}
+use Rattle.packets_heard.specs.of_master_node.Origins.{forwards_at}
+use Rattle.packets_heard.specs.of_master_node.Ports.{ports_behind, ports_of}
+use Rattle.packets_heard.specs.of_master_node.Recalled.{AllKnow}
+use Rattle.packets_heard.specs.of_master_node.Serving.{ServedShows, ServedUnder, run_lead, run_turn}
+use Rattle.packets_heard.specs.of_master_node.Shows.{lived_of}
+use Rattle.packets_heard.specs.of_master_node.Told.{HasLives}
+use Rattle.packets_heard.specs.of_master_node.Toured.{tour_of}
+use Rattle.packets_heard.specs.of_master_node.Touring.{IsServedVisit}
+use Rattle.packets_heard.specs.of_master_node.Wants.{AllCounted, gave_of}
+use Rattle.packets_heard.specs.of_master_node.declared.node.MasterNode.{MasterNode}
+use Rattle.packets_heard.specs.of_master_node.declared.node.Next.TheVariants as nexts
+use Rattle.packets_heard.specs.of_master_node.declared.node.Next.{Next}
+use Rattle.plan_ring.specs.of_frame_view.Seen.{seen}
+use Rattle.plan_ring.specs.of_frame_view.View.{Lens}
+use Rattle.plan_ring.specs.of_frame_view.Shares.{AllBoth}
+use Rattle.served_places.specs.of_life_runs.First.{first_leads, leads_from, lens_of, script_for, spot_of}
+use Rattle.served_places.specs.of_life_runs.Led.{Exchanged, Leads, gives_up_at, missed_behind, new_leads}
+use Rattle.served_places.specs.of_master_tour.Toured.{Tour, new_tour}
+use Rattle.served_places.specs.of_segment_model.Returned.{Returns}
 use Rattle.packets_heard.specs.Recalled.{State}
 use Rattle.packets_heard.specs.Served.{IsTourServed, serves_behind}
 use Rattle.packets_heard.specs.ServedRecalled.{IsServedRecalled}
 use Rattle.packets_heard.specs.Servings.{served_begun}
 use Rattle.packets_heard.specs.Toured.{tour_behind}
-use Rattle.frames_seen.proofs.Returned as Returned
-use Rattle.run_book.specs.declared.book.SentFrame.{SentFrame}
+use Rattle.plan_ring.proofs.of_frames_seen.Returned as Returned
+use Rattle.run_notes.specs.of_run_book.declared.book.SentFrame.{SentFrame}
 use Rattle.run_notes.proofs.Heard.{first_heard}
 use Rattle.run_notes.specs.Handed.{AllDoubts, AllHanded, AllWhere, MailsGo, is_mail, is_packet, kinds_in}
 use Rattle.run_notes.specs.Heard.{HeardBy, emergencies_noted}
@@ -74,16 +74,16 @@ use Rattle.run_record.specs.Replay.{IsRecorded, behind as behind_ring, first_rin
 use Rattle.run_record.specs.Served.{ListsBehind, ServedLeading, ServesOn, Serving, ServingGoesOn, TellsBehind, as_asked, served_heard}
 use Rattle.run_record.specs.Session.{FrameEvents, IsDone, SessionState, has_live, numbers_over}
 use Rattle.run_record.specs.Written.{WereServedDue, forwards_now, served_written}
-use Rattle.run_notes.specs.of_run_frames.ScriptAnswers.{turned}
-use Rattle.segment_plan.specs.declared.plan.Scenario.{Scenario}
-use Rattle.segment_plan.specs.declared.service.Service as Plan
-use Rattle.segment_plan.specs.declared.slave.SlaveSpec.{SlaveSpec}
-use Rattle.segment_ring.specs.Ring.{ring_returned}
-use Rattle.segment_ring.specs.Schedule.{fate_at}
-use Rattle.segment_ring.specs.declared.wire.Fate.TheVariants as Fates
-use Rattle.segment_ring.specs.declared.wire.Fate.{Fate}
-use Rattle.master_node.specs.of_life_runs.Served.{AllServedTurn, IsServedFrame, IsServedLed, ServedTurn, Serves, all_serve, new_serves, served_behind}
-use Rattle.slave_node.specs.Node.{node_passed}
+use Rattle.served_places.specs.of_run_frames.ScriptAnswers.{turned}
+use Rattle.packets_heard.specs.of_segment_plan.declared.plan.Scenario.{Scenario}
+use Rattle.packets_heard.specs.of_segment_plan.declared.service.Service as Plan
+use Rattle.packets_heard.specs.of_segment_plan.declared.slave.SlaveSpec.{SlaveSpec}
+use Rattle.served_places.specs.of_segment_ring.Ring.{ring_returned}
+use Rattle.served_places.specs.of_segment_ring.Schedule.{fate_at}
+use Rattle.served_places.specs.of_segment_ring.declared.wire.Fate.TheVariants as Fates
+use Rattle.served_places.specs.of_segment_ring.declared.wire.Fate.{Fate}
+use Rattle.served_places.specs.of_life_runs.Served.{AllServedTurn, IsServedFrame, IsServedLed, ServedTurn, Serves, all_serve, new_serves, served_behind}
+use Rattle.packets_heard.specs.of_slave_node.Node.{node_passed}
 
 -- BEFORE THE FIRST FRAME no mail was asked
 first_same : {T : Type 0} (g : Serves → T) (t : T) → ((pace : ℕ) (a : Leads) → g (new_serves pace a) ≡ t) → (paces : List ℕ) (rows : List (ℕ × Plan.Service)) (place : ℕ) (ss : List SlaveSpec) → map g (all_serve paces (leads_from rows place ss)) ≡ replicate (length ss) t

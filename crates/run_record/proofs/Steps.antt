@@ -1,11 +1,11 @@
 -- One step of a session.
 use Rattle.std.proofs.Common.{◌≡◌, ℕ, suc, ◌+◌, ◌<◌, ◌≤◌, inl, inr, List, [], ◌∷◌, ◌++◌, length, ap, sym, ◌∙◌, subst, arith}
-use Rattle.segment_ring.specs.Ring.{RingState}
-use Rattle.slave_node.specs.Node.{Node}
-use Rattle.slave_server.specs.declared.server.SlaveServer.{SlaveServer}
-use Rattle.run_book.specs.Book.{IsShort}
-use Rattle.run_book.specs.declared.book.Book.{Book}
-use Rattle.run_book.specs.declared.book.SentFrame.{SentFrame}
+use Rattle.served_places.specs.of_segment_ring.Ring.{RingState}
+use Rattle.packets_heard.specs.of_slave_node.Node.{Node}
+use Rattle.packets_heard.specs.of_slave_server.declared.server.SlaveServer.{SlaveServer}
+use Rattle.run_notes.specs.of_run_book.Book.{IsShort}
+use Rattle.run_notes.specs.of_run_book.declared.book.Book.{Book}
+use Rattle.run_notes.specs.of_run_book.declared.book.SentFrame.{SentFrame}
 use Rattle.run_notes.specs.declared.notes.Notes.{Notes}
 use Rattle.run_record.specs.Replay.{behind, IsRecorded}
 use Rattle.run_record.specs.Session.{SessionState, LedOn, Stops}

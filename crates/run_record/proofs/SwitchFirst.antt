@@ -1,10 +1,10 @@
 -- The switch of a run before its first frame.
 use Rattle.std.proofs.Common.{◌≡◌, ℕ, [], sym, ap, subst, arith}
-use Rattle.master_node.specs.Happened.{HasHappened}
-use Rattle.run_book.specs.Book.{IsNew}
-use Rattle.run_book.specs.Ports.{ports_of}
-use Rattle.run_book.specs.declared.book.Book.{Book}
-use Rattle.segment_plan.specs.declared.plan.Scenario.{Scenario}
+use Rattle.packets_heard.specs.of_master_node.Happened.{HasHappened}
+use Rattle.run_notes.specs.of_run_book.Book.{IsNew}
+use Rattle.run_notes.specs.of_run_book.Ports.{ports_of}
+use Rattle.run_notes.specs.of_run_book.declared.book.Book.{Book}
+use Rattle.packets_heard.specs.of_segment_plan.declared.plan.Scenario.{Scenario}
 use Rattle.run_record.specs.Session.{SessionState, first_session}
 use Rattle.run_notes.specs.Switched.{IsSwitched}
 

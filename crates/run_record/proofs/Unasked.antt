@@ -1,31 +1,31 @@
 -- A SLAVE OF A SERVING TO WHICH NO MAIL IS ASKED goes on as in a run.
 use Rattle.std.proofs.Common.{◌≡◌, ℕ, zero, suc, Bool, true, false, Option, Some, None, List, [], ◌∷◌, ◌++◌, map, refl, sym, ap, ◌∙◌, subst}
 use Rattle.std.specs.Prelude.{◌&&◌, if◌then◌else◌, ⊤}
-use Rattle.datagrams.specs.Datagram as Raw
-use Rattle.master_node.proofs.Handeds.{comes_own}
-use Rattle.master_node.specs.Serving.{run_lead, run_turn}
-use Rattle.master_node.specs.of_frame_view.Seen.{seen}
-use Rattle.master_node.specs.of_frame_view.View.{Lens}
-use Rattle.master_node.specs.of_frame_view.Shares.{Lived, came_at, given_where}
-use Rattle.master_node.specs.of_frame_view.of_exchange_model.Exchange.{Speech}
-use Rattle.master_node.specs.of_life_model.Lives.{Life, Spot, Stand, life_back, life_lost}
-use Rattle.master_node.specs.of_life_runs.Led.{AllTurn, Comes, Exchanged, IsTurn, Leads, led_behind, life_behind, speech_at}
-use Rattle.master_node.specs.of_life_runs.of_link_mails.Body.{Body}
-use Rattle.master_node.specs.of_master_duty.Reply.{Reply}
-use Rattle.master_node.specs.of_master_duty.of_state_model.Stated.{Service}
-use Rattle.master_node.specs.of_master_hand.Spoken.{Asked, acknowledged, is_followed, is_passed}
-use Rattle.master_node.specs.of_master_side.Passing.{news_back, news_lost, passing_behind}
-use Rattle.master_node.specs.of_segment_model.Ends.{Passing}
-use Rattle.master_node.specs.of_segment_model.Record.{News}
-use Rattle.master_node.specs.of_segment_model.Slaves.{Datagram, Found}
+use Rattle.served_places.specs.of_datagrams.Datagram as Raw
+use Rattle.packets_heard.proofs.of_master_node.Handeds.{comes_own}
+use Rattle.packets_heard.specs.of_master_node.Serving.{run_lead, run_turn}
+use Rattle.plan_ring.specs.of_frame_view.Seen.{seen}
+use Rattle.plan_ring.specs.of_frame_view.View.{Lens}
+use Rattle.plan_ring.specs.of_frame_view.Shares.{Lived, came_at, given_where}
+use Rattle.served_places.specs.of_exchange_model.Exchange.{Speech}
+use Rattle.served_places.specs.of_life_model.Lives.{Life, Spot, Stand, life_back, life_lost}
+use Rattle.served_places.specs.of_life_runs.Led.{AllTurn, Comes, Exchanged, IsTurn, Leads, led_behind, life_behind, speech_at}
+use Rattle.served_places.specs.of_link_mails.Body.{Body}
+use Rattle.served_places.specs.of_master_duty.Reply.{Reply}
+use Rattle.served_places.specs.of_state_model.Stated.{Service}
+use Rattle.served_places.specs.of_master_hand.Spoken.{Asked, acknowledged, is_followed, is_passed}
+use Rattle.served_places.specs.of_master_side.Passing.{news_back, news_lost, passing_behind}
+use Rattle.served_places.specs.of_segment_model.Ends.{Passing}
+use Rattle.served_places.specs.of_segment_model.Record.{News}
+use Rattle.served_places.specs.of_segment_model.Slaves.{Datagram, Found}
 use Rattle.run_record.proofs.Heads.{not_none}
-use Rattle.segment_plan.specs.declared.service.Service as Plan
-use Rattle.segment_ring.specs.declared.wire.Fate.{Fate}
-use Rattle.segment_ring.specs.declared.wire.Fate.TheVariants as Fates
+use Rattle.packets_heard.specs.of_segment_plan.declared.service.Service as Plan
+use Rattle.served_places.specs.of_segment_ring.declared.wire.Fate.{Fate}
+use Rattle.served_places.specs.of_segment_ring.declared.wire.Fate.TheVariants as Fates
 use Rattle.served_places.proofs.Behind.{unpassed_behind}
 use Rattle.served_places.proofs.Next.{next_passing}
-use Rattle.master_node.specs.of_life_runs.Served.{AllServedTurn, IsQuiet, IsRunOf, IsServedTurn, Keyed, MayAsk, ServedComes, ServedTurn, Serves, asked_at, gives_it, served_behind, served_life}
-use Rattle.master_node.specs.of_life_runs.Told.{Passed}
+use Rattle.served_places.specs.of_life_runs.Served.{AllServedTurn, IsQuiet, IsRunOf, IsServedTurn, Keyed, MayAsk, ServedComes, ServedTurn, Serves, asked_at, gives_it, served_behind, served_life}
+use Rattle.served_places.specs.of_life_runs.Told.{Passed}
 
 -- no mail was asked of these slaves
 abbrev pub NoneAsked : List Serves → Type 0

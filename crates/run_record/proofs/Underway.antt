@@ -2,21 +2,21 @@
 use Rattle.std.proofs.Common.{◌≡◌, ℕ, suc, ◌+◌, ◌<◌, ◌≤◌, inl, inr, [], ◌∷◌, ◌++◌, length, map, Bool, false, ap, sym, ◌∙◌, subst, length-append, false-eqb, arith}
 use Rattle.std.specs.Prelude.{All, ◌==◌}
 use Rattle.std.proofs.lemmas.List.Elements.{All-nil, All-cons, All-append}
-use Rattle.master_node.specs.Happened.{HasHappened}
-use Rattle.master_node.specs.declared.lan.Lan.{Lan}
-use Rattle.segment_plan.specs.declared.plan.Scenario.{Scenario}
-use Rattle.segment_ring.specs.Ring.{RingState}
-use Rattle.slave_node.specs.Node.{Node}
-use Rattle.slave_server.specs.Spec.{node_of}
-use Rattle.slave_server.specs.declared.server.SlaveServer.{SlaveServer}
+use Rattle.packets_heard.specs.of_master_node.Happened.{HasHappened}
+use Rattle.packets_heard.specs.of_master_node.declared.lan.Lan.{Lan}
+use Rattle.packets_heard.specs.of_segment_plan.declared.plan.Scenario.{Scenario}
+use Rattle.served_places.specs.of_segment_ring.Ring.{RingState}
+use Rattle.packets_heard.specs.of_slave_node.Node.{Node}
+use Rattle.packets_heard.specs.of_slave_server.Spec.{node_of}
+use Rattle.packets_heard.specs.of_slave_server.declared.server.SlaveServer.{SlaveServer}
 use Rattle.std.proofs.lemmas.List.{length-map}
-use Rattle.run_book.specs.Book.{IsNew, IsShort}
-use Rattle.run_book.specs.Ports.{ports_of, IsAtPort}
-use Rattle.run_book.specs.declared.book.Book.{Book}
-use Rattle.run_book.specs.declared.book.Ending.{Ending}
-use Rattle.run_book.specs.declared.book.Ending.TheVariants as endings
-use Rattle.run_book.specs.declared.book.SentFrame.{SentFrame}
-use Rattle.run_book.specs.declared.book.SlaveBook.{SlaveBook}
+use Rattle.run_notes.specs.of_run_book.Book.{IsNew, IsShort}
+use Rattle.run_notes.specs.of_run_book.Ports.{ports_of, IsAtPort}
+use Rattle.run_notes.specs.of_run_book.declared.book.Book.{Book}
+use Rattle.run_notes.specs.of_run_book.declared.book.Ending.{Ending}
+use Rattle.run_notes.specs.of_run_book.declared.book.Ending.TheVariants as endings
+use Rattle.run_notes.specs.of_run_book.declared.book.SentFrame.{SentFrame}
+use Rattle.run_notes.specs.of_run_book.declared.book.SlaveBook.{SlaveBook}
 use Rattle.run_notes.proofs.Switched.{switched_same}
 use Rattle.run_notes.proofs.Timings.{timed_same}
 use Rattle.run_notes.specs.Counted.{AreDated}

@@ -1,7 +1,7 @@
 -- THE PACKETS AND THE MAILS PASSED ON that came into hand of slaves, as they are counted and noted.
 use Rattle.std.specs.Prelude.{◌≡◌, ℕ, List, length}
-use Rattle.master_node.specs.Origins.{forwards_at}
-use Rattle.master_node.specs.declared.node.MasterNode.{MasterNode}
+use Rattle.packets_heard.specs.of_master_node.Origins.{forwards_at}
+use Rattle.packets_heard.specs.of_master_node.declared.node.MasterNode.{MasterNode}
 use Rattle.run_notes.specs.Packets.{AreMails, AreNumbered, begun_noted}
 use Rattle.run_notes.specs.declared.notes.Notes.{Notes}
 

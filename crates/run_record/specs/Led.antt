@@ -2,30 +2,30 @@
 -- give-ups and of the end is what those lives have.
 use Rattle.std.specs.Prelude.{◌≡◌, ◌≢◌, ◌⊎◌, ℕ, true, List, [], map, ⊤}
 use Rattle.std.specs.List.{list_any}
-use Rattle.eoe_switch.specs.Switch.{switched}
-use Rattle.eoe_switch.specs.declared.switching.SwitchEvent.{SwitchEvent}
-use Rattle.master_node.specs.Forwards.{forwarded}
-use Rattle.master_node.specs.Happened.{arrivals_at}
-use Rattle.master_node.specs.of_frame_view.View.{Lens}
-use Rattle.master_node.specs.of_frame_view.Shares.{AllBoth}
+use Rattle.packets_heard.specs.of_eoe_switch.Switch.{switched}
+use Rattle.packets_heard.specs.of_eoe_switch.declared.switching.SwitchEvent.{SwitchEvent}
+use Rattle.packets_heard.specs.of_master_node.Forwards.{forwarded}
+use Rattle.packets_heard.specs.of_master_node.Happened.{arrivals_at}
+use Rattle.plan_ring.specs.of_frame_view.View.{Lens}
+use Rattle.plan_ring.specs.of_frame_view.Shares.{AllBoth}
 use Rattle.run_notes.specs.of_run_book.Heard.{AllNoted, heard_in}
-use Rattle.master_node.specs.of_life_model.Lives.{Stand}
-use Rattle.master_node.specs.of_life_runs.First.{lens_of, first_leads}
-use Rattle.master_node.specs.of_life_runs.Led.{Exchanged, Leads, IsLed}
-use Rattle.master_node.specs.Ports.{ports_behind, ports_of}
-use Rattle.master_node.specs.Shows.{is_live_lead}
-use Rattle.master_node.specs.Wants.{gave_of, IsIdle}
-use Rattle.master_node.specs.of_master_tour.Goes.{holds_at}
-use Rattle.master_node.specs.of_master_tour.Toured.{Tour}
+use Rattle.served_places.specs.of_life_model.Lives.{Stand}
+use Rattle.served_places.specs.of_life_runs.First.{lens_of, first_leads}
+use Rattle.served_places.specs.of_life_runs.Led.{Exchanged, Leads, IsLed}
+use Rattle.packets_heard.specs.of_master_node.Ports.{ports_behind, ports_of}
+use Rattle.packets_heard.specs.of_master_node.Shows.{is_live_lead}
+use Rattle.packets_heard.specs.of_master_node.Wants.{gave_of, IsIdle}
+use Rattle.served_places.specs.of_master_tour.Goes.{holds_at}
+use Rattle.served_places.specs.of_master_tour.Toured.{Tour}
 use Rattle.packets_heard.specs.Numbers.{Numbered, frames_begun}
 use Rattle.packets_heard.specs.Over.{AreBegun}
 use Rattle.packets_heard.specs.Listed.{Listed}
 use Rattle.packets_heard.specs.Recalled.{State, RecalledIn}
-use Rattle.run_book.specs.declared.book.Book.{Book}
-use Rattle.run_book.specs.declared.book.Ending.{Ending}
-use Rattle.run_book.specs.declared.book.Ending.TheVariants as endings
-use Rattle.run_book.specs.declared.book.SentFrame.{SentFrame}
-use Rattle.run_book.specs.declared.book.SlaveBook.{SlaveBook}
+use Rattle.run_notes.specs.of_run_book.declared.book.Book.{Book}
+use Rattle.run_notes.specs.of_run_book.declared.book.Ending.{Ending}
+use Rattle.run_notes.specs.of_run_book.declared.book.Ending.TheVariants as endings
+use Rattle.run_notes.specs.of_run_book.declared.book.SentFrame.{SentFrame}
+use Rattle.run_notes.specs.of_run_book.declared.book.SlaveBook.{SlaveBook}
 use Rattle.run_notes.specs.Reports.{IsBooked}
 use Rattle.run_notes.specs.Epochs.{HasEpochs}
 use Rattle.run_notes.specs.Handed.{AreForwarded}
@@ -34,9 +34,9 @@ use Rattle.run_notes.specs.Packets.{AreMails, AreNumbered, begun_in}
 use Rattle.run_notes.specs.Switched.{HasPackets}
 use Rattle.run_notes.specs.Unsent.{IsSpent}
 use Rattle.run_record.specs.Written.{WereDue, packets_written}
-use Rattle.segment_plan.specs.declared.plan.Scenario.{Scenario}
-use Rattle.slave_server.specs.Serving.{next_mail}
-use Rattle.slave_node.specs.Node.{is_settled}
+use Rattle.packets_heard.specs.of_segment_plan.declared.plan.Scenario.{Scenario}
+use Rattle.packets_heard.specs.of_slave_server.Serving.{next_mail}
+use Rattle.packets_heard.specs.of_slave_node.Node.{is_settled}
 use Rattle.packets_heard.specs.Toured.{IsToured}
 use Rattle.run_notes.specs.Slaves.{gaves_in}
 

@@ -1,21 +1,21 @@
 -- THE MAILS THAT ARE PASSED ON to the slaves of a serving, by the lives of these.
 use Rattle.std.specs.Prelude.{ℕ, ◌&&◌, Bool, true, false, if◌then◌else◌, is_some, Option, Some, None, List, [], ◌∷◌, ◌++◌, length, map}
-use Rattle.master_node.specs.Begins.{begun_of}
-use Rattle.master_node.specs.Events.{oldest_in}
-use Rattle.master_node.specs.Serving.{run_turn}
-use Rattle.master_node.specs.of_frame_view.View.{Lens}
-use Rattle.master_node.specs.of_life_model.Lives.{Life}
-use Rattle.master_node.specs.of_life_runs.Led.{Exchanged, gives_up_at}
-use Rattle.master_node.specs.of_life_runs.Spans.{is_open}
-use Rattle.master_node.specs.of_master_duty.Reply.{Reply}
-use Rattle.master_node.specs.of_master_duty.of_state_model.Stated.{Service}
-use Rattle.master_node.specs.of_master_hand.Spoken.{Asked, is_passed}
-use Rattle.master_node.specs.of_master_tour.Goes.{holds_at}
+use Rattle.packets_heard.specs.of_master_node.Begins.{begun_of}
+use Rattle.packets_heard.specs.of_master_node.Events.{oldest_in}
+use Rattle.packets_heard.specs.of_master_node.Serving.{run_turn}
+use Rattle.plan_ring.specs.of_frame_view.View.{Lens}
+use Rattle.served_places.specs.of_life_model.Lives.{Life}
+use Rattle.served_places.specs.of_life_runs.Led.{Exchanged, gives_up_at}
+use Rattle.served_places.specs.of_life_runs.Spans.{is_open}
+use Rattle.served_places.specs.of_master_duty.Reply.{Reply}
+use Rattle.served_places.specs.of_state_model.Stated.{Service}
+use Rattle.served_places.specs.of_master_hand.Spoken.{Asked, is_passed}
+use Rattle.served_places.specs.of_master_tour.Goes.{holds_at}
 use Rattle.run_notes.specs.Handed.{last_set}
-use Rattle.segment_ring.specs.declared.wire.Fate.{Fate}
-use Rattle.segment_ring.specs.declared.wire.Fate.TheVariants as Fates
-use Rattle.master_node.specs.of_life_runs.Served.{IsServedLed, Serves, ServedTurn, served_behind}
-use Rattle.slave_node.specs.of_link_mails.Body.{Body}
+use Rattle.served_places.specs.of_segment_ring.declared.wire.Fate.{Fate}
+use Rattle.served_places.specs.of_segment_ring.declared.wire.Fate.TheVariants as Fates
+use Rattle.served_places.specs.of_life_runs.Served.{IsServedLed, Serves, ServedTurn, served_behind}
+use Rattle.served_places.specs.of_link_mails.Body.{Body}
 
 -- the row of what came into hand before a frame, where that is the mail with this number which was passed on
 abbrev pub mail_begun : ℕ → ℕ → Option (Service Asked) → List (ℕ × ℕ)

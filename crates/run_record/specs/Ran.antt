@@ -1,15 +1,15 @@
 -- What a run leaves in its book.
 use Rattle.std.specs.Prelude.{◌≡◌, ◌≤◌, ℕ, Bool, true, false, nat_lt, Option, Some, None, List, [], length, map, All, slice_get}
-use Rattle.segment_plan.specs.declared.plan.Scenario.{Scenario}
-use Rattle.master_node.specs.Forwards.{port_by}
-use Rattle.master_node.specs.Ports.{ports_behind}
+use Rattle.packets_heard.specs.of_segment_plan.declared.plan.Scenario.{Scenario}
+use Rattle.packets_heard.specs.of_master_node.Forwards.{port_by}
+use Rattle.packets_heard.specs.of_master_node.Ports.{ports_behind}
 use Rattle.packets_heard.specs.Numbers.{comes_in, numbers_where}
-use Rattle.run_book.specs.Book.{IsShort}
-use Rattle.run_book.specs.Ports.{ports_of, IsAtPort}
-use Rattle.run_book.specs.declared.book.Book.{Book}
-use Rattle.run_book.specs.declared.book.Ending.{Ending}
-use Rattle.run_book.specs.declared.book.Ending.TheVariants as endings
-use Rattle.run_book.specs.declared.book.SlaveBook.{SlaveBook}
+use Rattle.run_notes.specs.of_run_book.Book.{IsShort}
+use Rattle.run_notes.specs.of_run_book.Ports.{ports_of, IsAtPort}
+use Rattle.run_notes.specs.of_run_book.declared.book.Book.{Book}
+use Rattle.run_notes.specs.of_run_book.declared.book.Ending.{Ending}
+use Rattle.run_notes.specs.of_run_book.declared.book.Ending.TheVariants as endings
+use Rattle.run_notes.specs.of_run_book.declared.book.SlaveBook.{SlaveBook}
 use Rattle.run_record.specs.Replay.{first_ring, ring_after, AreRecorded}
 use Rattle.run_record.specs.Session.{SessionState, session_rows, budget_of, are_at_rest, some_given_up}
 use Rattle.run_notes.specs.Counted.{AreDated, slaves_at}

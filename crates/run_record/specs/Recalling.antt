@@ -1,12 +1,12 @@
 -- WHAT A MASTER REMEMBERS between two frames, with what happened at its switch, and the ring.
 use Rattle.std.specs.Prelude.{List}
-use Rattle.eoe_switch.specs.declared.switching.SwitchEvent.{SwitchEvent}
-use Rattle.master_node.specs.Eager.{recalls}
-use Rattle.master_node.specs.declared.node.MasterNode.{MasterNode}
+use Rattle.packets_heard.specs.of_eoe_switch.declared.switching.SwitchEvent.{SwitchEvent}
+use Rattle.packets_heard.specs.of_master_node.Eager.{recalls}
+use Rattle.packets_heard.specs.of_master_node.declared.node.MasterNode.{MasterNode}
 use Rattle.packets_heard.specs.Recalled.{State}
-use Rattle.segment_ring.specs.Ring.{RingState}
-use Rattle.slave_node.specs.Node.{Node}
-use Rattle.slave_server.specs.declared.server.SlaveServer.{SlaveServer}
+use Rattle.served_places.specs.of_segment_ring.Ring.{RingState}
+use Rattle.packets_heard.specs.of_slave_node.Node.{Node}
+use Rattle.packets_heard.specs.of_slave_server.declared.server.SlaveServer.{SlaveServer}
 
 -- what a master remembers, with these events of its switch and its ring
 abbrev pub state_of : MasterNode → List SwitchEvent → RingState (Node SlaveServer) → State

@@ -1,14 +1,14 @@
 -- The frames of a run, replayed by the ring of the plan's slaves.
 use Rattle.std.specs.Prelude.{◌≡◌, ℕ, List, [], ◌∷◌, map}
-use Rattle.segment_plan.specs.declared.plan.Scenario.{Scenario}
-use Rattle.segment_ring.specs.Ring.{RingState, ring_behind, ring_returned}
-use Rattle.segment_ring.specs.Schedule.{fate_at}
-use Rattle.slave_node.specs.Node.{Node, node_passed}
-use Rattle.slave_node.specs.Step.{pdi_step}
-use Rattle.slave_server.specs.Serving.{takes, next_mail, rest, cleared}
-use Rattle.slave_server.specs.Spec.{node_of}
-use Rattle.slave_server.specs.declared.server.SlaveServer.{SlaveServer}
-use Rattle.run_book.specs.declared.book.SentFrame.{SentFrame}
+use Rattle.packets_heard.specs.of_segment_plan.declared.plan.Scenario.{Scenario}
+use Rattle.served_places.specs.of_segment_ring.Ring.{RingState, ring_behind, ring_returned}
+use Rattle.served_places.specs.of_segment_ring.Schedule.{fate_at}
+use Rattle.packets_heard.specs.of_slave_node.Node.{Node, node_passed}
+use Rattle.packets_heard.specs.of_slave_node.Step.{pdi_step}
+use Rattle.packets_heard.specs.of_slave_server.Serving.{takes, next_mail, rest, cleared}
+use Rattle.packets_heard.specs.of_slave_server.Spec.{node_of}
+use Rattle.packets_heard.specs.of_slave_server.declared.server.SlaveServer.{SlaveServer}
+use Rattle.run_notes.specs.of_run_book.declared.book.SentFrame.{SentFrame}
 
 -- a processor step of a slave
 abbrev pub stepped : Node SlaveServer → Node SlaveServer

@@ -2,40 +2,40 @@
 -- between the frames.
 use Rattle.std.specs.Prelude.{◌≡◌, ◌≤◌, ◌+◌, ℕ, Bool, true, false, None, Some, List, [], ◌∷◌, ◌++◌, length, map, filter, slice_get, All}
 use Rattle.run_notes.specs.of_run_book.Heard.{Accepted, AllNoted, brought_by, heard_none, heard_on}
-use Rattle.mailbox_mail.specs.declared.mail.Mail.{Mail}
-use Rattle.master_node.specs.Backtold.{returned_at}
-use Rattle.master_node.specs.Begins.{begun_of}
-use Rattle.master_node.specs.Eager.{recalls}
-use Rattle.master_node.specs.Events.{served_tells}
-use Rattle.master_node.specs.Gateways.{is_gateway, lives_told}
-use Rattle.master_node.specs.Happened.{HasHappened, events_of}
-use Rattle.master_node.specs.Joined.{HasUnfinished, stand_before}
-use Rattle.master_node.specs.Lifetold.{lost_at}
-use Rattle.master_node.specs.Listed.{listed}
-use Rattle.master_node.specs.Listing.{events_in, told_in}
-use Rattle.master_node.specs.Origins.{forwards_at}
-use Rattle.master_node.specs.Ports.{ports_behind, ports_of}
-use Rattle.master_node.specs.Recalled.{AllKnow}
-use Rattle.master_node.specs.Serving.{IsAsked, run_lead, run_turn}
-use Rattle.master_node.specs.Shows.{is_carried}
-use Rattle.master_node.specs.Wants.{gave_of, IsServedOut, NoneToCome}
-use Rattle.master_node.specs.declared.event.Event.{Event}
-use Rattle.master_node.specs.declared.happened.Happening.{Happening}
-use Rattle.master_node.specs.declared.node.MasterNode.{MasterNode}
-use Rattle.master_node.specs.of_frame_view.Seen.{seen}
-use Rattle.master_node.specs.of_frame_view.View.{Lens}
-use Rattle.master_node.specs.of_life_runs.First.{lens_of}
-use Rattle.master_node.specs.of_life_runs.Led.{Exchanged, gives_up_at, missed_behind}
-use Rattle.master_node.specs.of_master_side.Recall.{Recall}
-use Rattle.master_node.specs.of_master_tour.Goes.{holds_at}
-use Rattle.master_node.specs.of_master_tour.Made.{is_in}
-use Rattle.master_node.specs.of_master_tour.Orders.{AreOnce}
+use Rattle.plan_ring.specs.of_mailbox_mail.declared.mail.Mail.{Mail}
+use Rattle.packets_heard.specs.of_master_node.Backtold.{returned_at}
+use Rattle.packets_heard.specs.of_master_node.Begins.{begun_of}
+use Rattle.packets_heard.specs.of_master_node.Eager.{recalls}
+use Rattle.packets_heard.specs.of_master_node.Events.{served_tells}
+use Rattle.packets_heard.specs.of_master_node.Gateways.{is_gateway, lives_told}
+use Rattle.packets_heard.specs.of_master_node.Happened.{HasHappened, events_of}
+use Rattle.packets_heard.specs.of_master_node.Joined.{HasUnfinished, stand_before}
+use Rattle.packets_heard.specs.of_master_node.Lifetold.{lost_at}
+use Rattle.packets_heard.specs.of_master_node.Listed.{listed}
+use Rattle.packets_heard.specs.of_master_node.Listing.{events_in, told_in}
+use Rattle.packets_heard.specs.of_master_node.Origins.{forwards_at}
+use Rattle.packets_heard.specs.of_master_node.Ports.{ports_behind, ports_of}
+use Rattle.packets_heard.specs.of_master_node.Recalled.{AllKnow}
+use Rattle.packets_heard.specs.of_master_node.Serving.{IsAsked, run_lead, run_turn}
+use Rattle.packets_heard.specs.of_master_node.Shows.{is_carried}
+use Rattle.packets_heard.specs.of_master_node.Wants.{gave_of, IsServedOut, NoneToCome}
+use Rattle.packets_heard.specs.of_master_node.declared.event.Event.{Event}
+use Rattle.packets_heard.specs.of_master_node.declared.happened.Happening.{Happening}
+use Rattle.packets_heard.specs.of_master_node.declared.node.MasterNode.{MasterNode}
+use Rattle.plan_ring.specs.of_frame_view.Seen.{seen}
+use Rattle.plan_ring.specs.of_frame_view.View.{Lens}
+use Rattle.served_places.specs.of_life_runs.First.{lens_of}
+use Rattle.served_places.specs.of_life_runs.Led.{Exchanged, gives_up_at, missed_behind}
+use Rattle.served_places.specs.of_master_side.Recall.{Recall}
+use Rattle.served_places.specs.of_master_tour.Goes.{holds_at}
+use Rattle.served_places.specs.of_master_tour.Made.{is_in}
+use Rattle.served_places.specs.of_master_tour.Orders.{AreOnce}
 use Rattle.packets_heard.specs.Listed.{unfinished_of}
-use Rattle.master_node.specs.of_segment_model.Returned.{Returns}
+use Rattle.served_places.specs.of_segment_model.Returned.{Returns}
 use Rattle.packets_heard.specs.Served.{serves_behind}
 use Rattle.packets_heard.specs.ServedRecalled.{ServedRecalledIn}
 use Rattle.packets_heard.specs.Servings.{AreServedBegun, ServedListed, ServedNumbered, served_begun, served_joined}
-use Rattle.run_book.specs.declared.book.SentFrame.{SentFrame}
+use Rattle.run_notes.specs.of_run_book.declared.book.SentFrame.{SentFrame}
 use Rattle.run_notes.specs.declared.standing.AskedMail.{AskedMail}
 use Rattle.run_notes.specs.Handed.{AllHanded}
 use Rattle.run_notes.specs.Heard.{emergencies_noted}
@@ -49,11 +49,11 @@ pub use Rattle.run_record.specs.ServedLed.{ServeTo, ServedLeading, ServedTouredT
 use Rattle.run_record.specs.Session.{FrameEvents, IsDone, SessionState, has_live, numbers_over}
 use Rattle.run_record.specs.Telling.{ServedOver}
 use Rattle.run_record.specs.Written.{AreWritten, WereServedDue}
-use Rattle.segment_plan.specs.Sound.{IsPlan}
-use Rattle.segment_plan.specs.declared.plan.Scenario.{Scenario}
-use Rattle.segment_ring.specs.declared.wire.Fate.{Fate}
-use Rattle.segment_ring.specs.declared.wire.Fate.TheVariants as Fates
-use Rattle.master_node.specs.of_life_runs.Served.{Keyed, Serves, ServedTurn, IsServedFrame, IsServedLed, MayAsk, asked_at, served_behind}
+use Rattle.packets_heard.specs.of_segment_plan.Sound.{IsPlan}
+use Rattle.packets_heard.specs.of_segment_plan.declared.plan.Scenario.{Scenario}
+use Rattle.served_places.specs.of_segment_ring.declared.wire.Fate.{Fate}
+use Rattle.served_places.specs.of_segment_ring.declared.wire.Fate.TheVariants as Fates
+use Rattle.served_places.specs.of_life_runs.Served.{Keyed, Serves, ServedTurn, IsServedFrame, IsServedLed, MayAsk, asked_at, served_behind}
 
 -- THE SWITCH OF A SERVING behind these frames, by all that happened there: its slaves have the ports of the plan, what is unfinished of their packets is by their
 -- lives, and just those packets came in and began, and just those ports went down, that the frames list

@@ -1,17 +1,17 @@
 -- THE FRAMES OF A SERVING ARE LED by its master: each is just what the lives of the slaves ask for, from the plan's new lives on, with the mails that are asked
 -- between the frames. A run is a serving to which none is asked.
 use Rattle.std.specs.Prelude.{ℕ, List, map, length}
-use Rattle.master_node.specs.Serving.{ServedShows, run_lead, run_turn}
-use Rattle.master_node.specs.Toured.{tour_of}
-use Rattle.master_node.specs.declared.node.MasterNode.{MasterNode}
-use Rattle.master_node.specs.of_life_runs.First.{lens_of, first_leads}
-use Rattle.master_node.specs.of_life_runs.Led.{Exchanged}
-use Rattle.master_node.specs.of_master_tour.Toured.{Tour}
+use Rattle.packets_heard.specs.of_master_node.Serving.{ServedShows, run_lead, run_turn}
+use Rattle.packets_heard.specs.of_master_node.Toured.{tour_of}
+use Rattle.packets_heard.specs.of_master_node.declared.node.MasterNode.{MasterNode}
+use Rattle.served_places.specs.of_life_runs.First.{lens_of, first_leads}
+use Rattle.served_places.specs.of_life_runs.Led.{Exchanged}
+use Rattle.served_places.specs.of_master_tour.Toured.{Tour}
 use Rattle.packets_heard.specs.Served.{IsTourServed}
 use Rattle.packets_heard.specs.Toured.{IsTourFrame}
-use Rattle.segment_plan.specs.declared.plan.Scenario.{Scenario}
-use Rattle.master_node.specs.of_life_runs.Served.{Serves, ServedTurn, IsServedFrame, all_serve}
-pub use Rattle.master_node.specs.of_life_runs.Served.{ServeTo}
+use Rattle.packets_heard.specs.of_segment_plan.declared.plan.Scenario.{Scenario}
+use Rattle.served_places.specs.of_life_runs.Served.{Serves, ServedTurn, IsServedFrame, all_serve}
+pub use Rattle.served_places.specs.of_life_runs.Served.{ServeTo}
 
 -- THE FRAMES ARE THE VISITS OF ONE TOUR, from its begin on, which stands so behind them
 abbrev pub ServedTouredTo : Scenario → List Exchanged → Tour → List Serves → Type 0

@@ -2,25 +2,25 @@
 use Rattle.std.specs.Prelude.{◌≡◌, ℕ, zero, suc, map, replicate, if◌then◌else◌, false, Bool, true, nat_lt, ◌||◌, List, [], ◌∷◌, ◌++◌, ◌⊎◌, length, Option, Some, None, is_some}
 use Rattle.std.specs.List.{list_all, list_any}
 use Rattle.arrayvec.specs.ArrayVec.{ArrayVec}
-use Rattle.eoe_switch.specs.declared.switching.SwitchEvent.{SwitchEvent}
-use Rattle.segment_plan.specs.Bound.{bound_of}
-use Rattle.segment_plan.specs.declared.plan.Scenario.{Scenario}
-use Rattle.segment_ring.specs.Ring.{RingState}
-use Rattle.slave_node.specs.Node.{Node, is_settled}
-use Rattle.slave_server.specs.Serving.{next_mail}
-use Rattle.slave_server.specs.declared.server.SlaveServer.{SlaveServer}
-use Rattle.run_book.specs.Book.{IsShort}
-use Rattle.run_book.specs.Ports.{ports_of}
-use Rattle.run_book.specs.declared.book.Book.{Book}
-use Rattle.run_book.specs.declared.book.SentFrame.{SentFrame}
-use Rattle.run_book.specs.declared.book.SlaveBook.{SlaveBook}
+use Rattle.packets_heard.specs.of_eoe_switch.declared.switching.SwitchEvent.{SwitchEvent}
+use Rattle.packets_heard.specs.of_segment_plan.Bound.{bound_of}
+use Rattle.packets_heard.specs.of_segment_plan.declared.plan.Scenario.{Scenario}
+use Rattle.served_places.specs.of_segment_ring.Ring.{RingState}
+use Rattle.packets_heard.specs.of_slave_node.Node.{Node, is_settled}
+use Rattle.packets_heard.specs.of_slave_server.Serving.{next_mail}
+use Rattle.packets_heard.specs.of_slave_server.declared.server.SlaveServer.{SlaveServer}
+use Rattle.run_notes.specs.of_run_book.Book.{IsShort}
+use Rattle.run_notes.specs.of_run_book.Ports.{ports_of}
+use Rattle.run_notes.specs.of_run_book.declared.book.Book.{Book}
+use Rattle.run_notes.specs.of_run_book.declared.book.SentFrame.{SentFrame}
+use Rattle.run_notes.specs.of_run_book.declared.book.SlaveBook.{SlaveBook}
 use Rattle.run_notes.specs.declared.notes.Notes.{Notes}
-use Rattle.mailbox_mail.specs.declared.mail.Mail.{Mail}
+use Rattle.plan_ring.specs.of_mailbox_mail.declared.mail.Mail.{Mail}
 use Rattle.run_notes.specs.declared.standing.AskedMail.{AskedMail}
-use Rattle.master_node.specs.Entering.{IsIdle}
-use Rattle.master_node.specs.declared.node.MasterNode.{MasterNode}
-use Rattle.master_node.specs.of_master_tour.Goes.{is_live}
-use Rattle.master_node.specs.of_life_runs.Led.{Exchanged}
+use Rattle.packets_heard.specs.of_master_node.Entering.{IsIdle}
+use Rattle.packets_heard.specs.of_master_node.declared.node.MasterNode.{MasterNode}
+use Rattle.served_places.specs.of_master_tour.Goes.{is_live}
+use Rattle.served_places.specs.of_life_runs.Led.{Exchanged}
 use Rattle.packets_heard.specs.Numbers.{each_with}
 use Rattle.run_record.specs.Led.{exchanged}
 use Rattle.run_record.specs.ServedLed.{LeadsFrame, ServedLeading}

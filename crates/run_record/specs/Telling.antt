@@ -1,27 +1,27 @@
 -- WHAT A MASTER COMES TO BEHIND ITS FRAME, by whatever lives are with it while that is under way: it gets the frame back, or learns that it is lost.
 use Rattle.std.specs.Prelude.{◌≡◌, ℕ, suc, List, [], map}
-use Rattle.master_node.specs.Arrivals.{ComeIn, completed_at}
-use Rattle.master_node.specs.Brought.{HasBrought}
-use Rattle.master_node.specs.Downs.{GoDown}
-use Rattle.master_node.specs.Eager.{recalls}
-use Rattle.master_node.specs.Joined.{HasUnfinished, stand_before, stand_under, unfinished_after}
-use Rattle.master_node.specs.ServedEager.{AllServedAsk, AllServedRecall}
-use Rattle.master_node.specs.Serving.{ServedShows, ServedUnder, run_lead, run_turn}
-use Rattle.master_node.specs.Shows.{IsUnderWay, lived_of}
-use Rattle.master_node.specs.Told.{HasLives}
-use Rattle.master_node.specs.Toured.{tour_of}
-use Rattle.master_node.specs.declared.node.MasterNode.{MasterNode}
-use Rattle.master_node.specs.of_frame_view.Seen.{seen}
-use Rattle.master_node.specs.of_frame_view.View.{Lens}
-use Rattle.master_node.specs.of_life_runs.Led.{Exchanged, Leads, Turn, gives_up_at, missed_behind}
-use Rattle.master_node.specs.of_segment_model.Returned.{Returns}
+use Rattle.packets_heard.specs.of_master_node.Arrivals.{ComeIn, completed_at}
+use Rattle.packets_heard.specs.of_master_node.Brought.{HasBrought}
+use Rattle.packets_heard.specs.of_master_node.Downs.{GoDown}
+use Rattle.packets_heard.specs.of_master_node.Eager.{recalls}
+use Rattle.packets_heard.specs.of_master_node.Joined.{HasUnfinished, stand_before, stand_under, unfinished_after}
+use Rattle.packets_heard.specs.of_master_node.ServedEager.{AllServedAsk, AllServedRecall}
+use Rattle.packets_heard.specs.of_master_node.Serving.{ServedShows, ServedUnder, run_lead, run_turn}
+use Rattle.packets_heard.specs.of_master_node.Shows.{IsUnderWay, lived_of}
+use Rattle.packets_heard.specs.of_master_node.Told.{HasLives}
+use Rattle.packets_heard.specs.of_master_node.Toured.{tour_of}
+use Rattle.packets_heard.specs.of_master_node.declared.node.MasterNode.{MasterNode}
+use Rattle.plan_ring.specs.of_frame_view.Seen.{seen}
+use Rattle.plan_ring.specs.of_frame_view.View.{Lens}
+use Rattle.served_places.specs.of_life_runs.Led.{Exchanged, Leads, Turn, gives_up_at, missed_behind}
+use Rattle.served_places.specs.of_segment_model.Returned.{Returns}
 use Rattle.packets_heard.specs.Heard.{Joined, mails_by}
 use Rattle.packets_heard.specs.Listed.{unfinished_of}
 use Rattle.packets_heard.specs.Served.{serves_behind}
 use Rattle.packets_heard.specs.Toured.{tour_behind}
-use Rattle.segment_ring.specs.declared.wire.Fate.{Fate}
-use Rattle.segment_ring.specs.declared.wire.Fate.TheVariants as Fates
-use Rattle.master_node.specs.of_life_runs.Served.{ServedTurn, Serves, served_behind}
+use Rattle.served_places.specs.of_segment_ring.declared.wire.Fate.{Fate}
+use Rattle.served_places.specs.of_segment_ring.declared.wire.Fate.TheVariants as Fates
+use Rattle.served_places.specs.of_life_runs.Served.{ServedTurn, Serves, served_behind}
 
 -- the life of a slave behind a frame, where so many frames were lost in a row before it
 abbrev pub life_behind : (ℕ → Lens) → ℕ → ℕ → ℕ → ℕ → Exchanged → ServedTurn → Serves

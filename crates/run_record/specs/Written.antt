@@ -1,28 +1,28 @@
 -- WHEN THE PACKETS WERE OVER that came into hand of the slaves of a run or a serving, by the lives of these.
 use Rattle.std.specs.Prelude.{◌≡◌, ◌&&◌, ℕ, Bool, not, Option, None, List, [], ◌++◌, length, map, ⊤}
-use Rattle.master_node.specs.Backtold.{has_packet}
-use Rattle.master_node.specs.Begins.{begun_of}
-use Rattle.master_node.specs.Serving.{run_lead, run_turn}
-use Rattle.master_node.specs.of_frame_view.Seen.{seen}
-use Rattle.master_node.specs.of_frame_view.View.{Lens}
-use Rattle.master_node.specs.of_frame_view.Shares.{Lived}
-use Rattle.master_node.specs.of_frame_view.of_exchange_model.Exchange.{Speech}
-use Rattle.master_node.specs.of_life_model.Lives.{Life}
-use Rattle.master_node.specs.of_life_runs.Led.{Exchanged, IsLed, Leads, Turn, gives_up_at, led_behind, speech_at}
-use Rattle.master_node.specs.of_life_runs.Spans.{is_open}
-use Rattle.master_node.specs.of_life_runs.of_link_mails.Body.{Body}
-use Rattle.master_node.specs.of_master_duty.Reply.{Reply}
-use Rattle.master_node.specs.of_master_duty.of_state_model.Stated.{Service}
-use Rattle.master_node.specs.of_master_hand.Spoken.{Asked}
-use Rattle.master_node.specs.of_master_tour.Goes.{holds_at}
-use Rattle.master_node.specs.of_state_model.Accounts.{is_free}
+use Rattle.packets_heard.specs.of_master_node.Backtold.{has_packet}
+use Rattle.packets_heard.specs.of_master_node.Begins.{begun_of}
+use Rattle.packets_heard.specs.of_master_node.Serving.{run_lead, run_turn}
+use Rattle.plan_ring.specs.of_frame_view.Seen.{seen}
+use Rattle.plan_ring.specs.of_frame_view.View.{Lens}
+use Rattle.plan_ring.specs.of_frame_view.Shares.{Lived}
+use Rattle.served_places.specs.of_exchange_model.Exchange.{Speech}
+use Rattle.served_places.specs.of_life_model.Lives.{Life}
+use Rattle.served_places.specs.of_life_runs.Led.{Exchanged, IsLed, Leads, Turn, gives_up_at, led_behind, speech_at}
+use Rattle.served_places.specs.of_life_runs.Spans.{is_open}
+use Rattle.served_places.specs.of_link_mails.Body.{Body}
+use Rattle.served_places.specs.of_master_duty.Reply.{Reply}
+use Rattle.served_places.specs.of_state_model.Stated.{Service}
+use Rattle.served_places.specs.of_master_hand.Spoken.{Asked}
+use Rattle.served_places.specs.of_master_tour.Goes.{holds_at}
+use Rattle.served_places.specs.of_state_model.Accounts.{is_free}
 use Rattle.packets_heard.specs.Over.{packet_begun}
 use Rattle.plan_ring.specs.Dues.{AllDue}
 use Rattle.run_notes.specs.Handed.{AllWhere, is_packet}
 use Rattle.run_notes.specs.declared.notes.Notes.{Notes}
 use Rattle.run_record.specs.Mails.{overs_behind}
-use Rattle.segment_ring.specs.declared.wire.Fate.TheVariants as Fates
-use Rattle.master_node.specs.of_life_runs.Served.{IsServedLed, Serves, served_behind}
+use Rattle.served_places.specs.of_segment_ring.declared.wire.Fate.TheVariants as Fates
+use Rattle.served_places.specs.of_life_runs.Served.{IsServedLed, Serves, served_behind}
 
 -- a packet is in hand of an open slave, by its life: the newest service by mails is one, and a fragment of it isn't written yet
 abbrev pub has_fragments : Speech Body Asked Reply → Life Body Asked Reply → Bool

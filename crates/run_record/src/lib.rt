@@ -4,5 +4,6 @@
 mod running;
 mod session;
 
+pub use run_notes::{master_node, run_book, segment_plan};
 pub use running::run;
 pub use session::Session;

@@ -1,16 +1,16 @@
 ghost use Rattle.std.specs.Prelude.{◌≡◌, ◌≢◌, [], map, IfOk, OnErr, true, false};
-ghost use Rattle.segment_plan.specs.Sound.{IsPlan};
-ghost use Rattle.run_book.specs.Book.{IsNew};
+ghost use Rattle.packets_heard.specs.of_segment_plan.Sound.{IsPlan};
+ghost use Rattle.run_notes.specs.of_run_book.Book.{IsNew};
 ghost use Rattle.std.specs.Bool.{OnTrue, OnFalse};
 ghost use Rattle.run_record.specs.Session.{session_rows, are_at_rest};
-ghost use Rattle.run_book.specs.declared.book.Ending.TheVariants as endings;
+ghost use Rattle.run_notes.specs.of_run_book.declared.book.Ending.TheVariants as endings;
 ghost use Rattle.run_record.specs.Led.{exchanged, AreLed, LedBook};
 ghost use Rattle.run_record.specs.Ran.{HasFrames, EndsSo, EndsAs};
 
 use crate::session::Session;
-use ec_fields::NoMemory;
-use run_book::{Book, Ending};
-use segment_plan::Scenario;
+use run_notes::ec_fields::NoMemory;
+use run_notes::run_book::{Book, Ending};
+use run_notes::segment_plan::Scenario;
 use std::alloc::Global;
 
 // How a session ends that is settled, or has spent its budget.

@@ -2,15 +2,15 @@ ghost use Rattle.std.specs.Prelude.{◌≡◌, ◌≢◌, ◌<◌, ◌≤◌, �
 ghost use Rattle.std.specs.Bool.{OnTrue, OnFalse};
 ghost use Rattle.std.specs.List.{list_any};
 ghost use Rattle.run_notes.specs.Notes.{has_given_up, stations_of};
-ghost use Rattle.segment_plan.specs.Sound.{IsPlan, IsLaid, IsSlave};
-ghost use Rattle.slave_server.specs.Spec.{node_of};
-ghost use Rattle.run_book.specs.declared.book.SentFrame.{SentFrame as Recorded};
-ghost use Rattle.run_book.specs.declared.book.Ending.TheVariants as endings;
-ghost use Rattle.master_node.specs.Happened.{HasHappened, HappensSo};
-ghost use Rattle.master_node.specs.Listed.{listed};
-ghost use Rattle.master_node.specs.Listing.{events_in};
-ghost use Rattle.master_node.specs.Origins.{forwards_at};
-ghost use Rattle.run_book.specs.Ports.{ports_of};
+ghost use Rattle.packets_heard.specs.of_segment_plan.Sound.{IsPlan, IsLaid, IsSlave};
+ghost use Rattle.packets_heard.specs.of_slave_server.Spec.{node_of};
+ghost use Rattle.run_notes.specs.of_run_book.declared.book.SentFrame.{SentFrame as Recorded};
+ghost use Rattle.run_notes.specs.of_run_book.declared.book.Ending.TheVariants as endings;
+ghost use Rattle.packets_heard.specs.of_master_node.Happened.{HasHappened, HappensSo};
+ghost use Rattle.packets_heard.specs.of_master_node.Listed.{listed};
+ghost use Rattle.packets_heard.specs.of_master_node.Listing.{events_in};
+ghost use Rattle.packets_heard.specs.of_master_node.Origins.{forwards_at};
+ghost use Rattle.run_notes.specs.of_run_book.Ports.{ports_of};
 ghost use Rattle.run_notes.specs.Switched.{SameSwitch};
 ghost use Rattle.run_record.specs.Replay.{first_ring};
 ghost use Rattle.run_record.specs.Served.{ListsBehind, ServingAsks, ServingBegins, ServingGoesOn, ServingLives, ServingRests, TellsBehind};
@@ -18,16 +18,16 @@ ghost use Rattle.run_record.specs.Telling.{BringsBack, LivesGoOn, PacketsComeIn,
 ghost use Rattle.run_record.specs.Session.{budget_of, smaller_bound, rests_at, session_rows, first_session, are_at_rest, some_given_up, has_live, FrameEvents, IsDone, Steps, Stops, SwitchGrows, Asks};
 ghost use Rattle.run_notes.specs.Slaves.{slave_row, slave_rows, KeepsRest};
 
-use datagrams::FrameBuf;
-use ec_fields::{NoMemory, Octets, Rows};
-use mailbox_mail::Mail;
-use master_node::{Event, MasterNode};
-use run_book::{Book, Ending, SentFrame, SlaveBook};
+use packets_heard::slave_node::SlaveNode;
+use packets_heard::slave_server::{SlaveServer, node_of};
+use run_notes::ec_fields::{NoMemory, Octets, Rows};
+use run_notes::mailbox_mail::Mail;
+use run_notes::master_node::{Event, MasterNode};
+use run_notes::run_book::{Book, Ending, SentFrame, SlaveBook};
+use run_notes::segment_plan::{Scenario, SlaveSpec, bound};
+use run_notes::segment_ring::{Fate, Ring, Wire};
 use run_notes::{AskedMail, Log, Moment, Notes};
-use segment_plan::{Scenario, SlaveSpec, bound};
-use segment_ring::{Fate, Ring, Wire};
-use slave_node::SlaveNode;
-use slave_server::{SlaveServer, node_of};
+use served_places::datagrams::FrameBuf;
 use std::alloc::Global;
 use std::marker::Model;
 
@@ -50,7 +50,7 @@ pub struct Session {
 
 impl Model for Session {
     ghost use Rattle.std.specs.Prelude.{◌≡◌, ◌≤◌, ◌+◌, length, map, vec_len};
-    ghost use Rattle.master_node.specs.Lives.{waiting_of};
+    ghost use Rattle.packets_heard.specs.of_master_node.Lives.{waiting_of};
     ghost use Rattle.run_record.specs.Session.{SessionState};
 
     ghost Value = { SessionState };

@@ -6,14 +6,14 @@ use Rattle.std.proofs.lemmas.Nat.{pow_pos, ones_le_self}
 use Rattle.std.proofs.lemmas.Bool.{ne_eqb}
 use lib.Lanes.{mask_l}
 use Rattle.arrayvec.specs.ArrayVec.{ArrayVec}
-use Rattle.eoe_switch.specs.declared.port.Offered.{Offered}
-use Rattle.eoe_switch.specs.declared.port.Offered.TheVariants.{Not, Taken, Full}
-use Rattle.eoe_switch.specs.declared.port.Port.{Port}
-use Rattle.eoe_switch.specs.declared.port.Route.{Route}
-use Rattle.eoe_switch.specs.declared.switching.SwitchEvent.{SwitchEvent}
-use Rattle.eoe_switch.specs.declared.switching.SwitchEvent.TheVariants.{Arrive, Begun, Down}
-use Rattle.eoe_switch.specs.Ports.{offered}
-use Rattle.eoe_switch.specs.Switch.{Switched, first_switch, switched, Flow, flow_of, flow_behind, bit_where, bits_of_full, drops_of}
+use Rattle.run_book.specs.of_eoe_switch.declared.port.Offered.{Offered}
+use Rattle.run_book.specs.of_eoe_switch.declared.port.Offered.TheVariants.{Not, Taken, Full}
+use Rattle.run_book.specs.of_eoe_switch.declared.port.Port.{Port}
+use Rattle.run_book.specs.of_eoe_switch.declared.port.Route.{Route}
+use Rattle.run_book.specs.of_eoe_switch.declared.switching.SwitchEvent.{SwitchEvent}
+use Rattle.run_book.specs.of_eoe_switch.declared.switching.SwitchEvent.TheVariants.{Arrive, Begun, Down}
+use Rattle.run_book.specs.of_eoe_switch.Ports.{offered}
+use Rattle.run_book.specs.of_eoe_switch.Switch.{Switched, first_switch, switched, Flow, flow_of, flow_behind, bit_where, bits_of_full, drops_of}
 use Rattle.run_report.specs.Drops.{drops_in}
 
 -- whether a packet was dropped there

@@ -1,8 +1,8 @@
 -- The packets that a switch drops, event by event.
 use Rattle.std.specs.Prelude.{ℕ, ◌+◌, List, [], ◌∷◌}
-use Rattle.eoe_switch.specs.declared.switching.SwitchEvent.{SwitchEvent}
-use Rattle.eoe_switch.specs.declared.switching.SwitchEvent.TheVariants.{Arrive, Begun, Down}
-use Rattle.eoe_switch.specs.Switch.{Switched, arrived, begun_at, downed_at, route_of, learned_from, drops_of}
+use Rattle.run_book.specs.of_eoe_switch.declared.switching.SwitchEvent.{SwitchEvent}
+use Rattle.run_book.specs.of_eoe_switch.declared.switching.SwitchEvent.TheVariants.{Arrive, Begun, Down}
+use Rattle.run_book.specs.of_eoe_switch.Switch.{Switched, arrived, begun_at, downed_at, route_of, learned_from, drops_of}
 
 -- a switch behind an event
 abbrev pub behind : Switched → SwitchEvent → Switched

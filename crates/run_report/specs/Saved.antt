@@ -2,8 +2,8 @@
 use Rattle.std.specs.Prelude.{ℕ, ◌+◌, ◌/◌, ◌%◌, List, [], ◌∷◌, ◌++◌}
 use Rattle.pcap_frames.specs.declared.capture.Stamp.{Stamp}
 use Rattle.pcap_frames.specs.Capture.{Packet, whole_packet, saved}
-use Rattle.segment_ring.specs.declared.wire.Fate.{Fate}
-use Rattle.segment_ring.specs.declared.wire.Fate.TheVariants.{Pass, Lost}
+use Rattle.run_book.specs.of_segment_ring.declared.wire.Fate.{Fate}
+use Rattle.run_book.specs.of_segment_ring.declared.wire.Fate.TheVariants.{Pass, Lost}
 use Rattle.run_book.specs.declared.book.SentFrame.{SentFrame}
 
 -- the time of a frame: its number in microseconds

@@ -3,30 +3,30 @@ use Rattle.std.proofs.Common.{◌≡◌, ℕ, zero, suc, ◌+◌, ◌*◌, ◌�
 use Rattle.std.specs.Prelude.{◌%◌, nat_lt, sum_by, slice_get}
 use Rattle.std.proofs.lemmas.List.Elements.{All-head, All-tail}
 use Rattle.std.proofs.lemmas.List.Sums.{sum_by-cons, sum_by-append}
-use Rattle.life_model.specs.Script.{eras_started, life_started}
-use Rattle.protocol_models.specs.EoeClient as EoeClient
+use Rattle.life_counts.specs.of_life_model.Script.{eras_started, life_started}
+use Rattle.life_counts.specs.of_protocol_models.EoeClient as EoeClient
 use Rattle.life_counts.specs.Begun.{service_most, begun_most}
-use Rattle.life_model.specs.Lives.{Era, Life}
-use Rattle.run_frames.specs.of_life_runs.Led.{Comes}
-use Rattle.run_frames.specs.of_master_hand.Spoken.{Asked, net, passed, is_passed}
-use Rattle.run_frames.specs.of_master_hand.Talk.{asked_of}
+use Rattle.life_counts.specs.of_life_model.Lives.{Era, Life}
+use Rattle.plan_ring.specs.of_life_runs.Led.{Comes}
+use Rattle.life_counts.specs.of_master_hand.Spoken.{Asked, net, passed, is_passed}
+use Rattle.life_counts.specs.of_master_hand.Talk.{asked_of}
 use Rattle.life_counts.specs.of_few_replies.Steps.{passed_one, passed_in, eras_passed, life_passed}
 use Rattle.life_counts.specs.Asked.{asked_most}
 use Rattle.life_counts.specs.Split.{own_work, entering}
-use Rattle.run_frames.specs.States.{state_of}
+use Rattle.plan_ring.specs.of_run_frames.States.{state_of}
 use Rattle.run_work.proofs.Together.{whole_work}
-use Rattle.run_frames.specs.Came.{is_packet}
-use Rattle.segment_plan.specs.Sound.{IsSlave, IsService}
-use Rattle.segment_plan.specs.declared.service.Service as Plan
-use Rattle.segment_plan.specs.declared.slave.SlaveSpec.{SlaveSpec}
-use Rattle.life_runs.specs.Came.{ServedCame, AreAmong}
-use Rattle.life_runs.specs.Served.{Keyed}
+use Rattle.plan_ring.specs.of_run_frames.Came.{is_packet}
+use Rattle.life_counts.specs.of_segment_plan.Sound.{IsSlave, IsService}
+use Rattle.life_counts.specs.of_segment_plan.declared.service.Service as Plan
+use Rattle.life_counts.specs.of_segment_plan.declared.slave.SlaveSpec.{SlaveSpec}
+use Rattle.plan_ring.specs.of_life_runs.Came.{ServedCame, AreAmong}
+use Rattle.plan_ring.specs.of_life_runs.Served.{Keyed}
 use Rattle.run_work.specs.ServedGained.{serving_most}
-use Rattle.few_replies.specs.Shapes.{shape_of}
-use Rattle.plan_ring.specs.of_slave_server.Spec.{core_of, profile_of}
-use Rattle.state_model.specs.Stated.{Service}
-use Rattle.state_model.specs.Accounts.{Started}
-use Rattle.state_model.specs.Promise.{services_in}
+use Rattle.life_counts.specs.of_few_replies.Shapes.{shape_of}
+use Rattle.life_counts.specs.of_slave_server.Spec.{core_of, profile_of}
+use Rattle.life_counts.specs.of_state_model.Stated.{Service}
+use Rattle.life_counts.specs.of_state_model.Accounts.{Started}
+use Rattle.life_counts.specs.of_state_model.Promise.{services_in}
 
 -- none or one
 abbrev listed : Option (Service Asked) → List (Service Asked)

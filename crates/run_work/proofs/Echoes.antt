@@ -4,7 +4,7 @@ use Rattle.std.specs.Prelude.{◌&&◌, ◌||◌, nat_le, slice_index}
 use Rattle.std.specs.Str.{bytes_eq}
 use Rattle.std.proofs.lemmas.Bool.{leb-true}
 use Rattle.std.proofs.lemmas.List.{get_or-append-add, length-take-le}
-use Rattle.protocol_models.specs.Echo.{everyone, is_echo, echo_of}
+use Rattle.life_counts.specs.of_protocol_models.Echo.{everyone, is_echo, echo_of}
 use Rattle.run_work.specs.Packets.{may_echo}
 
 first_true : (a b : Bool) → (a && b) ≡ true → a ≡ true

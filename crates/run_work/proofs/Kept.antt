@@ -1,19 +1,19 @@
 -- What no service and no mail changes of a slave, in a session of both.
 use Rattle.std.proofs.Common.{◌≡◌, ℕ, ◌+◌, ◌≤◌, Ok, Err, refl, arith}
-use Rattle.life_model.specs.Eras.{Clearing}
-use Rattle.link_mails.specs.Body.{Body}
-use Rattle.few_replies.specs.RowCounts.{AreCounted}
-use Rattle.few_replies.specs.Calm.{asked_count}
-use Rattle.few_replies.specs.Shapes.{Shape, shape_at, shape_most}
-use Rattle.serving_model.specs.Tagged.{Asked, ideal}
+use Rattle.life_counts.specs.of_life_model.Eras.{Clearing}
+use Rattle.life_counts.specs.of_link_mails.Body.{Body}
+use Rattle.life_counts.specs.of_few_replies.RowCounts.{AreCounted}
+use Rattle.life_counts.specs.of_few_replies.Calm.{asked_count}
+use Rattle.life_counts.specs.of_few_replies.Shapes.{Shape, shape_at, shape_most}
+use Rattle.life_counts.specs.of_serving_model.Tagged.{Asked, ideal}
 use Rattle.run_work.specs.ServedGained.{serving_most}
-use Rattle.slave_model.specs.Profile.{Protocol, Profile}
-use Rattle.slave_model.specs.Server.{ServiceOf}
-use Rattle.slave_parts.specs.Parts.{Server, parts}
-use Rattle.slave_parts.specs.Served.{product_whole}
-use Rattle.state_model.specs.Families.{InState}
+use Rattle.life_counts.specs.of_slave_model.Profile.{Protocol, Profile}
+use Rattle.life_counts.specs.of_slave_model.Server.{ServiceOf}
+use Rattle.plan_ring.specs.of_slave_parts.Parts.{Server, parts}
+use Rattle.plan_ring.specs.of_slave_parts.Served.{product_whole}
+use Rattle.life_counts.specs.of_state_model.Families.{InState}
 use Rattle.life_counts.specs.Worked.{KeepsAll}
-use Rattle.few_replies.proofs.Shaped.{mail_stays, exec_stays}
+use Rattle.life_counts.proofs.of_few_replies.Shaped.{mail_stays, exec_stays}
 use Rattle.run_work.specs.Sessions.{Wanted, InRow, session, session_states, named, named_mail, named_wanted}
 
 -- what each counts at most

@@ -1,24 +1,24 @@
 -- Of a life that a master leads no epoch gained anything that was never opened.
 use Rattle.std.proofs.Common.{ℕ, suc, Bool, true, false, List, [], ◌∷◌, map, length, refl, sym, subst}
 use Rattle.std.specs.Prelude.{⊤, ◌&&◌}
-use Rattle.datagrams.specs.Datagram as Raw
-use Rattle.frame_view.specs.View.{Lens}
-use Rattle.frame_view.specs.Seen.{seen}
+use Rattle.plan_ring.specs.of_datagrams.Datagram as Raw
+use Rattle.plan_ring.specs.of_frame_view.View.{Lens}
+use Rattle.plan_ring.specs.of_frame_view.Seen.{seen}
 use Rattle.life_counts.specs.Begun.{AreUnopened}
 use Rattle.life_counts.proofs.Unopened.{new_unopened, next_unopened, back_unopened, lost_unopened, gives_unopened}
-use Rattle.frame_view.specs.Frames.{Share}
-use Rattle.frame_view.specs.Shares.{Lived, given_where, came_at}
-use Rattle.life_model.specs.Lives.{Spot, Life}
-use Rattle.link_mails.specs.Body.{Body}
-use Rattle.run_frames.specs.of_life_runs.First.{leads_from, first_leads}
-use Rattle.run_frames.specs.of_life_runs.Led.{Exchanged, Leads, Turn, AllTurn, IsLed, speech_at, life_behind, led_behind, gives_up_at}
-use Rattle.master_duty.specs.Reply.{Reply}
-use Rattle.run_frames.specs.of_master_hand.Spoken.{Asked, acknowledged, is_followed, is_passed}
-use Rattle.segment_plan.specs.declared.plan.Scenario.{Scenario}
-use Rattle.segment_plan.specs.declared.service.Service as Plan
-use Rattle.segment_plan.specs.declared.slave.SlaveSpec.{SlaveSpec}
-use Rattle.segment_ring.specs.declared.wire.Fate.{Fate}
-use Rattle.segment_ring.specs.declared.wire.Fate.TheVariants.{Pass, Lost}
+use Rattle.plan_ring.specs.of_frame_view.Frames.{Share}
+use Rattle.plan_ring.specs.of_frame_view.Shares.{Lived, given_where, came_at}
+use Rattle.life_counts.specs.of_life_model.Lives.{Spot, Life}
+use Rattle.life_counts.specs.of_link_mails.Body.{Body}
+use Rattle.plan_ring.specs.of_life_runs.First.{leads_from, first_leads}
+use Rattle.plan_ring.specs.of_life_runs.Led.{Exchanged, Leads, Turn, AllTurn, IsLed, speech_at, life_behind, led_behind, gives_up_at}
+use Rattle.plan_ring.specs.of_master_duty.Reply.{Reply}
+use Rattle.life_counts.specs.of_master_hand.Spoken.{Asked, acknowledged, is_followed, is_passed}
+use Rattle.life_counts.specs.of_segment_plan.declared.plan.Scenario.{Scenario}
+use Rattle.life_counts.specs.of_segment_plan.declared.service.Service as Plan
+use Rattle.life_counts.specs.of_segment_plan.declared.slave.SlaveSpec.{SlaveSpec}
+use Rattle.plan_ring.specs.of_segment_ring.declared.wire.Fate.{Fate}
+use Rattle.plan_ring.specs.of_segment_ring.declared.wire.Fate.TheVariants.{Pass, Lost}
 
 abbrev pub AllUnopened : List Leads → Type 0
 AllUnopened [] = ⊤

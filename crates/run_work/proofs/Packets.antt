@@ -5,15 +5,15 @@ use Rattle.std.proofs.lemmas.List.Elements.{All-head, All-tail}
 use Rattle.std.proofs.Math.Nat.{mul-le-mul_right}
 use Rattle.std.proofs.lemmas.List.Sums.{sum_by-cons}
 use Rattle.arrayvec.specs.ArrayVec.{ArrayVec}
-use Rattle.run_frames.specs.of_life_runs.Led.{Leads}
+use Rattle.plan_ring.specs.of_life_runs.Led.{Leads}
 use Rattle.run_work.specs.Packets.{cuts}
 use Rattle.life_counts.specs.Split.{own_work, entering, split_work}
-use Rattle.run_frames.specs.Begun.{work_begun, addressed, work_in}
-use Rattle.segment_plan.specs.Sound.{IsPacket}
-use Rattle.segment_plan.specs.Bound.{spread, work_of, addressed_work, services_work, host_work}
-use Rattle.segment_plan.specs.declared.plan.Scenario.{Scenario}
-use Rattle.segment_plan.specs.declared.service.Service as Plan
-use Rattle.segment_plan.specs.declared.slave.SlaveSpec.{SlaveSpec}
+use Rattle.plan_ring.specs.of_run_frames.Begun.{work_begun, addressed, work_in}
+use Rattle.life_counts.specs.of_segment_plan.Sound.{IsPacket}
+use Rattle.life_counts.specs.of_segment_plan.Bound.{spread, work_of, addressed_work, services_work, host_work}
+use Rattle.life_counts.specs.of_segment_plan.declared.plan.Scenario.{Scenario}
+use Rattle.life_counts.specs.of_segment_plan.declared.service.Service as Plan
+use Rattle.life_counts.specs.of_segment_plan.declared.slave.SlaveSpec.{SlaveSpec}
 use Rattle.run_work.specs.Switched.{cuts_begun, host_cuts, AreSwitched}
 use Rattle.run_work.specs.Together.{packets_begun}
 use Rattle.run_work.proofs.Together.{whole_work}

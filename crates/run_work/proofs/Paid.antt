@@ -1,28 +1,28 @@
 -- Each life of a serving has gained no more than what came into hand of it counts.
 use Rattle.std.proofs.Common.{◌≡◌, ◌+◌, ◌≤◌, All, List, [], ◌∷◌, length, sym, subst, arith, refl}
 use Rattle.std.proofs.lemmas.List.Elements.{All-head, All-tail}
-use Rattle.exchange_model.specs.Exchange.{IsLawful}
+use Rattle.life_counts.specs.of_exchange_model.Exchange.{IsLawful}
 use Rattle.life_counts.specs.Begun.{life_most, AreUnopened}
-use Rattle.life_model.specs.Gains.{gains}
-use Rattle.life_model.specs.Lives.{Life}
-use Rattle.link_mails.specs.Body.{Body}
-use Rattle.few_replies.specs.RowCounts.{AreCounted}
-use Rattle.master_duty.specs.Reply as Master
-use Rattle.run_frames.specs.of_master_hand.Spoken as Spoken
-use Rattle.segment_plan.specs.Sound.{IsSlave}
-use Rattle.segment_plan.specs.declared.slave.SlaveSpec.{SlaveSpec}
-use Rattle.life_runs.specs.Served.{Serves}
+use Rattle.life_counts.specs.of_life_model.Gains.{gains}
+use Rattle.life_counts.specs.of_life_model.Lives.{Life}
+use Rattle.life_counts.specs.of_link_mails.Body.{Body}
+use Rattle.life_counts.specs.of_few_replies.RowCounts.{AreCounted}
+use Rattle.plan_ring.specs.of_master_duty.Reply as Master
+use Rattle.life_counts.specs.of_master_hand.Spoken as Spoken
+use Rattle.life_counts.specs.of_segment_plan.Sound.{IsSlave}
+use Rattle.life_counts.specs.of_segment_plan.declared.slave.SlaveSpec.{SlaveSpec}
+use Rattle.plan_ring.specs.of_life_runs.Served.{Serves}
 use Rattle.run_work.specs.ServedGained.{serving_most, AllPaid}
-use Rattle.few_replies.specs.Shapes.{shape_at}
-use Rattle.serving_model.specs.Tagged.{ideal, tagged}
-use Rattle.few_replies.specs.Packets.{is_calm, is_fair}
-use Rattle.slave_model.specs.Acknowledged.{acknowledged}
-use Rattle.slave_model.specs.Profile.{Profile, IsProfile}
-use Rattle.slave_parts.specs.Parts.{Server, parts}
-use Rattle.slave_parts.specs.Served.{product_whole}
-use Rattle.plan_ring.specs.of_slave_server.Spec.{profile_of}
-use Rattle.state_model.specs.Families.{InState, states_of}
-use Rattle.state_model.specs.Stated.{IsStated}
+use Rattle.life_counts.specs.of_few_replies.Shapes.{shape_at}
+use Rattle.life_counts.specs.of_serving_model.Tagged.{ideal, tagged}
+use Rattle.life_counts.specs.of_few_replies.Packets.{is_calm, is_fair}
+use Rattle.life_counts.specs.of_slave_model.Acknowledged.{acknowledged}
+use Rattle.life_counts.specs.of_slave_model.Profile.{Profile, IsProfile}
+use Rattle.plan_ring.specs.of_slave_parts.Parts.{Server, parts}
+use Rattle.plan_ring.specs.of_slave_parts.Served.{product_whole}
+use Rattle.life_counts.specs.of_slave_server.Spec.{profile_of}
+use Rattle.life_counts.specs.of_state_model.Families.{InState, states_of}
+use Rattle.life_counts.specs.of_state_model.Stated.{IsStated}
 use Rattle.life_counts.proofs.Seen.{gains_seen, unopened_seen, most_seen}
 use Rattle.life_counts.proofs.Stated.{calm_stated}
 use Rattle.life_counts.proofs.Worked.{worked_gains}

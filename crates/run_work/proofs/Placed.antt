@@ -2,17 +2,17 @@
 use Rattle.std.proofs.Common.{◌≡◌, ℕ, zero, suc, All, List, [], ◌∷◌, map, refl, ◌∙◌, length}
 use Rattle.std.specs.Prelude.{⊤}
 use Rattle.std.proofs.lemmas.List.Elements.{All-nil, All-cons}
-use Rattle.datagrams.specs.Datagram as Raw
-use Rattle.frame_view.specs.View.{Lens}
-use Rattle.run_frames.specs.of_life_runs.First.{spot_of, script_for, leads_from, first_leads}
-use Rattle.run_frames.specs.of_life_runs.Led.{Exchanged, Leads, gives_up_at}
-use Rattle.segment_plan.specs.declared.plan.Scenario.{Scenario}
-use Rattle.segment_plan.specs.declared.service.Service as Plan
-use Rattle.segment_plan.specs.declared.slave.SlaveSpec.{SlaveSpec}
-use Rattle.segment_ring.specs.declared.wire.Fate.{Fate}
-use Rattle.segment_ring.specs.declared.wire.Fate.TheVariants.{Pass, Lost}
-use Rattle.life_runs.specs.Came.{IsFresh}
-use Rattle.life_runs.specs.Served.{Keyed, Serves, ServedTurn, AllServedTurn, IsServedLed, all_serve, asked_at, served_behind, served_life}
+use Rattle.plan_ring.specs.of_datagrams.Datagram as Raw
+use Rattle.plan_ring.specs.of_frame_view.View.{Lens}
+use Rattle.plan_ring.specs.of_life_runs.First.{spot_of, script_for, leads_from, first_leads}
+use Rattle.plan_ring.specs.of_life_runs.Led.{Exchanged, Leads, gives_up_at}
+use Rattle.life_counts.specs.of_segment_plan.declared.plan.Scenario.{Scenario}
+use Rattle.life_counts.specs.of_segment_plan.declared.service.Service as Plan
+use Rattle.life_counts.specs.of_segment_plan.declared.slave.SlaveSpec.{SlaveSpec}
+use Rattle.plan_ring.specs.of_segment_ring.declared.wire.Fate.{Fate}
+use Rattle.plan_ring.specs.of_segment_ring.declared.wire.Fate.TheVariants.{Pass, Lost}
+use Rattle.plan_ring.specs.of_life_runs.Came.{IsFresh}
+use Rattle.plan_ring.specs.of_life_runs.Served.{Keyed, Serves, ServedTurn, AllServedTurn, IsServedLed, all_serve, asked_at, served_behind, served_life}
 
 -- as the plan has it
 pub record IsPlaced (rows : List (ℕ × Plan.Service)) (place : ℕ) (s : SlaveSpec) (a : Leads) : Type 0 where

@@ -1,27 +1,27 @@
 -- Frames that went round a ring have the fates of its schedule, and come back as the return of what was sent.
 use Rattle.std.proofs.Common.{◌≡◌, ℕ, Option, List, [], ◌∷◌, ◌++◌, sym, ◌∙◌, subst}
 use Rattle.std.specs.Prelude.{⊤}
-use Rattle.datagrams.specs.Datagram as Raw
-use Rattle.datagrams.specs.Frame.{IsFrame, chained}
-use Rattle.frame_view.specs.Seen.{seen}
-use Rattle.frame_view.specs.View.{Lens}
-use Rattle.run_frames.specs.of_life_runs.Led.{Exchanged, Leads}
-use Rattle.link_mails.specs.Body.{Body}
-use Rattle.master_duty.specs.Reply.{Reply}
-use Rattle.run_frames.specs.of_master_hand.Spoken.{Asked}
+use Rattle.plan_ring.specs.of_datagrams.Datagram as Raw
+use Rattle.plan_ring.specs.of_datagrams.Frame.{IsFrame, chained}
+use Rattle.plan_ring.specs.of_frame_view.Seen.{seen}
+use Rattle.plan_ring.specs.of_frame_view.View.{Lens}
+use Rattle.plan_ring.specs.of_life_runs.Led.{Exchanged, Leads}
+use Rattle.life_counts.specs.of_link_mails.Body.{Body}
+use Rattle.plan_ring.specs.of_master_duty.Reply.{Reply}
+use Rattle.life_counts.specs.of_master_hand.Spoken.{Asked}
 use Rattle.plan_ring.specs.Round.{AllRound, behind}
-use Rattle.segment_model.specs.Returned.{Returns}
-use Rattle.segment_ring.specs.declared.wire.Fate.TheVariants.{Pass}
-use Rattle.segment_ring.specs.Ring.{RingState, ring_returned}
-use Rattle.segment_ring.specs.Schedule.{fate_at}
-use Rattle.plan_ring.specs.of_slave_server.Serving.{Serving}
-use Rattle.slave_node.specs.Node.{Node, node_passed}
-use Rattle.run_frames.specs.Answers.{AllReturned}
-use Rattle.run_frames.specs.Clocks.{Clocked}
-use Rattle.run_frames.specs.Fates.{AreFated}
-use Rattle.run_frames.specs.Runs.{Progress}
-use Rattle.run_frames.specs.Toured.{IsToured}
-use Rattle.life_runs.specs.Served.{Serves, IsServedLed}
+use Rattle.life_counts.specs.of_segment_model.Returned.{Returns}
+use Rattle.plan_ring.specs.of_segment_ring.declared.wire.Fate.TheVariants.{Pass}
+use Rattle.plan_ring.specs.of_segment_ring.Ring.{RingState, ring_returned}
+use Rattle.plan_ring.specs.of_segment_ring.Schedule.{fate_at}
+use Rattle.life_counts.specs.of_slave_server.Serving.{Serving}
+use Rattle.life_counts.specs.of_slave_node.Node.{Node, node_passed}
+use Rattle.plan_ring.specs.of_run_frames.Answers.{AllReturned}
+use Rattle.plan_ring.specs.of_run_frames.Clocks.{Clocked}
+use Rattle.plan_ring.specs.of_run_frames.Fates.{AreFated}
+use Rattle.plan_ring.specs.of_run_frames.Runs.{Progress}
+use Rattle.plan_ring.specs.of_run_frames.Toured.{IsToured}
+use Rattle.plan_ring.specs.of_life_runs.Served.{Serves, IsServedLed}
 
 pub round_fated : (ring : RingState (Node Serving)) (fs : List Exchanged) → AllRound ring fs → AreFated ring.lose ring.number fs
 round_fated ring [] r = tt

@@ -1,27 +1,27 @@
 -- The gains of all lives of a run.
 use Rattle.std.proofs.Common.{◌≡◌, ℕ, suc, ◌+◌, ◌≤◌, Bool, All, List, [], ◌∷◌, length, sym, ap, subst}
 use Rattle.std.proofs.lemmas.List.Elements.{All-head, All-tail}
-use Rattle.frame_view.specs.View.{Lens}
+use Rattle.plan_ring.specs.of_frame_view.View.{Lens}
 use Rattle.life_counts.specs.Begun.{life_most, AreUnopened, KeepsShape}
 use Rattle.life_counts.proofs.Whole.{life_gains}
-use Rattle.life_model.specs.Gains.{gains}
-use Rattle.run_frames.specs.of_life_runs.First.{lens_of}
-use Rattle.run_frames.specs.of_life_runs.Led.{Leads}
-use Rattle.link_mails.specs.Body.{Body}
+use Rattle.life_counts.specs.of_life_model.Gains.{gains}
+use Rattle.plan_ring.specs.of_life_runs.First.{lens_of}
+use Rattle.plan_ring.specs.of_life_runs.Led.{Leads}
+use Rattle.life_counts.specs.of_link_mails.Body.{Body}
 use Rattle.life_counts.specs.Asked.{asked_most}
 use Rattle.plan_ring.specs.Asked.{asked}
 use Rattle.plan_ring.specs.Plan.{PlanMember, FitsPlan, step}
 use Rattle.plan_ring.specs.Lives.{IsShown, AllShown}
 use Rattle.plan_ring.specs.Master.{IsLed, AllLed, owed}
-use Rattle.segment_model.specs.Record.{Frame}
-use Rattle.segment_plan.specs.declared.plan.Scenario.{Scenario}
-use Rattle.segment_plan.specs.declared.slave.SlaveSpec.{SlaveSpec}
-use Rattle.segment_plan.specs.Sound.{IsSlave}
+use Rattle.life_counts.specs.of_segment_model.Record.{Frame}
+use Rattle.life_counts.specs.of_segment_plan.declared.plan.Scenario.{Scenario}
+use Rattle.life_counts.specs.of_segment_plan.declared.slave.SlaveSpec.{SlaveSpec}
+use Rattle.life_counts.specs.of_segment_plan.Sound.{IsSlave}
 use Rattle.plan_ring.specs.Real.{real_clearing}
-use Rattle.few_replies.specs.Shapes.{shape_of}
-use Rattle.slave_model.specs.Profile.{Profile, IsProfile}
-use Rattle.plan_ring.specs.of_slave_server.Spec.{core_of, profile_of}
-use Rattle.plan_ring.specs.of_whole_ring.Members.{MemberIs, AllLived}
+use Rattle.life_counts.specs.of_few_replies.Shapes.{shape_of}
+use Rattle.life_counts.specs.of_slave_model.Profile.{Profile, IsProfile}
+use Rattle.life_counts.specs.of_slave_server.Spec.{core_of, profile_of}
+use Rattle.life_counts.specs.of_whole_ring.Members.{MemberIs, AllLived}
 use Rattle.run_work.specs.Gained.{app_shape, AllGain}
 use Rattle.run_work.proofs.Opened.{AllUnopened}
 

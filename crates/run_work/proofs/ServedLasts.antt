@@ -1,30 +1,30 @@
 -- What no step of a life loses holds of each life of a serving.
 use Rattle.std.proofs.Common.{ℕ, zero, suc, Bool, true, false, Option, List, [], ◌∷◌, map, length, refl, sym, subst}
 use Rattle.std.specs.Prelude.{⊤, ◌&&◌}
-use Rattle.datagrams.specs.Datagram as Raw
-use Rattle.exchange_model.specs.Exchange.{Speech}
-use Rattle.frame_view.specs.View.{Lens}
-use Rattle.frame_view.specs.Seen.{seen}
+use Rattle.plan_ring.specs.of_datagrams.Datagram as Raw
+use Rattle.life_counts.specs.of_exchange_model.Exchange.{Speech}
+use Rattle.plan_ring.specs.of_frame_view.View.{Lens}
+use Rattle.plan_ring.specs.of_frame_view.Seen.{seen}
 use Rattle.life_counts.specs.Begun.{AreUnopened}
 use Rattle.life_counts.proofs.Unopened.{new_unopened, next_unopened, back_unopened, lost_unopened, gives_unopened}
-use Rattle.frame_view.specs.Shares.{given_where, came_at}
-use Rattle.life_model.specs.Lives.{Spot, Life, new_life, life_next, life_back, life_lost, gives_up}
-use Rattle.run_frames.specs.of_life_runs.First.{leads_from, first_leads}
-use Rattle.run_frames.specs.of_life_runs.Led.{Exchanged, speech_at, gives_up_at}
-use Rattle.link_mails.specs.Body.{Body}
-use Rattle.master_duty.specs.Reply.{Reply}
-use Rattle.run_frames.specs.of_master_hand.Spoken.{Asked, acknowledged, is_followed, is_passed}
-use Rattle.life_counts.specs.of_master_side.Passing.{news_back, news_lost}
-use Rattle.run_frames.proofs.Stating.{LifeCame, new_came, next_came, life_back_came, lost_came}
-use Rattle.segment_model.specs.Record.{News}
-use Rattle.segment_model.specs.Slaves.{Datagram, Found}
-use Rattle.segment_plan.specs.declared.plan.Scenario.{Scenario}
-use Rattle.segment_plan.specs.declared.service.Service as Plan
-use Rattle.segment_plan.specs.declared.slave.SlaveSpec.{SlaveSpec}
-use Rattle.segment_ring.specs.declared.wire.Fate.{Fate}
-use Rattle.segment_ring.specs.declared.wire.Fate.TheVariants.{Pass, Lost}
-use Rattle.life_runs.specs.Served.{Keyed, Serves, ServedTurn, AllServedTurn, IsServedLed, all_serve, asked_at, served_behind, served_life}
-use Rattle.state_model.specs.Accounts.{Pick}
+use Rattle.plan_ring.specs.of_frame_view.Shares.{given_where, came_at}
+use Rattle.life_counts.specs.of_life_model.Lives.{Spot, Life, new_life, life_next, life_back, life_lost, gives_up}
+use Rattle.plan_ring.specs.of_life_runs.First.{leads_from, first_leads}
+use Rattle.plan_ring.specs.of_life_runs.Led.{Exchanged, speech_at, gives_up_at}
+use Rattle.life_counts.specs.of_link_mails.Body.{Body}
+use Rattle.plan_ring.specs.of_master_duty.Reply.{Reply}
+use Rattle.life_counts.specs.of_master_hand.Spoken.{Asked, acknowledged, is_followed, is_passed}
+use Rattle.plan_ring.specs.of_master_side.Passing.{news_back, news_lost}
+use Rattle.plan_ring.proofs.of_run_frames.Stating.{LifeCame, new_came, next_came, life_back_came, lost_came}
+use Rattle.life_counts.specs.of_segment_model.Record.{News}
+use Rattle.life_counts.specs.of_segment_model.Slaves.{Datagram, Found}
+use Rattle.life_counts.specs.of_segment_plan.declared.plan.Scenario.{Scenario}
+use Rattle.life_counts.specs.of_segment_plan.declared.service.Service as Plan
+use Rattle.life_counts.specs.of_segment_plan.declared.slave.SlaveSpec.{SlaveSpec}
+use Rattle.plan_ring.specs.of_segment_ring.declared.wire.Fate.{Fate}
+use Rattle.plan_ring.specs.of_segment_ring.declared.wire.Fate.TheVariants.{Pass, Lost}
+use Rattle.plan_ring.specs.of_life_runs.Served.{Keyed, Serves, ServedTurn, AllServedTurn, IsServedLed, all_serve, asked_at, served_behind, served_life}
+use Rattle.life_counts.specs.of_state_model.Accounts.{Pick}
 
 -- NO STEP LOSES IT: a new life has it, and it stays over what comes into hand, a frame, and a give-up
 pub record Lasts (P : Life Body Asked Reply → Type 0) : Type 0 where

@@ -2,42 +2,42 @@
 use Rattle.std.proofs.Common.{◌≡◌, ℕ, suc, ◌+◌, ◌*◌, ◌≤◌, All, List, [], ◌∷◌, ◌++◌, length, take, filter, refl, sym, ap, subst, arith, length-append}
 use Rattle.std.specs.Prelude.{sum_by}
 use Rattle.std.proofs.lemmas.List.Elements.{All-head, All-tail}
-use Rattle.life_model.specs.Script.{life_started}
-use Rattle.frame_view.specs.View.{Lens}
+use Rattle.life_counts.specs.of_life_model.Script.{life_started}
+use Rattle.plan_ring.specs.of_frame_view.View.{Lens}
 use Rattle.life_counts.specs.Begun.{begun_most, life_most}
-use Rattle.life_model.specs.Gains.{gains}
-use Rattle.life_model.specs.Lives.{Life}
-use Rattle.run_frames.specs.of_life_runs.First.{lens_of, script_for, leads_from}
-use Rattle.link_mails.specs.Body.{Body}
-use Rattle.master_duty.specs.Reply.{Reply}
-use Rattle.run_frames.specs.of_master_hand.Spoken.{Asked, is_passed}
+use Rattle.life_counts.specs.of_life_model.Gains.{gains}
+use Rattle.life_counts.specs.of_life_model.Lives.{Life}
+use Rattle.plan_ring.specs.of_life_runs.First.{lens_of, script_for, leads_from}
+use Rattle.life_counts.specs.of_link_mails.Body.{Body}
+use Rattle.plan_ring.specs.of_master_duty.Reply.{Reply}
+use Rattle.life_counts.specs.of_master_hand.Spoken.{Asked, is_passed}
 use Rattle.life_counts.proofs.of_few_replies.PassingSteps as Steps
 use Rattle.life_counts.specs.Asked.{asked_most}
 use Rattle.life_counts.specs.Split.{own_work}
-use Rattle.run_frames.specs.Clocks.{reopened}
-use Rattle.run_frames.specs.States.{states_begun}
-use Rattle.run_frames.proofs.Stating.{LifeCame, life_few}
+use Rattle.plan_ring.specs.of_run_frames.Clocks.{reopened}
+use Rattle.plan_ring.specs.of_run_frames.States.{states_begun}
+use Rattle.plan_ring.proofs.of_run_frames.Stating.{LifeCame, life_few}
 use Rattle.run_work.specs.Switched.{cuts_begun}
 use Rattle.run_work.specs.Together.{packets_begun}
 use Rattle.run_work.proofs.Packets.{begun_parts}
 use Rattle.run_work.proofs.Sums.{life_one, life_states}
 use Rattle.run_work.proofs.Together.{whole_work, scripted}
-use Rattle.run_frames.specs.Came.{is_packet}
-use Rattle.run_frames.specs.Begun.{work_begun, work_in}
-use Rattle.run_frames.proofs.Shared.{scripts, all_work, begun_less, all_rows}
-use Rattle.segment_plan.specs.Sound.{IsSlave, IsService, IsAddressed}
-use Rattle.segment_plan.specs.declared.plan.Scenario.{Scenario}
-use Rattle.segment_plan.specs.declared.service.Service as Plan
-use Rattle.segment_plan.specs.declared.slave.SlaveSpec.{SlaveSpec}
+use Rattle.plan_ring.specs.of_run_frames.Came.{is_packet}
+use Rattle.plan_ring.specs.of_run_frames.Begun.{work_begun, work_in}
+use Rattle.plan_ring.proofs.of_run_frames.Shared.{scripts, all_work, begun_less, all_rows}
+use Rattle.life_counts.specs.of_segment_plan.Sound.{IsSlave, IsService, IsAddressed}
+use Rattle.life_counts.specs.of_segment_plan.declared.plan.Scenario.{Scenario}
+use Rattle.life_counts.specs.of_segment_plan.declared.service.Service as Plan
+use Rattle.life_counts.specs.of_segment_plan.declared.slave.SlaveSpec.{SlaveSpec}
 use Rattle.life_counts.specs.Served.{served_gains}
-use Rattle.life_runs.specs.Came.{HasServed}
-use Rattle.life_runs.specs.Served.{Serves}
+use Rattle.plan_ring.specs.of_life_runs.Came.{HasServed}
+use Rattle.plan_ring.specs.of_life_runs.Served.{Serves}
 use Rattle.run_work.specs.ServedGained.{serving_most, AllPaid, served_in, asked_in, leads_of}
 use Rattle.run_work.proofs.Counted.{Enough, all_came, life_all, among_fewer}
 use Rattle.run_work.proofs.Placed.{AllPlaced}
 use Rattle.run_work.proofs.ServedLasts.{AllLives}
-use Rattle.few_replies.specs.Shapes.{shape_of}
-use Rattle.plan_ring.specs.of_slave_server.Spec.{core_of, profile_of}
+use Rattle.life_counts.specs.of_few_replies.Shapes.{shape_of}
+use Rattle.life_counts.specs.of_slave_server.Spec.{core_of, profile_of}
 
 module _ (enough : Enough) (plan : Scenario) (services : All (λ (row : ℕ × Plan.Service). IsAddressed (length plan.slaves) row) plan.services) (lens : ℕ → Lens) where
   one_slave : (place : ℕ) (s : SlaveSpec) (w : Serves) → IsSlave s → w.lead.script ≡ script_for place plan.services → HasServed lens w → gains w.lead.lived.life ≤ 1 + life_most (serving_most (profile_of s) (shape_of (core_of s))) w.lead.lived.life → reopened w.lead.lived.life ≤ states_begun w.lead.lived.life →

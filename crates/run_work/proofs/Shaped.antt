@@ -1,21 +1,21 @@
 -- What a plan's slave keeps, as its master asks for its services.
 use Rattle.std.proofs.Common.{◌≡◌, ℕ, ◌≤◌, Bool, true, false, refl, subst}
-use Rattle.frame_view.specs.View.{Lens}
+use Rattle.plan_ring.specs.of_frame_view.View.{Lens}
 use Rattle.life_counts.specs.Begun.{KeepsShape}
-use Rattle.few_replies.specs.Counts.{mails_between}
-use Rattle.few_replies.specs.RowCounts.{AreCounted}
-use Rattle.run_frames.specs.of_master_hand.Spoken.{Asked, sdo, file, drive, net, passed, hand_speech}
+use Rattle.life_counts.specs.of_few_replies.Counts.{mails_between}
+use Rattle.life_counts.specs.of_few_replies.RowCounts.{AreCounted}
+use Rattle.life_counts.specs.of_master_hand.Spoken.{Asked, sdo, file, drive, net, passed, hand_speech}
 use Rattle.life_counts.specs.Asked.{asked_most}
 use Rattle.plan_ring.specs.Asked.{asked, is_service, service_of}
 use Rattle.plan_ring.proofs.Asked.{agrees}
 use Rattle.plan_ring.specs.Real.{real_clearing}
-use Rattle.few_replies.specs.Shapes.{Shape, shape_at, shape_most}
-use Rattle.few_replies.proofs.Stays.{shape_stays}
-use Rattle.slave_model.specs.Application.{ArePartsLawful}
-use Rattle.slave_model.specs.Product.{product}
-use Rattle.slave_model.specs.Profile.{Profile, IsProfile, areas_of}
-use Rattle.slave_model.proofs.Stations.{left_of, right_of}
-use Rattle.slave_parts.specs.Parts.{parts}
+use Rattle.life_counts.specs.of_few_replies.Shapes.{Shape, shape_at, shape_most}
+use Rattle.life_counts.proofs.of_few_replies.Stays.{shape_stays}
+use Rattle.life_counts.specs.of_slave_model.Application.{ArePartsLawful}
+use Rattle.life_counts.specs.of_slave_model.Product.{product}
+use Rattle.life_counts.specs.of_slave_model.Profile.{Profile, IsProfile, areas_of}
+use Rattle.plan_ring.proofs.of_slave_model.Stations.{left_of, right_of}
+use Rattle.plan_ring.specs.of_slave_parts.Parts.{parts}
 use Rattle.run_work.specs.Gained.{app_shape}
 
 -- a service of a plan by its own name

@@ -2,15 +2,15 @@
 use Rattle.std.proofs.Common.{◌≡◌, ℕ, ◌+◌, Bool, true, false, List, [], ◌∷◌, filter, refl, arith, cond}
 use Rattle.std.specs.Prelude.{not, sum_by}
 use Rattle.std.proofs.lemmas.List.Sums.{sum_by-cons, sum_by-append}
-use Rattle.life_model.specs.Script.{eras_started, life_started}
+use Rattle.life_counts.specs.of_life_model.Script.{eras_started, life_started}
 use Rattle.life_counts.specs.Begun.{service_most, begun_most, eras_most, life_most}
-use Rattle.life_model.specs.Lives.{Era, Life}
-use Rattle.run_frames.specs.of_master_hand.Spoken.{Asked}
-use Rattle.run_frames.specs.States.{state_of, states_in, states_of, states_begun}
-use Rattle.run_frames.specs.Came.{is_packet}
-use Rattle.state_model.specs.Stated.{Service}
-use Rattle.state_model.specs.Accounts.{Started}
-use Rattle.state_model.specs.Promise.{services_in}
+use Rattle.life_counts.specs.of_life_model.Lives.{Era, Life}
+use Rattle.life_counts.specs.of_master_hand.Spoken.{Asked}
+use Rattle.plan_ring.specs.of_run_frames.States.{state_of, states_in, states_of, states_begun}
+use Rattle.plan_ring.specs.of_run_frames.Came.{is_packet}
+use Rattle.life_counts.specs.of_state_model.Stated.{Service}
+use Rattle.life_counts.specs.of_state_model.Accounts.{Started}
+use Rattle.life_counts.specs.of_state_model.Promise.{services_in}
 
 eras_one : {M Q R : Type 0} (count : Q → ℕ) (es : List (Era M Q R)) → eras_most count es ≡ begun_most count (eras_started es)
 eras_one count [] = refl

@@ -3,31 +3,31 @@ use Rattle.std.proofs.Common.{◌≡◌, ℕ, zero, suc, ◌+◌, ◌≤◌, ◌
 use Rattle.std.specs.Prelude.{◌||◌, not, option_map, sum_by}
 use Rattle.std.proofs.lemmas.List.Elements.{All-head, All-tail, All-cons, All-nil}
 use Rattle.std.proofs.lemmas.List.Sums.{sum_by-cons}
-use Rattle.life_model.specs.Script.{life_started}
+use Rattle.life_counts.specs.of_life_model.Script.{life_started}
 use Rattle.life_counts.specs.Begun.{service_most, begun_most, life_most}
-use Rattle.life_model.specs.Gains.{gains}
-use Rattle.run_frames.specs.of_life_runs.First.{lens_of, script_for}
-use Rattle.run_frames.specs.of_life_runs.Led.{Leads}
-use Rattle.run_frames.specs.of_master_hand.Spoken.{Asked}
-use Rattle.run_frames.specs.of_master_hand.Talk.{asked_of}
+use Rattle.life_counts.specs.of_life_model.Gains.{gains}
+use Rattle.plan_ring.specs.of_life_runs.First.{lens_of, script_for}
+use Rattle.plan_ring.specs.of_life_runs.Led.{Leads}
+use Rattle.life_counts.specs.of_master_hand.Spoken.{Asked}
+use Rattle.life_counts.specs.of_master_hand.Talk.{asked_of}
 use Rattle.life_counts.specs.Asked.{asked_most}
 use Rattle.run_work.specs.Gained.{AllGain}
-use Rattle.run_frames.specs.Came.{handed_over, AreThose, is_packet}
-use Rattle.run_frames.specs.Slaves.{HasCome, AllCome}
-use Rattle.run_frames.specs.Begun.{work_begun}
+use Rattle.plan_ring.specs.of_run_frames.Came.{handed_over, AreThose, is_packet}
+use Rattle.plan_ring.specs.of_run_frames.Slaves.{HasCome, AllCome}
+use Rattle.plan_ring.specs.of_run_frames.Begun.{work_begun}
 use Rattle.life_counts.specs.Split.{own_work, entering}
-use Rattle.segment_plan.specs.Bound.{state_work}
-use Rattle.segment_plan.specs.Sound.{IsSlave, IsService, IsAddressed}
-use Rattle.segment_plan.specs.declared.plan.Scenario.{Scenario}
-use Rattle.segment_plan.specs.declared.service.Service as Plan
-use Rattle.segment_plan.specs.declared.slave.SlaveSpec.{SlaveSpec}
-use Rattle.few_replies.specs.Shapes.{shape_of}
-use Rattle.plan_ring.specs.of_slave_server.Spec.{core_of, profile_of}
-use Rattle.state_model.specs.Stated.{Service}
-use Rattle.run_frames.specs.Clocks.{reopened}
-use Rattle.run_frames.specs.Fates.{gained_in}
-use Rattle.run_frames.specs.States.{state_of, states_begun}
-use Rattle.run_frames.proofs.Stating.{life_few}
+use Rattle.life_counts.specs.of_segment_plan.Bound.{state_work}
+use Rattle.life_counts.specs.of_segment_plan.Sound.{IsSlave, IsService, IsAddressed}
+use Rattle.life_counts.specs.of_segment_plan.declared.plan.Scenario.{Scenario}
+use Rattle.life_counts.specs.of_segment_plan.declared.service.Service as Plan
+use Rattle.life_counts.specs.of_segment_plan.declared.slave.SlaveSpec.{SlaveSpec}
+use Rattle.life_counts.specs.of_few_replies.Shapes.{shape_of}
+use Rattle.life_counts.specs.of_slave_server.Spec.{core_of, profile_of}
+use Rattle.life_counts.specs.of_state_model.Stated.{Service}
+use Rattle.plan_ring.specs.of_run_frames.Clocks.{reopened}
+use Rattle.plan_ring.specs.of_run_frames.Fates.{gained_in}
+use Rattle.plan_ring.specs.of_run_frames.States.{state_of, states_begun}
+use Rattle.plan_ring.proofs.of_run_frames.Stating.{life_few}
 use Rattle.run_work.specs.Together.{packets_begun}
 use Rattle.run_work.proofs.Reopened.{EachCame}
 use Rattle.run_work.proofs.Sums.{life_one, life_states, packets_none, parted}

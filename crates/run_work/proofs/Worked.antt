@@ -1,12 +1,12 @@
 -- A plan before its first frame.
 use Rattle.std.proofs.Common.{◌≡◌, ℕ, suc, None, List, [], ◌∷◌, refl, arith}
-use Rattle.run_frames.specs.of_life_runs.First.{first_leads, leads_from}
-use Rattle.run_frames.specs.Led.{first_clocked}
-use Rattle.run_frames.specs.Runs.{nothing_sent}
-use Rattle.run_frames.specs.Toured.{IsToured}
-use Rattle.segment_plan.specs.declared.plan.Scenario.{Scenario}
-use Rattle.segment_plan.specs.declared.service.Service as Plan
-use Rattle.segment_plan.specs.declared.slave.SlaveSpec.{SlaveSpec}
+use Rattle.plan_ring.specs.of_life_runs.First.{first_leads, leads_from}
+use Rattle.plan_ring.specs.of_run_frames.Led.{first_clocked}
+use Rattle.plan_ring.specs.of_run_frames.Runs.{nothing_sent}
+use Rattle.plan_ring.specs.of_run_frames.Toured.{IsToured}
+use Rattle.life_counts.specs.of_segment_plan.declared.plan.Scenario.{Scenario}
+use Rattle.life_counts.specs.of_segment_plan.declared.service.Service as Plan
+use Rattle.life_counts.specs.of_segment_plan.declared.slave.SlaveSpec.{SlaveSpec}
 use Rattle.run_work.specs.Bounds.{IsPlanRun}
 use Rattle.run_work.specs.Switched.{AreSwitched}
 use Rattle.run_work.specs.Together.{packets_begun}

@@ -1,19 +1,19 @@
 -- THE FRAMES OF A PLAN'S RUN, and how many they may be.
 use Rattle.std.specs.Prelude.{ℕ, ◌+◌, ◌*◌, ◌≤◌, Option, List, length}
-use Rattle.run_frames.specs.of_life_runs.First.{lens_of, first_leads}
-use Rattle.run_frames.specs.of_life_runs.Led.{Exchanged, Leads}
-use Rattle.link_mails.specs.Body.{Body}
-use Rattle.master_duty.specs.Reply.{Reply}
-use Rattle.run_frames.specs.of_master_hand.Spoken.{Asked}
+use Rattle.plan_ring.specs.of_life_runs.First.{lens_of, first_leads}
+use Rattle.plan_ring.specs.of_life_runs.Led.{Exchanged, Leads}
+use Rattle.life_counts.specs.of_link_mails.Body.{Body}
+use Rattle.plan_ring.specs.of_master_duty.Reply.{Reply}
+use Rattle.life_counts.specs.of_master_hand.Spoken.{Asked}
 use Rattle.plan_ring.specs.Round.{ring_of, AllRound}
-use Rattle.run_frames.specs.Clocks.{Clocked}
-use Rattle.run_frames.specs.Fates.{lost_of}
-use Rattle.run_frames.specs.Runs.{Progress}
-use Rattle.run_frames.specs.Toured.{IsToured, AskIn, WaitIn}
+use Rattle.plan_ring.specs.of_run_frames.Clocks.{Clocked}
+use Rattle.plan_ring.specs.of_run_frames.Fates.{lost_of}
+use Rattle.plan_ring.specs.of_run_frames.Runs.{Progress}
+use Rattle.plan_ring.specs.of_run_frames.Toured.{IsToured, AskIn, WaitIn}
 use Rattle.life_counts.specs.Split.{own_work}
-use Rattle.run_frames.specs.Begun.{work_in}
-use Rattle.segment_plan.specs.Bound.{slowest}
-use Rattle.segment_plan.specs.declared.plan.Scenario.{Scenario}
+use Rattle.plan_ring.specs.of_run_frames.Begun.{work_in}
+use Rattle.life_counts.specs.of_segment_plan.Bound.{slowest}
+use Rattle.life_counts.specs.of_segment_plan.declared.plan.Scenario.{Scenario}
 
 -- A RUN OF A PLAN behind these frames: its master leads the slaves by them, they are the visits of one tour and count with the plan's paces; each that
 -- came back asked by the inward half first; while nothing is gained some slave waits yet, but for as many frames as the host has packets; and they went

@@ -1,9 +1,9 @@
 -- WHICH DATAGRAMS A SERVING COUNTS FULLY: none of them begins a download to 2F01:01, which makes its slave send a packet of itself.
 use Rattle.std.specs.Prelude.{◌≡◌, ℕ, true, All, List, Ok}
 use Rattle.gateway_core.specs.Framing.{request_in}
-use Rattle.mailbox_mail.specs.declared.mail.Mail.{Mail}
-use Rattle.life_runs.specs.Served.{Keyed, Serves}
-use Rattle.few_replies.specs.Packets.{is_fair}
+use Rattle.gateway_core.specs.of_mailbox_mail.declared.mail.Mail.{Mail}
+use Rattle.plan_ring.specs.of_life_runs.Served.{Keyed, Serves}
+use Rattle.life_counts.specs.of_few_replies.Packets.{is_fair}
 
 -- a datagram whose mail, where it has one, begins none
 abbrev pub IsFairGram : List ℕ → Type 0

@@ -1,15 +1,15 @@
 -- WHAT THE LIVES OF A RUN GAIN.
 use Rattle.std.specs.Prelude.{◌+◌, ◌≤◌, List, [], ◌∷◌, ⊤}
-use Rattle.protocol_models.specs.Network.{Station}
+use Rattle.life_counts.specs.of_protocol_models.Network.{Station}
 use Rattle.life_counts.specs.Begun.{life_most}
-use Rattle.life_model.specs.Gains.{gains}
-use Rattle.run_frames.specs.of_life_runs.Led.{Leads}
+use Rattle.life_counts.specs.of_life_model.Gains.{gains}
+use Rattle.plan_ring.specs.of_life_runs.Led.{Leads}
 use Rattle.life_counts.specs.Asked.{asked_most}
-use Rattle.segment_plan.specs.declared.slave.SlaveSpec.{SlaveSpec}
-use Rattle.few_replies.specs.Shapes.{Shape, shape_of}
-use Rattle.slave_parts.specs.Parts.{Core}
-use Rattle.plan_ring.specs.of_slave_server.Spec.{core_of, profile_of}
-use Rattle.state_model.specs.Families.{InState}
+use Rattle.life_counts.specs.of_segment_plan.declared.slave.SlaveSpec.{SlaveSpec}
+use Rattle.life_counts.specs.of_few_replies.Shapes.{Shape, shape_of}
+use Rattle.plan_ring.specs.of_slave_parts.Parts.{Core}
+use Rattle.life_counts.specs.of_slave_server.Spec.{core_of, profile_of}
+use Rattle.life_counts.specs.of_state_model.Families.{InState}
 
 -- the shape of an application, in whatever AL state
 abbrev pub app_shape : InState (Station Core) → Shape

@@ -1,20 +1,20 @@
 -- A LIFE IN WHICH MAILS ARE PASSED ON, as its slave lives it and as its master has it.
 use Rattle.std.specs.Prelude.{◌≡◌, ℕ, Option, List, [], ◌∷◌, ⊤}
-use Rattle.life_model.specs.Eras.{Clearing}
-use Rattle.life_model.specs.Lives.{Spot, Life}
-use Rattle.link_mails.specs.Body.{Body}
-use Rattle.master_duty.specs.Reply as Master
-use Rattle.run_frames.specs.of_master_hand.Spoken as Spoken
-use Rattle.segment_model.specs.Slaves.{Processor}
-use Rattle.segment_plan.specs.declared.slave.SlaveSpec.{SlaveSpec}
-use Rattle.life_runs.specs.Served.{Serves}
-use Rattle.few_replies.specs.Shapes.{shape_at}
-use Rattle.slave_model.specs.Profile.{Profile}
-use Rattle.slave_model.specs.Server.{Reply}
-use Rattle.slave_parts.specs.Parts.{Server}
-use Rattle.plan_ring.specs.of_slave_server.Spec.{profile_of, server_of}
-use Rattle.state_model.specs.Families.{InState}
-use Rattle.state_model.specs.States.{Table}
+use Rattle.life_counts.specs.of_life_model.Eras.{Clearing}
+use Rattle.life_counts.specs.of_life_model.Lives.{Spot, Life}
+use Rattle.life_counts.specs.of_link_mails.Body.{Body}
+use Rattle.plan_ring.specs.of_master_duty.Reply as Master
+use Rattle.life_counts.specs.of_master_hand.Spoken as Spoken
+use Rattle.life_counts.specs.of_segment_model.Slaves.{Processor}
+use Rattle.life_counts.specs.of_segment_plan.declared.slave.SlaveSpec.{SlaveSpec}
+use Rattle.plan_ring.specs.of_life_runs.Served.{Serves}
+use Rattle.life_counts.specs.of_few_replies.Shapes.{shape_at}
+use Rattle.life_counts.specs.of_slave_model.Profile.{Profile}
+use Rattle.life_counts.specs.of_slave_model.Server.{Reply}
+use Rattle.plan_ring.specs.of_slave_parts.Parts.{Server}
+use Rattle.life_counts.specs.of_slave_server.Spec.{profile_of, server_of}
+use Rattle.life_counts.specs.of_state_model.Families.{InState}
+use Rattle.life_counts.specs.of_state_model.States.{Table}
 use Rattle.life_counts.specs.Seen.{life_seen}
 use Rattle.life_counts.specs.Worked.{IsWorked}
 use Rattle.run_work.specs.Sessions.{Meant, Wanted, InRow, session, session_states, named_wanted}

@@ -1,17 +1,17 @@
 -- WHAT THE LIVES OF A SERVING GAIN, by the services of its plan and the mails that were asked.
 use Rattle.std.specs.Prelude.{ℕ, ◌+◌, ◌≤◌, if◌then◌else◌, List, [], ◌∷◌, map, length, ⊤}
 use Rattle.life_counts.specs.Begun.{life_most}
-use Rattle.life_model.specs.Gains.{gains}
-use Rattle.run_frames.specs.of_life_runs.Led.{Leads}
-use Rattle.run_frames.specs.of_master_hand.Spoken.{Asked, is_passed}
+use Rattle.life_counts.specs.of_life_model.Gains.{gains}
+use Rattle.plan_ring.specs.of_life_runs.Led.{Leads}
+use Rattle.life_counts.specs.of_master_hand.Spoken.{Asked, is_passed}
 use Rattle.life_counts.specs.Asked.{asked_most}
-use Rattle.run_frames.specs.Clocks.{reopened}
-use Rattle.segment_plan.specs.declared.slave.SlaveSpec.{SlaveSpec}
+use Rattle.plan_ring.specs.of_run_frames.Clocks.{reopened}
+use Rattle.life_counts.specs.of_segment_plan.declared.slave.SlaveSpec.{SlaveSpec}
 use Rattle.life_counts.specs.Served.{served_gains}
-use Rattle.life_runs.specs.Served.{Serves}
-use Rattle.few_replies.specs.Shapes.{Shape, shape_of}
-use Rattle.slave_model.specs.Profile.{Profile}
-use Rattle.plan_ring.specs.of_slave_server.Spec.{core_of, profile_of}
+use Rattle.plan_ring.specs.of_life_runs.Served.{Serves}
+use Rattle.life_counts.specs.of_few_replies.Shapes.{Shape, shape_of}
+use Rattle.life_counts.specs.of_slave_model.Profile.{Profile}
+use Rattle.life_counts.specs.of_slave_server.Spec.{core_of, profile_of}
 
 -- how many mails what a master asks for takes at most; a mail that is passed on takes itself, 76 that answer it, and one that may be made up
 abbrev pub serving_most : Profile → Shape → Asked → ℕ

@@ -1,20 +1,20 @@
 -- THE SESSION OF A PLAN'S SLAVE WITH SERVICES AND FAIR MAILS that are passed on, in which it is seen what is meant by each mail.
 use Rattle.std.specs.Prelude.{Option, Ok, Err}
-use Rattle.exchange_model.specs.Exchange.{Exchange}
-use Rattle.link_mails.specs.Body.{Body}
-use Rattle.mailbox_mail.specs.Mail.{error_of}
-use Rattle.run_frames.specs.of_master_hand.Spoken as Spoken
-use Rattle.few_replies.specs.Calm.{calm_tagged}
-use Rattle.serving_model.specs.Tagged.{Tagged, Asked, Rowed}
-use Rattle.serving_model.specs.TaggedStates.{tagged_states}
-use Rattle.few_replies.specs.Packets.{is_calm, is_fair}
-use Rattle.slave_model.specs.Acknowledged.{acknowledged}
-use Rattle.slave_model.specs.Profile.{Protocol, Profile}
-use Rattle.slave_model.specs.Server.{ServiceOf, Reply}
-use Rattle.slave_parts.specs.Parts.{Server, parts}
-use Rattle.slave_parts.specs.Served.{product_whole}
-use Rattle.state_model.specs.Families.{InState, states_of}
-use Rattle.state_model.specs.Stated.{Stated}
+use Rattle.life_counts.specs.of_exchange_model.Exchange.{Exchange}
+use Rattle.life_counts.specs.of_link_mails.Body.{Body}
+use Rattle.gateway_core.specs.of_mailbox_mail.Mail.{error_of}
+use Rattle.life_counts.specs.of_master_hand.Spoken as Spoken
+use Rattle.life_counts.specs.of_few_replies.Calm.{calm_tagged}
+use Rattle.life_counts.specs.of_serving_model.Tagged.{Tagged, Asked, Rowed}
+use Rattle.life_counts.specs.of_serving_model.TaggedStates.{tagged_states}
+use Rattle.life_counts.specs.of_few_replies.Packets.{is_calm, is_fair}
+use Rattle.life_counts.specs.of_slave_model.Acknowledged.{acknowledged}
+use Rattle.life_counts.specs.of_slave_model.Profile.{Protocol, Profile}
+use Rattle.life_counts.specs.of_slave_model.Server.{ServiceOf, Reply}
+use Rattle.plan_ring.specs.of_slave_parts.Parts.{Server, parts}
+use Rattle.plan_ring.specs.of_slave_parts.Served.{product_whole}
+use Rattle.life_counts.specs.of_state_model.Families.{InState, states_of}
+use Rattle.life_counts.specs.of_state_model.Stated.{Stated}
 
 -- a service of one of the protocols
 abbrev pub OwnService : Type 0

@@ -1,12 +1,12 @@
 -- THE PACKETS OF A RUN AS THOSE OF ONE SWITCH.
 use Rattle.std.specs.Prelude.{ℕ, ◌+◌, ◌*◌, ◌≤◌, List, length, sum_by}
 use Rattle.arrayvec.specs.ArrayVec.{ArrayVec}
-use Rattle.run_frames.specs.of_life_runs.Led.{Leads}
+use Rattle.plan_ring.specs.of_life_runs.Led.{Leads}
 use Rattle.run_work.specs.Packets.{cuts}
 use Rattle.life_counts.specs.Split.{entering}
-use Rattle.run_frames.specs.Begun.{work_begun}
-use Rattle.segment_plan.specs.declared.plan.Scenario.{Scenario}
-use Rattle.segment_plan.specs.declared.slave.SlaveSpec.{SlaveSpec}
+use Rattle.plan_ring.specs.of_run_frames.Begun.{work_begun}
+use Rattle.life_counts.specs.of_segment_plan.declared.plan.Scenario.{Scenario}
+use Rattle.life_counts.specs.of_segment_plan.declared.slave.SlaveSpec.{SlaveSpec}
 use Rattle.run_work.specs.Together.{packets_begun}
 
 -- the fragments of what downloads emit, of those that began

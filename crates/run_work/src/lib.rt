@@ -2,37 +2,41 @@
 //! so are its frames. Definitions and laws, no running code: each function here does nothing, and its contract states the law.
 #![tactic(auto)]
 
-ghost use Rattle.frame_view.specs.View.{Lens};
+ghost use Rattle.plan_ring.specs.of_frame_view.View.{Lens};
 ghost use Rattle.life_counts.specs.Begun.{KeepsShape};
-ghost use Rattle.run_frames.specs.of_life_runs.First.{lens_of, first_leads};
-ghost use Rattle.run_frames.specs.of_life_runs.Led.{Exchanged, Leads, IsLed};
-ghost use Rattle.link_mails.specs.Body.{Body};
-ghost use Rattle.master_duty.specs.Reply.{Reply};
-ghost use Rattle.run_frames.specs.of_master_hand.Spoken.{Asked};
+ghost use Rattle.plan_ring.specs.of_life_runs.First.{lens_of, first_leads};
+ghost use Rattle.plan_ring.specs.of_life_runs.Led.{Exchanged, Leads, IsLed};
+ghost use Rattle.life_counts.specs.of_link_mails.Body.{Body};
+ghost use Rattle.plan_ring.specs.of_master_duty.Reply.{Reply};
+ghost use Rattle.life_counts.specs.of_master_hand.Spoken.{Asked};
 ghost use Rattle.life_counts.specs.Asked.{asked_most};
 ghost use Rattle.life_counts.specs.Split.{own_work};
 ghost use Rattle.plan_ring.specs.Asked.{asked};
 ghost use Rattle.plan_ring.specs.Lives.{IsKnown};
 ghost use Rattle.plan_ring.specs.Round.{ring_of, AllRound};
-ghost use Rattle.run_frames.specs.Clocks.{Clocked};
-ghost use Rattle.run_frames.specs.Fates.{AreFated, gained_in, lost_of};
-ghost use Rattle.run_frames.specs.Led.{IsTallied};
-ghost use Rattle.run_frames.specs.Runs.{Progress};
+ghost use Rattle.plan_ring.specs.of_run_frames.Clocks.{Clocked};
+ghost use Rattle.plan_ring.specs.of_run_frames.Fates.{AreFated, gained_in, lost_of};
+ghost use Rattle.plan_ring.specs.of_run_frames.Led.{IsTallied};
+ghost use Rattle.plan_ring.specs.of_run_frames.Runs.{Progress};
 ghost use Rattle.run_work.specs.Bounds.{IsPlanRun, bound_with};
 ghost use Rattle.run_work.specs.Gained.{app_shape, AllGain};
 ghost use Rattle.run_work.specs.Switched.{AreSwitched, cuts_begun};
 ghost use Rattle.run_work.specs.Together.{packets_begun};
-ghost use Rattle.run_frames.specs.Begun.{work_in};
-ghost use Rattle.segment_plan.specs.Bound.{slowest, services_work, host_work, bound_of};
-ghost use Rattle.segment_plan.specs.Sound.{IsPlan};
-ghost use Rattle.segment_plan.specs.declared.plan.Scenario.{Scenario};
+ghost use Rattle.plan_ring.specs.of_run_frames.Begun.{work_in};
+ghost use Rattle.life_counts.specs.of_segment_plan.Bound.{slowest, services_work, host_work, bound_of};
+ghost use Rattle.life_counts.specs.of_segment_plan.Sound.{IsPlan};
+ghost use Rattle.life_counts.specs.of_segment_plan.declared.plan.Scenario.{Scenario};
 ghost use Rattle.plan_ring.specs.Real.{real_clearing};
-ghost use Rattle.slave_model.specs.Profile.{Profile, IsProfile};
+ghost use Rattle.life_counts.specs.of_slave_model.Profile.{Profile, IsProfile};
 ghost use Rattle.std.specs.Prelude.{◌≢◌, ℕ, Bool, List, ◌≤◌, ◌<◌, ◌+◌, length};
 
 pub mod packet_work;
 pub mod served_counts;
 pub mod served_work;
+
+pub use life_counts::few_replies;
+pub use plan_ring;
+pub use plan_ring::{life_runs, run_frames, slave_parts};
 
 /// THE SHAPE OF A PLAN'S SLAVE STAYS, whatever services it carries out, whatever its AL state and whenever it is returned to Init; and each service that
 /// its master asks for takes at most as many mails as its shape says.

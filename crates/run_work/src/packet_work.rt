@@ -2,7 +2,7 @@
 //! its contract states the law.
 
 ghost use Rattle.std.specs.Prelude.{◌≡◌, ◌≤◌, ◌+◌, ℕ, List, true, false, Some, length};
-ghost use Rattle.protocol_models.specs.Echo.{echo_of};
+ghost use Rattle.life_counts.specs.of_protocol_models.Echo.{echo_of};
 ghost use Rattle.eoe_switch.specs.declared.switching.SwitchEvent.{SwitchEvent};
 ghost use Rattle.eoe_switch.specs.Switch.{switched};
 ghost use Rattle.run_work.specs.Flows.{slaves_work, entries_work, AllComeAt};

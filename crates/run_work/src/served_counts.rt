@@ -3,28 +3,31 @@
 
 ghost use Rattle.std.specs.Prelude.{◌≡◌, ◌≤◌, ◌+◌, ◌*◌, ℕ, All, List, [], length};
 ghost use Rattle.life_counts.specs.Begun.{life_most, AreUnopened};
-ghost use Rattle.life_model.specs.Gains.{gains};
-ghost use Rattle.life_model.specs.Lives.{Life};
-ghost use Rattle.run_frames.specs.of_life_runs.First.{lens_of, first_leads};
-ghost use Rattle.run_frames.specs.of_life_runs.Led.{Exchanged};
-ghost use Rattle.link_mails.specs.Body.{Body};
-ghost use Rattle.master_duty.specs.Reply.{Reply};
-ghost use Rattle.run_frames.specs.of_master_hand.Spoken.{Asked};
+ghost use Rattle.life_counts.specs.of_life_model.Gains.{gains};
+ghost use Rattle.life_counts.specs.of_life_model.Lives.{Life};
+ghost use Rattle.plan_ring.specs.of_life_runs.First.{lens_of, first_leads};
+ghost use Rattle.plan_ring.specs.of_life_runs.Led.{Exchanged};
+ghost use Rattle.life_counts.specs.of_link_mails.Body.{Body};
+ghost use Rattle.plan_ring.specs.of_master_duty.Reply.{Reply};
+ghost use Rattle.life_counts.specs.of_master_hand.Spoken.{Asked};
 ghost use Rattle.life_counts.specs.Split.{own_work};
 ghost use Rattle.run_work.specs.Switched.{cuts_begun};
 ghost use Rattle.run_work.specs.Together.{packets_begun};
-ghost use Rattle.run_frames.specs.Begun.{work_in};
-ghost use Rattle.segment_plan.specs.Sound.{IsPlan};
-ghost use Rattle.segment_plan.specs.declared.plan.Scenario.{Scenario};
-ghost use Rattle.segment_plan.specs.declared.slave.SlaveSpec.{SlaveSpec};
-ghost use Rattle.life_runs.specs.Served.{Serves, IsServedLed, all_serve};
+ghost use Rattle.plan_ring.specs.of_run_frames.Begun.{work_in};
+ghost use Rattle.life_counts.specs.of_segment_plan.Sound.{IsPlan};
+ghost use Rattle.life_counts.specs.of_segment_plan.declared.plan.Scenario.{Scenario};
+ghost use Rattle.life_counts.specs.of_segment_plan.declared.slave.SlaveSpec.{SlaveSpec};
+ghost use Rattle.plan_ring.specs.of_life_runs.Served.{Serves, IsServedLed, all_serve};
 ghost use Rattle.run_work.specs.ServedGained.{serving_most, AllPaid, served_in, asked_in, leads_of};
-ghost use Rattle.few_replies.specs.Shapes.{shape_at};
-ghost use Rattle.slave_model.specs.Profile.{Profile, IsProfile};
-ghost use Rattle.slave_parts.specs.Parts.{Server};
-ghost use Rattle.state_model.specs.Families.{InState};
+ghost use Rattle.life_counts.specs.of_few_replies.Shapes.{shape_at};
+ghost use Rattle.life_counts.specs.of_slave_model.Profile.{Profile, IsProfile};
+ghost use Rattle.plan_ring.specs.of_slave_parts.Parts.{Server};
+ghost use Rattle.life_counts.specs.of_state_model.Families.{InState};
 ghost use Rattle.run_work.specs.Fair.{IsFairGram};
 ghost use Rattle.run_work.specs.Lives.{IsServedLife, AllServedLives};
+
+use life_counts::few_replies;
+use plan_ring::slave_parts;
 
 /// WHAT A SLAVE'S LIFE HAS GAINED in which fair mails are passed on beside services is no more than what came into hand of it counts, in all its epochs: a
 /// service what the shape of the slave says, and a mail 78.

@@ -2,20 +2,22 @@
 //! nothing, and their contracts state the laws.
 
 ghost use Rattle.std.specs.Prelude.{◌≡◌, ◌≤◌, ◌+◌, ◌*◌, ℕ, List, [], ◌∷◌, length};
-ghost use Rattle.life_model.specs.Lives.{Spot};
-ghost use Rattle.run_frames.specs.of_life_runs.First.{lens_of, first_leads};
-ghost use Rattle.run_frames.specs.of_life_runs.Led.{Exchanged, new_leads};
+ghost use Rattle.life_counts.specs.of_life_model.Lives.{Spot};
+ghost use Rattle.plan_ring.specs.of_life_runs.First.{lens_of, first_leads};
+ghost use Rattle.plan_ring.specs.of_life_runs.Led.{Exchanged, new_leads};
 ghost use Rattle.life_counts.specs.Split.{own_work};
 ghost use Rattle.plan_ring.specs.Round.{ring_of, AllRound};
-ghost use Rattle.run_frames.specs.Answers.{AllReturned};
+ghost use Rattle.plan_ring.specs.of_run_frames.Answers.{AllReturned};
 ghost use Rattle.run_work.specs.Switched.{AreSwitched, cuts_begun};
 ghost use Rattle.run_work.specs.Together.{packets_begun};
-ghost use Rattle.run_frames.specs.Begun.{work_in};
-ghost use Rattle.segment_plan.specs.Bound.{services_work, host_work};
-ghost use Rattle.segment_plan.specs.Sound.{IsPlan};
-ghost use Rattle.segment_plan.specs.declared.plan.Scenario.{Scenario};
-ghost use Rattle.life_runs.specs.Served.{Serves, Keyed, IsServedLed, all_serve, new_serves, asked_at};
+ghost use Rattle.plan_ring.specs.of_run_frames.Begun.{work_in};
+ghost use Rattle.life_counts.specs.of_segment_plan.Bound.{services_work, host_work};
+ghost use Rattle.life_counts.specs.of_segment_plan.Sound.{IsPlan};
+ghost use Rattle.life_counts.specs.of_segment_plan.declared.plan.Scenario.{Scenario};
+ghost use Rattle.plan_ring.specs.of_life_runs.Served.{Serves, Keyed, IsServedLed, all_serve, new_serves, asked_at};
 ghost use Rattle.run_work.specs.ServedGained.{AllPaid, served_in, asked_in, leads_of};
+
+use plan_ring::life_runs;
 
 /// THE LIVES OF A SERVING TOGETHER, where each has gained no more than what came into hand of it counts: what they have gained, and how often state services
 /// began to reopen their slaves, is no more than all services of the plan count of their own, the fragments of what downloads emit that began, what the

@@ -3,11 +3,11 @@ use Rattle.std.specs.Prelude.{ℕ, List, Result, if◌then◌else◌}
 use Rattle.std.specs.Str.{is_utf8}
 use Rattle.toml.specs.Data.{Members}
 use Rattle.toml.specs.Parse.{parse_document}
-use Rattle.segment_plan.specs.declared.plan.Scenario.{Scenario}
-use Rattle.scenario_keys.specs.declared.place.Place.TheVariants as places
-use Rattle.scenario_keys.specs.declared.refusal.Rule.TheVariants.{NotToml}
-use Rattle.scenario_keys.specs.declared.refusal.Refusal.{Refusal}
-use Rattle.scenario_keys.specs.Reading.{◌>>=◌, refuse, wanted}
+use Rattle.scenario_document.specs.of_segment_plan.declared.plan.Scenario.{Scenario}
+use Rattle.scenario_document.specs.of_scenario_keys.declared.place.Place.TheVariants as places
+use Rattle.scenario_document.specs.of_scenario_keys.declared.refusal.Rule.TheVariants.{NotToml}
+use Rattle.scenario_document.specs.of_scenario_keys.declared.refusal.Refusal.{Refusal}
+use Rattle.scenario_document.specs.of_scenario_keys.Reading.{◌>>=◌, refuse, wanted}
 use Rattle.scenario_document.specs.Tables.{tables_of}
 use Rattle.scenario_document.specs.Whole.{whole}
 

@@ -1,17 +1,17 @@
 ghost use Rattle.std.specs.Prelude.{◌≡◌, IfOk};
 ghost use Rattle.toml.specs.View.{table_view};
 ghost use Rattle.toml.specs.Parse.{parse_document};
-ghost use Rattle.segment_plan.specs.Sound.{IsPlan};
-ghost use Rattle.scenario_keys.specs.declared.place.Place.TheVariants.{Top};
-ghost use Rattle.scenario_keys.specs.declared.refusal.Rule.TheVariants.{NotToml};
-ghost use Rattle.scenario_keys.specs.Reading.{Gives, wanted};
-ghost use Rattle.scenario_keys.specs.Rules.{Answers};
+ghost use Rattle.scenario_document.specs.of_segment_plan.Sound.{IsPlan};
+ghost use Rattle.scenario_document.specs.of_scenario_keys.declared.place.Place.TheVariants.{Top};
+ghost use Rattle.scenario_document.specs.of_scenario_keys.declared.refusal.Rule.TheVariants.{NotToml};
+ghost use Rattle.scenario_document.specs.of_scenario_keys.Reading.{Gives, wanted};
+ghost use Rattle.scenario_document.specs.of_scenario_keys.Rules.{Answers};
 ghost use Rattle.scenario_document.specs.Told.{IsTold};
 ghost use Rattle.scenario.specs.Document.{document_of, plan_of};
 
+use scenario_document::scenario_keys::{Place, ReadErr, Rule, Stop, refused};
+use scenario_document::segment_plan::Scenario;
 use scenario_document::{tables, whole};
-use scenario_keys::{Place, ReadErr, Rule, Stop, refused};
-use segment_plan::Scenario;
 use std::alloc::Global;
 use std::str;
 use toml::Table;

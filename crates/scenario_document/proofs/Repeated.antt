@@ -3,7 +3,7 @@ use Rattle.std.proofs.Common.{◌≡◌, ℕ, ◌+◌, ◌<◌, ◌≤◌, Bool,
 use Rattle.std.specs.List.{list_any}
 use Rattle.std.proofs.lemmas.List.{drop_more, take_more}
 use Rattle.std.proofs.Math.ListN.{drop_of_length-le}
-use Rattle.segment_plan.specs.Sound.{repeated_from}
+use Rattle.scenario_services.specs.of_segment_plan.Sound.{repeated_from}
 
 module _ {K : Type 0} (same : K → K → Bool) where
   split : (ks : List K) (i : ℕ) (k : K) → i < length ks → k ≡ get_or ks i k → drop i ks ≡ k ∷ drop (i + 1) ks

@@ -1,11 +1,11 @@
 -- The lost frames of a scenario, or their first refusal.
 use Rattle.std.specs.Prelude.{ℕ, ℤ, nat_le, List, [], length, codes, unwrap_or, Result, Ok}
 use Rattle.toml.specs.Data.{Data, Items, Members, get_member, as_array}
-use Rattle.scenario_keys.specs.declared.place.Place.TheVariants as places
-use Rattle.scenario_keys.specs.declared.refusal.Rule.TheVariants.{WrongKind, TooMany}
-use Rattle.scenario_keys.specs.declared.refusal.Refusal.{Refusal}
-use Rattle.scenario_keys.specs.Reading.{◌>>=◌, wanted, unless_refused, optional, each}
-use Rattle.scenario_keys.specs.Keys.{in_range, two_numbers_in, list_of}
+use Rattle.scenario_services.specs.of_scenario_keys.declared.place.Place.TheVariants as places
+use Rattle.scenario_services.specs.of_scenario_keys.declared.refusal.Rule.TheVariants.{WrongKind, TooMany}
+use Rattle.scenario_services.specs.of_scenario_keys.declared.refusal.Refusal.{Refusal}
+use Rattle.scenario_services.specs.of_scenario_keys.Reading.{◌>>=◌, wanted, unless_refused, optional, each}
+use Rattle.scenario_services.specs.of_scenario_keys.Keys.{in_range, two_numbers_in, list_of}
 
 -- a lost frame, and how many slaves it meets before
 abbrev pub lost_of : ℤ × ℤ → Result (ℕ × ℕ) Refusal

@@ -1,12 +1,12 @@
 -- The plan that the tables of a document say, but for what is judged behind all of them, or their first refusal.
 use Rattle.std.specs.Prelude.{List, [], ◌∷◌, ℕ, codes, Result, Ok}
 use Rattle.toml.specs.Data.{Members}
-use Rattle.segment_plan.specs.declared.plan.Scenario.{Scenario}
-use Rattle.scenario_keys.specs.declared.place.Place.TheVariants as places
-use Rattle.scenario_keys.specs.declared.refusal.Refusal.{Refusal}
-use Rattle.scenario_keys.specs.Reading.{◌>>=◌}
-use Rattle.scenario_keys.specs.Keys.{only_keys, integer_at, integer_or}
-use Rattle.scenario_values.specs.Tables.{optional_tables_at}
+use Rattle.scenario_services.specs.of_segment_plan.declared.plan.Scenario.{Scenario}
+use Rattle.scenario_services.specs.of_scenario_keys.declared.place.Place.TheVariants as places
+use Rattle.scenario_services.specs.of_scenario_keys.declared.refusal.Refusal.{Refusal}
+use Rattle.scenario_services.specs.of_scenario_keys.Reading.{◌>>=◌}
+use Rattle.scenario_services.specs.of_scenario_keys.Keys.{only_keys, integer_at, integer_or}
+use Rattle.scenario_services.specs.of_scenario_values.Tables.{optional_tables_at}
 use Rattle.scenario_document.specs.Losses.{lose_at}
 use Rattle.scenario_document.specs.Top.{version_at, budget_at, slave_tables_at, packets_of}
 use Rattle.scenario_slaves.specs.Slaves.{slaves_of, paces_of}

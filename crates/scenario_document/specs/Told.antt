@@ -1,6 +1,6 @@
 -- What holds of a plan that was read, beside the ranges of its numbers.
 use Rattle.std.specs.Prelude.{All}
-use Rattle.segment_plan.specs.declared.plan.Scenario.{Scenario}
+use Rattle.scenario_services.specs.of_segment_plan.declared.plan.Scenario.{Scenario}
 use Rattle.scenario_slaves.specs.Plain.{HasMac}
 use Rattle.scenario_slaves.specs.Distinct.{IsDistinct}
 use Rattle.scenario_services.specs.Reading.{FitsSlave}

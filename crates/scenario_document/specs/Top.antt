@@ -2,13 +2,13 @@
 use Rattle.std.specs.Prelude.{ℕ, ℤ, pos, negsuc, ◌==◌, ◌||◌, nat_le, List, [], ◌∷◌, length, codes, Option, Some, None, Result, Ok, if◌then◌else◌}
 use Rattle.toml.specs.Data.{Members, get_member}
 use Rattle.arrayvec.specs.ArrayVec.{ArrayVec}
-use Rattle.scenario_keys.specs.declared.place.Place.TheVariants as places
-use Rattle.scenario_keys.specs.declared.refusal.Rule.TheVariants.{WrongVersion, OutOfRange}
-use Rattle.scenario_keys.specs.declared.refusal.Refusal.{Refusal}
-use Rattle.scenario_keys.specs.Reading.{◌>>=◌, wanted, unless_refused, optional, each}
-use Rattle.scenario_keys.specs.Keys.{only_keys, needed_at, number_in, integer_in}
-use Rattle.scenario_values.specs.Octets.{octets_at}
-use Rattle.scenario_values.specs.Tables.{tables_at}
+use Rattle.scenario_services.specs.of_scenario_keys.declared.place.Place.TheVariants as places
+use Rattle.scenario_services.specs.of_scenario_keys.declared.refusal.Rule.TheVariants.{WrongVersion, OutOfRange}
+use Rattle.scenario_services.specs.of_scenario_keys.declared.refusal.Refusal.{Refusal}
+use Rattle.scenario_services.specs.of_scenario_keys.Reading.{◌>>=◌, wanted, unless_refused, optional, each}
+use Rattle.scenario_services.specs.of_scenario_keys.Keys.{only_keys, needed_at, number_in, integer_in}
+use Rattle.scenario_services.specs.of_scenario_values.Octets.{octets_at}
+use Rattle.scenario_services.specs.of_scenario_values.Tables.{tables_at}
 
 -- the versions: 1 and 2
 abbrev pub version_of : ℤ → Option ℕ

@@ -1,12 +1,12 @@
 -- What is judged of a scenario behind all its tables.
 use Rattle.std.specs.Prelude.{ℕ, length, Option, Some, None, Result, Ok}
-use Rattle.segment_plan.specs.declared.plan.Scenario.{Scenario}
-use Rattle.segment_plan.specs.Sound.{repeated_name, repeated_station, are_lost, is_bounded}
-use Rattle.scenario_keys.specs.declared.place.Place.TheVariants as places
-use Rattle.scenario_keys.specs.declared.refusal.Rule.{Rule}
-use Rattle.scenario_keys.specs.declared.refusal.Rule.TheVariants.{SameName, SameStation, Schedule, TooMany}
-use Rattle.scenario_keys.specs.declared.refusal.Refusal.{Refusal}
-use Rattle.scenario_keys.specs.Reading.{◌>>=◌, refuse, unless_refused}
+use Rattle.scenario_services.specs.of_segment_plan.declared.plan.Scenario.{Scenario}
+use Rattle.scenario_services.specs.of_segment_plan.Sound.{repeated_name, repeated_station, are_lost, is_bounded}
+use Rattle.scenario_services.specs.of_scenario_keys.declared.place.Place.TheVariants as places
+use Rattle.scenario_services.specs.of_scenario_keys.declared.refusal.Rule.{Rule}
+use Rattle.scenario_services.specs.of_scenario_keys.declared.refusal.Rule.TheVariants.{SameName, SameStation, Schedule, TooMany}
+use Rattle.scenario_services.specs.of_scenario_keys.declared.refusal.Refusal.{Refusal}
+use Rattle.scenario_services.specs.of_scenario_keys.Reading.{◌>>=◌, refuse, unless_refused}
 
 -- no slave that one before it equals
 abbrev pub unless_repeated : Rule → Option ℕ → Result (Unit {0}) Refusal

@@ -1,18 +1,18 @@
 ghost use Rattle.std.specs.Prelude.{IfOk};
 ghost use Rattle.toml.specs.View.{table_view};
-ghost use Rattle.segment_plan.specs.Sound.{IsLaid};
-ghost use Rattle.scenario_keys.specs.Reading.{Gives};
+ghost use Rattle.scenario_services.specs.of_segment_plan.Sound.{IsLaid};
+ghost use Rattle.scenario_services.specs.of_scenario_keys.Reading.{Gives};
 ghost use Rattle.scenario_document.specs.Told.{IsTold};
 ghost use Rattle.scenario_document.specs.Tables.{tables_of};
 
 use crate::host::packets;
 use crate::losses::lose;
 use crate::top::{budget, slave_tables, version};
-use scenario_keys::{Place, Stop, integer_or, needed_integer, only_known};
+use scenario_services::scenario_keys::{Place, Stop, integer_or, needed_integer, only_known};
+use scenario_services::scenario_values::tables_or_none;
+use scenario_services::segment_plan::Scenario;
 use scenario_services::services;
 use scenario_slaves::{paces, slaves};
-use scenario_values::tables_or_none;
-use segment_plan::Scenario;
 use std::alloc::Global;
 use toml::Table;
 

@@ -1,14 +1,14 @@
 ghost use Rattle.std.specs.Prelude.{◌≡◌, ◌≤◌, [], map, length, IfOk, OnOk, All};
 ghost use Rattle.toml.specs.View.{table_view};
-ghost use Rattle.segment_plan.specs.Sound.{IsPacket};
-ghost use Rattle.scenario_keys.specs.Reading.{Gives};
+ghost use Rattle.scenario_services.specs.of_segment_plan.Sound.{IsPacket};
+ghost use Rattle.scenario_services.specs.of_scenario_keys.Reading.{Gives};
 ghost use Rattle.scenario_document.specs.Top.{packet_of, packets_of};
 
 use arrayvec::ArrayVec;
-use ec_fields::Rows;
-use eoe::Packet;
-use scenario_keys::{Place, Stop, only_known, put};
-use scenario_values::needed_buffer;
+use scenario_services::ec_fields::Rows;
+use scenario_services::eoe::Packet;
+use scenario_services::scenario_keys::{Place, Stop, only_known, put};
+use scenario_services::scenario_values::needed_buffer;
 use std::alloc::Global;
 use toml::Table;
 

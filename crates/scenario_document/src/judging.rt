@@ -1,11 +1,11 @@
 ghost use Rattle.std.specs.Prelude.{◌≡◌, ◌≤◌, ◌+◌, length, take, None, IfOk, OnOk};
 ghost use Rattle.std.specs.List.{list_any};
-ghost use Rattle.segment_plan.specs.Sound.{is_same_name, is_same_station, repeated_name, repeated_station, are_lost, is_bounded, IsLaid, IsPlan};
-ghost use Rattle.scenario_keys.specs.Reading.{Gives};
+ghost use Rattle.scenario_services.specs.of_segment_plan.Sound.{is_same_name, is_same_station, repeated_name, repeated_station, are_lost, is_bounded, IsLaid, IsPlan};
+ghost use Rattle.scenario_services.specs.of_scenario_keys.Reading.{Gives};
 ghost use Rattle.scenario_document.specs.Whole.{unless_repeated, whole};
 
-use scenario_keys::{Place, Rule, Stop, refused, unless};
-use segment_plan::{Scenario, SlaveSpec, bound};
+use scenario_services::scenario_keys::{Place, Rule, Stop, refused, unless};
+use scenario_services::segment_plan::{Scenario, SlaveSpec, bound};
 
 /// The most frames of a run for which no budget is given.
 const MOST_FRAMES: u64 = 100_000_000;

@@ -10,3 +10,4 @@ mod top;
 
 pub use document::tables;
 pub use judging::whole;
+pub use scenario_services::{scenario_keys, segment_plan};

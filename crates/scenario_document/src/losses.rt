@@ -1,12 +1,14 @@
 ghost use Rattle.std.specs.Prelude.{◌≡◌, ◌≤◌, length, IfOk};
 ghost use Rattle.toml.specs.View.{view, items_view, table_view};
-ghost use Rattle.scenario_keys.specs.declared.place.Place.TheVariants.{Top};
-ghost use Rattle.scenario_keys.specs.Reading.{Gives, each};
-ghost use Rattle.scenario_keys.specs.Keys.{two_numbers_in, list_of};
+ghost use Rattle.scenario_services.specs.of_scenario_keys.declared.place.Place.TheVariants.{Top};
+ghost use Rattle.scenario_services.specs.of_scenario_keys.Reading.{Gives, each};
+ghost use Rattle.scenario_services.specs.of_scenario_keys.Keys.{two_numbers_in, list_of};
 ghost use Rattle.scenario_document.specs.Losses.{lost_in, lose_of, lose_in, lose_at};
 
-use ec_fields::Rows;
-use scenario_keys::{Place, Rule, Stop, find, number_in, pair_of, put, refused, unless};
+use scenario_services::ec_fields::Rows;
+use scenario_services::scenario_keys::{
+    Place, Rule, Stop, find, number_in, pair_of, put, refused, unless,
+};
 use std::alloc::Global;
 use toml::{Table, Value};
 

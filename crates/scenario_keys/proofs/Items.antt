@@ -1,10 +1,9 @@
 -- Lists of TOML values, and keys.
 use Rattle.std.proofs.Common.{◌≡◌, ◌<◌, ◌≤◌, ◌||◌, Bool, List, [], ◌∷◌, length, map, None, refl, ap, arith}
 use Rattle.std.specs.List.{list_any}
-use Rattle.toml.specs.View.{items_view}
+use Rattle.toml.specs.View.{items_view, view}
 use Rattle.toml.specs.declared.value.Value.{Value}
 use Rattle.scenario_keys.specs.Keys.{two_numbers, list_of}
-use Rattle.toml.specs.View.{view}
 
 pub list_any_map : {A B : Type 0} (p : B → Bool) (f : A → B) (xs : List A) → list_any p (map f xs) ≡ list_any (λ x. p (f x)) xs
 list_any_map p f [] = refl

@@ -5,4 +5,5 @@ mod draws;
 mod parts;
 mod text;
 
+pub use ec_fields;
 pub use text::make;

@@ -1,10 +1,10 @@
 -- Rows that are appended as they are read.
 use Rattle.std.proofs.Common.{◌≡◌, List, [], ◌∷◌, ◌++◌, Result, Ok, Err, IfOk, refl, sym, ap}
 use Rattle.std.specs.Result.{result_unwrap_or}
-use Rattle.scenario_keys.specs.declared.refusal.Refusal.{Refusal}
-use Rattle.scenario_keys.specs.declared.refusal.Stop.{Stop}
-use Rattle.scenario_keys.specs.declared.refusal.Stop.TheVariants as stops
-use Rattle.scenario_keys.specs.Reading.{◌>>=◌, Fails}
+use Rattle.scenario_values.specs.of_scenario_keys.declared.refusal.Refusal.{Refusal}
+use Rattle.scenario_values.specs.of_scenario_keys.declared.refusal.Stop.{Stop}
+use Rattle.scenario_values.specs.of_scenario_keys.declared.refusal.Stop.TheVariants as stops
+use Rattle.scenario_values.specs.of_scenario_keys.Reading.{◌>>=◌, Fails}
 
 -- the row that was appended
 pub appended : {Y : Type 0} (P : Y → Type 0) (read : Result Y Refusal) (old new : List Y) → (read >>= λ y. Ok (old ++ y ∷ [])) ≡ Ok new → IfOk read P

@@ -1,14 +1,14 @@
 -- Services that suit every slave: all but an address block and a state.
 use Rattle.std.proofs.Common.{codes, Result, Ok, Err, IfOk, OnOk}
 use Rattle.toml.specs.Data.{Members}
-use Rattle.segment_plan.specs.declared.slave.SlaveSpec.{SlaveSpec}
-use Rattle.segment_plan.specs.declared.service.Service.{Service}
-use Rattle.segment_plan.specs.declared.service.Service.TheVariants.{Sdo, ReadFile, WriteFile, ReadIdn, WriteIdn}
-use Rattle.scenario_keys.specs.declared.place.Place.{Place}
-use Rattle.scenario_keys.specs.declared.refusal.Refusal.{Refusal}
-use Rattle.scenario_keys.specs.declared.refusal.Stop.{Stop}
-use Rattle.scenario_keys.specs.Reading.{◌>>=◌}
-use Rattle.scenario_keys.specs.Keys.{name_at}
+use Rattle.scenario_values.specs.of_segment_plan.declared.slave.SlaveSpec.{SlaveSpec}
+use Rattle.scenario_values.specs.of_segment_plan.declared.service.Service.{Service}
+use Rattle.scenario_values.specs.of_segment_plan.declared.service.Service.TheVariants.{Sdo, ReadFile, WriteFile, ReadIdn, WriteIdn}
+use Rattle.scenario_values.specs.of_scenario_keys.declared.place.Place.{Place}
+use Rattle.scenario_values.specs.of_scenario_keys.declared.refusal.Refusal.{Refusal}
+use Rattle.scenario_values.specs.of_scenario_keys.declared.refusal.Stop.{Stop}
+use Rattle.scenario_values.specs.of_scenario_keys.Reading.{◌>>=◌}
+use Rattle.scenario_values.specs.of_scenario_keys.Keys.{name_at}
 use Rattle.scenario_values.specs.Octets.{octets_at}
 use Rattle.scenario_services.specs.declared.actions.SdoAction.{SdoAction}
 use Rattle.scenario_services.specs.Sdo.{sdo_of}

@@ -2,11 +2,11 @@
 use Rattle.std.specs.Prelude.{ℕ, List, [], ◌∷◌, codes, Option, Some, None, Result, Ok, if◌then◌else◌, option_and_then}
 use Rattle.std.specs.Str.{bytes_eq}
 use Rattle.toml.specs.Data.{Members, get_member, as_str}
-use Rattle.scenario_keys.specs.declared.place.Place.{Place}
-use Rattle.scenario_keys.specs.declared.refusal.Rule.TheVariants.{OutOfRange}
-use Rattle.scenario_keys.specs.declared.refusal.Refusal.{Refusal}
-use Rattle.scenario_keys.specs.Reading.{◌>>=◌, wanted}
-use Rattle.scenario_keys.specs.Keys.{only_keys, text_at}
+use Rattle.scenario_values.specs.of_scenario_keys.declared.place.Place.{Place}
+use Rattle.scenario_values.specs.of_scenario_keys.declared.refusal.Rule.TheVariants.{OutOfRange}
+use Rattle.scenario_values.specs.of_scenario_keys.declared.refusal.Refusal.{Refusal}
+use Rattle.scenario_values.specs.of_scenario_keys.Reading.{◌>>=◌, wanted}
+use Rattle.scenario_values.specs.of_scenario_keys.Keys.{only_keys, text_at}
 use Rattle.scenario_services.specs.declared.actions.SdoAction.{SdoAction}
 use Rattle.scenario_services.specs.declared.actions.SdoAction.TheVariants as sdo
 use Rattle.scenario_services.specs.declared.actions.Action.{Action}

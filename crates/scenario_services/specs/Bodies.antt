@@ -1,17 +1,17 @@
 -- What the keys of a service say, behind its slave.
 use Rattle.std.specs.Prelude.{ℕ, ◌==◌, ◌||◌, ◌&&◌, ◌-◌, not, List, codes, Result, Ok}
 use Rattle.toml.specs.Data.{Members}
-use Rattle.eoe.specs.Address.{is_block}
-use Rattle.segment_plan.specs.declared.slave.SlaveSpec.{SlaveSpec}
-use Rattle.segment_plan.specs.declared.service.Service.{Service}
-use Rattle.segment_plan.specs.declared.service.Service.TheVariants.{Sdo, ReadFile, WriteFile, ReadIdn, WriteIdn, SetIp, GetIp, State}
-use Rattle.segment_plan.specs.Bound.{smaller}
-use Rattle.segment_plan.specs.Sound.{is_target}
-use Rattle.scenario_keys.specs.declared.place.Place.{Place}
-use Rattle.scenario_keys.specs.declared.refusal.Rule.TheVariants.{OutOfRange}
-use Rattle.scenario_keys.specs.declared.refusal.Refusal.{Refusal}
-use Rattle.scenario_keys.specs.Reading.{◌>>=◌, unless_refused}
-use Rattle.scenario_keys.specs.Keys.{integer_at, integer_or, name_at}
+use Rattle.scenario_values.specs.of_eoe.Address.{is_block}
+use Rattle.scenario_values.specs.of_segment_plan.declared.slave.SlaveSpec.{SlaveSpec}
+use Rattle.scenario_values.specs.of_segment_plan.declared.service.Service.{Service}
+use Rattle.scenario_values.specs.of_segment_plan.declared.service.Service.TheVariants.{Sdo, ReadFile, WriteFile, ReadIdn, WriteIdn, SetIp, GetIp, State}
+use Rattle.scenario_values.specs.of_segment_plan.Bound.{smaller}
+use Rattle.scenario_values.specs.of_segment_plan.Sound.{is_target}
+use Rattle.scenario_values.specs.of_scenario_keys.declared.place.Place.{Place}
+use Rattle.scenario_values.specs.of_scenario_keys.declared.refusal.Rule.TheVariants.{OutOfRange}
+use Rattle.scenario_values.specs.of_scenario_keys.declared.refusal.Refusal.{Refusal}
+use Rattle.scenario_values.specs.of_scenario_keys.Reading.{◌>>=◌, unless_refused}
+use Rattle.scenario_values.specs.of_scenario_keys.Keys.{integer_at, integer_or, name_at}
 use Rattle.scenario_values.specs.Octets.{octets_at}
 use Rattle.scenario_services.specs.declared.actions.SdoAction.{SdoAction}
 use Rattle.scenario_services.specs.declared.actions.Action.{Action}

@@ -1,8 +1,8 @@
 -- What holds of services that were read.
 use Rattle.std.specs.Prelude.{ℕ, List, length, slice_get, IfSome}
-use Rattle.segment_plan.specs.declared.slave.SlaveSpec.{SlaveSpec}
-use Rattle.segment_plan.specs.declared.service.Service.{Service}
-use Rattle.segment_plan.specs.Sound.{IsAddressed}
+use Rattle.scenario_values.specs.of_segment_plan.declared.slave.SlaveSpec.{SlaveSpec}
+use Rattle.scenario_values.specs.of_segment_plan.declared.service.Service.{Service}
+use Rattle.scenario_values.specs.of_segment_plan.Sound.{IsAddressed}
 use Rattle.scenario_services.specs.Suited.{Suits}
 
 -- a service that suits the slave to which it is addressed

@@ -1,12 +1,12 @@
 -- What the keys of a service of CoE say, or their first refusal.
 use Rattle.std.specs.Prelude.{ℕ, List, codes, Result, Ok}
 use Rattle.toml.specs.Data.{Members}
-use Rattle.object_dictionary.specs.declared.service.SdoService.{SdoService}
-use Rattle.object_dictionary.specs.declared.service.SdoService.TheVariants.{Download, Upload, DownloadAll, UploadAll, List as ObjectList, ObjectInfo, EntryInfo}
-use Rattle.scenario_keys.specs.declared.place.Place.{Place}
-use Rattle.scenario_keys.specs.declared.refusal.Refusal.{Refusal}
-use Rattle.scenario_keys.specs.Reading.{◌>>=◌}
-use Rattle.scenario_keys.specs.Keys.{integer_at}
+use Rattle.scenario_values.specs.of_object_dictionary.declared.service.SdoService.{SdoService}
+use Rattle.scenario_values.specs.of_object_dictionary.declared.service.SdoService.TheVariants.{Download, Upload, DownloadAll, UploadAll, List as ObjectList, ObjectInfo, EntryInfo}
+use Rattle.scenario_values.specs.of_scenario_keys.declared.place.Place.{Place}
+use Rattle.scenario_values.specs.of_scenario_keys.declared.refusal.Refusal.{Refusal}
+use Rattle.scenario_values.specs.of_scenario_keys.Reading.{◌>>=◌}
+use Rattle.scenario_values.specs.of_scenario_keys.Keys.{integer_at}
 use Rattle.scenario_values.specs.Octets.{octets_at}
 use Rattle.scenario_services.specs.declared.actions.SdoAction.{SdoAction}
 use Rattle.scenario_services.specs.declared.actions.SdoAction.TheVariants as sdo

@@ -3,14 +3,14 @@ use Rattle.std.specs.Prelude.{ℕ, List, codes, Option, Result, Ok, slice_get}
 use Rattle.std.specs.List.{position_from}
 use Rattle.std.specs.Str.{bytes_eq}
 use Rattle.toml.specs.Data.{Members}
-use Rattle.segment_plan.specs.declared.slave.SlaveSpec.{SlaveSpec}
-use Rattle.segment_plan.specs.declared.service.Service.{Service}
-use Rattle.scenario_keys.specs.declared.place.Place.{Place}
-use Rattle.scenario_keys.specs.declared.place.Place.TheVariants as places
-use Rattle.scenario_keys.specs.declared.refusal.Rule.TheVariants.{UnknownSlave}
-use Rattle.scenario_keys.specs.declared.refusal.Refusal.{Refusal}
-use Rattle.scenario_keys.specs.Reading.{◌>>=◌, wanted, each}
-use Rattle.scenario_keys.specs.Keys.{text_at}
+use Rattle.scenario_values.specs.of_segment_plan.declared.slave.SlaveSpec.{SlaveSpec}
+use Rattle.scenario_values.specs.of_segment_plan.declared.service.Service.{Service}
+use Rattle.scenario_values.specs.of_scenario_keys.declared.place.Place.{Place}
+use Rattle.scenario_values.specs.of_scenario_keys.declared.place.Place.TheVariants as places
+use Rattle.scenario_values.specs.of_scenario_keys.declared.refusal.Rule.TheVariants.{UnknownSlave}
+use Rattle.scenario_values.specs.of_scenario_keys.declared.refusal.Refusal.{Refusal}
+use Rattle.scenario_values.specs.of_scenario_keys.Reading.{◌>>=◌, wanted, each}
+use Rattle.scenario_values.specs.of_scenario_keys.Keys.{text_at}
 use Rattle.scenario_services.specs.declared.actions.Action.{Action}
 use Rattle.scenario_services.specs.Actions.{given_action, only_keys_of, action_at}
 use Rattle.scenario_services.specs.Bodies.{body_of}

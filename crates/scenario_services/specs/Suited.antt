@@ -1,12 +1,12 @@
 -- Services that are appended as they are read, and which suit a slave.
 use Rattle.std.specs.Prelude.{◌≡◌, ℕ, ◌+◌, ◌≤◌, true, List, [], ◌∷◌, ◌++◌, length, Result, Ok}
-use Rattle.segment_plan.specs.declared.slave.SlaveSpec.{SlaveSpec}
-use Rattle.segment_plan.specs.declared.service.Service.{Service}
-use Rattle.segment_plan.specs.declared.service.Service.TheVariants.{SetIp, State}
-use Rattle.segment_plan.specs.Bound.{smaller}
-use Rattle.scenario_keys.specs.declared.refusal.Refusal.{Refusal}
-use Rattle.scenario_keys.specs.declared.refusal.Stop.{Stop}
-use Rattle.scenario_keys.specs.Reading.{◌>>=◌, Gives}
+use Rattle.scenario_values.specs.of_segment_plan.declared.slave.SlaveSpec.{SlaveSpec}
+use Rattle.scenario_values.specs.of_segment_plan.declared.service.Service.{Service}
+use Rattle.scenario_values.specs.of_segment_plan.declared.service.Service.TheVariants.{SetIp, State}
+use Rattle.scenario_values.specs.of_segment_plan.Bound.{smaller}
+use Rattle.scenario_values.specs.of_scenario_keys.declared.refusal.Refusal.{Refusal}
+use Rattle.scenario_values.specs.of_scenario_keys.declared.refusal.Stop.{Stop}
+use Rattle.scenario_values.specs.of_scenario_keys.Reading.{◌>>=◌, Gives}
 
 -- What was appended to rows is what reading gives, unless memory ran out.
 abbrev pub Appends : {Y : Type 0} → List Y → List Y → Result (Unit {0}) Stop → Result Y Refusal → Type 0

@@ -1,22 +1,24 @@
 ghost use Rattle.std.specs.Prelude.{◌≡◌, ◌≤◌, ◌+◌, codes, length, Ok, IfOk, OnOk, true};
 ghost use Rattle.toml.specs.View.{table_view};
-ghost use Rattle.eoe.specs.Address.{is_block};
-ghost use Rattle.segment_plan.specs.Bound.{smaller};
-ghost use Rattle.segment_plan.specs.declared.service.Service.TheVariants.{GetIp};
-ghost use Rattle.segment_plan.specs.Sound.{IsSlave, IsName, IsService, is_target};
-ghost use Rattle.scenario_keys.specs.Reading.{Gives};
-ghost use Rattle.scenario_keys.specs.Keys.{name_at};
+ghost use Rattle.scenario_values.specs.of_eoe.Address.{is_block};
+ghost use Rattle.scenario_values.specs.of_segment_plan.Bound.{smaller};
+ghost use Rattle.scenario_values.specs.of_segment_plan.declared.service.Service.TheVariants.{GetIp};
+ghost use Rattle.scenario_values.specs.of_segment_plan.Sound.{IsSlave, IsName, IsService, is_target};
+ghost use Rattle.scenario_values.specs.of_scenario_keys.Reading.{Gives};
+ghost use Rattle.scenario_values.specs.of_scenario_keys.Keys.{name_at};
 ghost use Rattle.scenario_services.specs.Suited.{Appends, Suits, sent_to};
 ghost use Rattle.scenario_services.specs.Bodies.{password_at, element_at, block_at, state_at, sdo_at, read_file_at, write_file_at, read_idn_at, write_idn_at, set_ip_at, target_state_at, body_of};
 
 use crate::actions::{Action, SdoAction};
 use crate::sdo::{sdo_body, subindex, word};
-use ec_fields::{Octets, Rows, buffer_of};
-use eoe::is_block;
-use file_store::Name;
-use scenario_keys::{Place, Rule, Stop, integer_or, needed_integer, needed_name, put, unless};
+use scenario_values::ec_fields::{Octets, Rows, buffer_of};
+use scenario_values::eoe::is_block;
+use scenario_values::file_store::Name;
 use scenario_values::needed_octets;
-use segment_plan::{Service, SlaveSpec, smaller};
+use scenario_values::scenario_keys::{
+    Place, Rule, Stop, integer_or, needed_integer, needed_name, put, unless,
+};
+use scenario_values::segment_plan::{Service, SlaveSpec, smaller};
 use std::alloc::Global;
 use toml::Table;
 

@@ -1,7 +1,7 @@
 ghost use Rattle.std.specs.Prelude.{◌≡◌, ◌≤◌, ◌<◌, map, length, IfOk, IfSome, OnOk, All};
 ghost use Rattle.toml.specs.View.{table_view};
-ghost use Rattle.segment_plan.specs.Sound.{IsSlave, IsService, IsAddressed};
-ghost use Rattle.scenario_keys.specs.Reading.{Gives};
+ghost use Rattle.scenario_values.specs.of_segment_plan.Sound.{IsSlave, IsService, IsAddressed};
+ghost use Rattle.scenario_values.specs.of_scenario_keys.Reading.{Gives};
 ghost use Rattle.scenario_services.specs.Suited.{Appends, sent_to};
 ghost use Rattle.scenario_services.specs.Reading.{FitsSlave, IsRead};
 ghost use Rattle.scenario_services.specs.Services.{slave_named, target_at, addressed_body, service_of, services_of};
@@ -9,9 +9,9 @@ ghost use Rattle.scenario_services.specs.Services.{slave_named, target_at, addre
 use crate::actions::Action;
 use crate::bodies::add_body;
 use crate::key::{needed_action, only_known_of, said_action};
-use ec_fields::Rows;
-use scenario_keys::{Place, Rule, Stop, needed_text, refused};
-use segment_plan::{Service, SlaveSpec};
+use scenario_values::ec_fields::Rows;
+use scenario_values::scenario_keys::{Place, Rule, Stop, needed_text, refused};
+use scenario_values::segment_plan::{Service, SlaveSpec};
 use std::alloc::Global;
 use toml::Table;
 

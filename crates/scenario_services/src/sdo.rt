@@ -1,13 +1,13 @@
 ghost use Rattle.std.specs.Prelude.{◌≡◌, IfOk};
 ghost use Rattle.toml.specs.View.{table_view};
-ghost use Rattle.segment_plan.specs.Sound.{IsSdo};
-ghost use Rattle.scenario_keys.specs.Reading.{Gives};
+ghost use Rattle.scenario_values.specs.of_segment_plan.Sound.{IsSdo};
+ghost use Rattle.scenario_values.specs.of_scenario_keys.Reading.{Gives};
 ghost use Rattle.scenario_services.specs.Sdo.{word_at, sub_at, sdo_of};
 
 use crate::actions::SdoAction;
-use object_dictionary::SdoService;
-use scenario_keys::{Place, Stop, needed_integer};
 use scenario_values::needed_octets;
+use scenario_values::object_dictionary::SdoService;
+use scenario_values::scenario_keys::{Place, Stop, needed_integer};
 use std::alloc::Global;
 use toml::Table;
 

@@ -2,8 +2,8 @@
 use Rattle.std.proofs.Common.{◌≡◌, ℕ, List, [], ◌∷◌, ◌++◌, true, refl, append_assoc}
 use Rattle.std.proofs.lemmas.Bool.{and_parts}
 use Rattle.std.proofs.lemmas.List.{append-nil}
-use Rattle.file_store.specs.declared.file.FileSpec.{FileSpec}
-use Rattle.segment_plan.specs.Sound.{is_new_file, are_new_files}
+use Rattle.scenario_values.specs.of_file_store.declared.file.FileSpec.{FileSpec}
+use Rattle.scenario_values.specs.of_segment_plan.Sound.{is_new_file, are_new_files}
 
 -- one more file, whose name none before it has
 pub are_new_files-push : (before files : List (FileSpec × List ℕ)) (file : FileSpec × List ℕ) → are_new_files before files ≡ true

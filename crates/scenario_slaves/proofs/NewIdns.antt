@@ -2,8 +2,8 @@
 use Rattle.std.proofs.Common.{◌≡◌, List, [], ◌∷◌, ◌++◌, true, refl, append_assoc}
 use Rattle.std.proofs.lemmas.Bool.{and_parts}
 use Rattle.std.proofs.lemmas.List.{append-nil}
-use Rattle.idn_table.specs.declared.spec.IdnSpec.{IdnSpec}
-use Rattle.segment_plan.specs.Sound.{is_new_idn, are_new_idns}
+use Rattle.scenario_values.specs.of_idn_table.declared.spec.IdnSpec.{IdnSpec}
+use Rattle.scenario_values.specs.of_segment_plan.Sound.{is_new_idn, are_new_idns}
 
 -- one more IDN, whose drive and number none before it has
 pub are_new_idns-push : (before idns : List IdnSpec) (idn : IdnSpec) → are_new_idns before idns ≡ true

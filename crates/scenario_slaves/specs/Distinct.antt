@@ -1,7 +1,7 @@
 -- What holds of a slave that was read, beside the ranges of its numbers.
 use Rattle.std.specs.Prelude.{◌≡◌, [], true}
-use Rattle.segment_plan.specs.declared.slave.SlaveSpec.{SlaveSpec}
-use Rattle.segment_plan.specs.Sound.{IsSlave, are_new_files, are_new_idns}
+use Rattle.scenario_values.specs.of_segment_plan.declared.slave.SlaveSpec.{SlaveSpec}
+use Rattle.scenario_values.specs.of_segment_plan.Sound.{IsSlave, are_new_files, are_new_idns}
 use Rattle.scenario_slaves.specs.Plain.{HasMac}
 
 -- a slave none of whose files has the name of another, and none of whose IDNs the drive and number of another

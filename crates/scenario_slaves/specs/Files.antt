@@ -2,15 +2,15 @@
 use Rattle.std.specs.Prelude.{ℕ, ◌+◌, nat_le, List, [], ◌∷◌, length, codes, Option, Some, None, Result, Ok, Bool, true, false, if◌then◌else◌}
 use Rattle.std.specs.Str.{bytes_eq}
 use Rattle.toml.specs.Data.{Members}
-use Rattle.block_pool.specs.Region.{blocks_for}
-use Rattle.file_store.specs.declared.file.FileSpec.{FileSpec}
-use Rattle.segment_plan.specs.Sound.{taken, is_new_file}
-use Rattle.scenario_keys.specs.declared.place.Place.{Place}
-use Rattle.scenario_keys.specs.declared.place.Place.TheVariants as places
-use Rattle.scenario_keys.specs.declared.refusal.Rule.TheVariants.{OutOfRange}
-use Rattle.scenario_keys.specs.declared.refusal.Refusal.{Refusal}
-use Rattle.scenario_keys.specs.Reading.{◌>>=◌, wanted, unless_refused, each_behind}
-use Rattle.scenario_keys.specs.Keys.{only_keys, integer_or, bool_at, text_at, name_at}
+use Rattle.scenario_values.specs.of_block_pool.Region.{blocks_for}
+use Rattle.scenario_values.specs.of_file_store.declared.file.FileSpec.{FileSpec}
+use Rattle.scenario_values.specs.of_segment_plan.Sound.{taken, is_new_file}
+use Rattle.scenario_values.specs.of_scenario_keys.declared.place.Place.{Place}
+use Rattle.scenario_values.specs.of_scenario_keys.declared.place.Place.TheVariants as places
+use Rattle.scenario_values.specs.of_scenario_keys.declared.refusal.Rule.TheVariants.{OutOfRange}
+use Rattle.scenario_values.specs.of_scenario_keys.declared.refusal.Refusal.{Refusal}
+use Rattle.scenario_values.specs.of_scenario_keys.Reading.{◌>>=◌, wanted, unless_refused, each_behind}
+use Rattle.scenario_values.specs.of_scenario_keys.Keys.{only_keys, integer_or, bool_at, text_at, name_at}
 use Rattle.scenario_values.specs.Octets.{octets_at}
 
 -- whether a file may be read, and whether it may be written

@@ -1,14 +1,14 @@
 -- The IDNs of a slave, or their first refusal.
 use Rattle.std.specs.Prelude.{ℕ, List, [], ◌∷◌, codes, Result, Ok}
 use Rattle.toml.specs.Data.{Members}
-use Rattle.idn_table.specs.declared.spec.IdnSpec.{IdnSpec}
-use Rattle.segment_plan.specs.Sound.{is_new_idn}
-use Rattle.scenario_keys.specs.declared.place.Place.{Place}
-use Rattle.scenario_keys.specs.declared.place.Place.TheVariants as places
-use Rattle.scenario_keys.specs.declared.refusal.Rule.TheVariants.{OutOfRange}
-use Rattle.scenario_keys.specs.declared.refusal.Refusal.{Refusal}
-use Rattle.scenario_keys.specs.Reading.{◌>>=◌, unless_refused, each_behind}
-use Rattle.scenario_keys.specs.Keys.{only_keys, integer_at, integer_or, sizes_at, bool_at, optional_label_at}
+use Rattle.scenario_values.specs.of_idn_table.declared.spec.IdnSpec.{IdnSpec}
+use Rattle.scenario_values.specs.of_segment_plan.Sound.{is_new_idn}
+use Rattle.scenario_values.specs.of_scenario_keys.declared.place.Place.{Place}
+use Rattle.scenario_values.specs.of_scenario_keys.declared.place.Place.TheVariants as places
+use Rattle.scenario_values.specs.of_scenario_keys.declared.refusal.Rule.TheVariants.{OutOfRange}
+use Rattle.scenario_values.specs.of_scenario_keys.declared.refusal.Refusal.{Refusal}
+use Rattle.scenario_values.specs.of_scenario_keys.Reading.{◌>>=◌, unless_refused, each_behind}
+use Rattle.scenario_values.specs.of_scenario_keys.Keys.{only_keys, integer_at, integer_or, sizes_at, bool_at, optional_label_at}
 use Rattle.scenario_values.specs.Bounds.{idn_bounds_at, idn_value_at}
 
 -- a drive at which no IDN before has the number

@@ -1,11 +1,11 @@
 -- What a slave's plain keys say, without its lists.
 use Rattle.std.specs.Prelude.{◌≡◌, ℕ, [], length, codes, Result, Ok}
 use Rattle.toml.specs.Data.{Members}
-use Rattle.segment_plan.specs.declared.slave.SlaveSpec.{SlaveSpec}
-use Rattle.scenario_keys.specs.declared.place.Place.{Place}
-use Rattle.scenario_keys.specs.declared.refusal.Refusal.{Refusal}
-use Rattle.scenario_keys.specs.Reading.{◌>>=◌}
-use Rattle.scenario_keys.specs.Keys.{integer_at, integer_or, pair_at, bool_at, name_at}
+use Rattle.scenario_values.specs.of_segment_plan.declared.slave.SlaveSpec.{SlaveSpec}
+use Rattle.scenario_values.specs.of_scenario_keys.declared.place.Place.{Place}
+use Rattle.scenario_values.specs.of_scenario_keys.declared.refusal.Refusal.{Refusal}
+use Rattle.scenario_values.specs.of_scenario_keys.Reading.{◌>>=◌}
+use Rattle.scenario_values.specs.of_scenario_keys.Keys.{integer_at, integer_or, pair_at, bool_at, name_at}
 use Rattle.scenario_slaves.specs.Protocols.{serves_at}
 use Rattle.scenario_slaves.specs.Settings.{start_at, mac_at, pace_at}
 

@@ -2,11 +2,11 @@
 use Rattle.std.specs.Prelude.{ℕ, List, [], ◌∷◌, codes, Option, Some, None, Result, Ok, true, false, if◌then◌else◌}
 use Rattle.std.specs.Str.{bytes_eq}
 use Rattle.toml.specs.Data.{Data, Members, Items, as_array}
-use Rattle.scenario_keys.specs.declared.place.Place.{Place}
-use Rattle.scenario_keys.specs.declared.refusal.Rule.TheVariants.{WrongKind, OutOfRange}
-use Rattle.scenario_keys.specs.declared.refusal.Refusal.{Refusal}
-use Rattle.scenario_keys.specs.Reading.{◌>>=◌, wanted, each}
-use Rattle.scenario_keys.specs.Keys.{needed_at, text_in, list_of}
+use Rattle.scenario_values.specs.of_scenario_keys.declared.place.Place.{Place}
+use Rattle.scenario_values.specs.of_scenario_keys.declared.refusal.Rule.TheVariants.{WrongKind, OutOfRange}
+use Rattle.scenario_values.specs.of_scenario_keys.declared.refusal.Refusal.{Refusal}
+use Rattle.scenario_values.specs.of_scenario_keys.Reading.{◌>>=◌, wanted, each}
+use Rattle.scenario_values.specs.of_scenario_keys.Keys.{needed_at, text_in, list_of}
 use Rattle.scenario_slaves.specs.declared.protocols.Served.{Served}
 
 -- the protocols so far with one more: none for another word, and none for a protocol that stands already

@@ -2,11 +2,11 @@
 use Rattle.std.specs.Prelude.{ℕ, ◌==◌, ◌&&◌, ◌%◌, List, codes, replicate, slice_index, unwrap_or, Option, Some, None, Result, Ok, Bool, true, false, if◌then◌else◌}
 use Rattle.std.specs.Str.{bytes_eq}
 use Rattle.toml.specs.Data.{Data, Members, get_member}
-use Rattle.scenario_keys.specs.declared.place.Place.{Place}
-use Rattle.scenario_keys.specs.declared.refusal.Rule.TheVariants.{OutOfRange}
-use Rattle.scenario_keys.specs.declared.refusal.Refusal.{Refusal}
-use Rattle.scenario_keys.specs.Reading.{◌>>=◌, wanted, unless_refused, optional}
-use Rattle.scenario_keys.specs.Keys.{integer_or, text_in}
+use Rattle.scenario_values.specs.of_scenario_keys.declared.place.Place.{Place}
+use Rattle.scenario_values.specs.of_scenario_keys.declared.refusal.Rule.TheVariants.{OutOfRange}
+use Rattle.scenario_values.specs.of_scenario_keys.declared.refusal.Refusal.{Refusal}
+use Rattle.scenario_values.specs.of_scenario_keys.Reading.{◌>>=◌, wanted, unless_refused, optional}
+use Rattle.scenario_values.specs.of_scenario_keys.Keys.{integer_or, text_in}
 use Rattle.scenario_values.specs.Octets.{octets_at, no_octets_at}
 
 -- the AL state of a word, where the slave has it: Bootstrap only with that state

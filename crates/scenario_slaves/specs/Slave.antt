@@ -1,15 +1,15 @@
 -- A slave of a scenario, or its first refusal.
 use Rattle.std.specs.Prelude.{ℕ, ◌==◌, List, [], ◌∷◌, codes, Result, Ok, if◌then◌else◌}
 use Rattle.toml.specs.Data.{Members}
-use Rattle.file_store.specs.declared.file.FileSpec.{FileSpec}
-use Rattle.segment_plan.specs.declared.slave.ObjectSpec.{ObjectSpec}
-use Rattle.idn_table.specs.declared.spec.IdnSpec.{IdnSpec}
-use Rattle.segment_plan.specs.declared.slave.SlaveSpec.{SlaveSpec}
-use Rattle.scenario_keys.specs.declared.place.Place.{Place}
-use Rattle.scenario_keys.specs.declared.place.Place.TheVariants as places
-use Rattle.scenario_keys.specs.declared.refusal.Refusal.{Refusal}
-use Rattle.scenario_keys.specs.Reading.{◌>>=◌}
-use Rattle.scenario_keys.specs.Keys.{only_keys}
+use Rattle.scenario_values.specs.of_file_store.declared.file.FileSpec.{FileSpec}
+use Rattle.scenario_values.specs.of_segment_plan.declared.slave.ObjectSpec.{ObjectSpec}
+use Rattle.scenario_values.specs.of_idn_table.declared.spec.IdnSpec.{IdnSpec}
+use Rattle.scenario_values.specs.of_segment_plan.declared.slave.SlaveSpec.{SlaveSpec}
+use Rattle.scenario_values.specs.of_scenario_keys.declared.place.Place.{Place}
+use Rattle.scenario_values.specs.of_scenario_keys.declared.place.Place.TheVariants as places
+use Rattle.scenario_values.specs.of_scenario_keys.declared.refusal.Refusal.{Refusal}
+use Rattle.scenario_values.specs.of_scenario_keys.Reading.{◌>>=◌}
+use Rattle.scenario_values.specs.of_scenario_keys.Keys.{only_keys}
 use Rattle.scenario_values.specs.Tables.{optional_tables_at}
 use Rattle.scenario_values.specs.Objects.{objects_of}
 use Rattle.scenario_slaves.specs.Files.{files_of}

@@ -1,10 +1,10 @@
 -- The slaves of a scenario, or their first refusal.
 use Rattle.std.specs.Prelude.{ℕ, List, Result}
 use Rattle.toml.specs.Data.{Members}
-use Rattle.segment_plan.specs.declared.slave.SlaveSpec.{SlaveSpec}
-use Rattle.scenario_keys.specs.declared.place.Place.TheVariants as places
-use Rattle.scenario_keys.specs.declared.refusal.Refusal.{Refusal}
-use Rattle.scenario_keys.specs.Reading.{each}
+use Rattle.scenario_values.specs.of_segment_plan.declared.slave.SlaveSpec.{SlaveSpec}
+use Rattle.scenario_values.specs.of_scenario_keys.declared.place.Place.TheVariants as places
+use Rattle.scenario_values.specs.of_scenario_keys.declared.refusal.Refusal.{Refusal}
+use Rattle.scenario_values.specs.of_scenario_keys.Reading.{each}
 use Rattle.scenario_slaves.specs.Settings.{pace_at}
 use Rattle.scenario_slaves.specs.Slave.{slave_of}
 

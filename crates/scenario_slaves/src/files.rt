@@ -1,18 +1,18 @@
 ghost use Rattle.std.specs.Prelude.{◌≡◌, ◌≤◌, ◌+◌, ◌*◌, [], map, length, IfOk, All, true};
 ghost use Rattle.std.specs.List.{list_any};
 ghost use Rattle.toml.specs.View.{table_view};
-ghost use Rattle.block_pool.specs.Region.{blocks_for};
-ghost use Rattle.segment_plan.specs.Sound.{taken, has_name, is_new_file, are_new_files, IsFile};
-ghost use Rattle.scenario_keys.specs.Reading.{Gives};
+ghost use Rattle.scenario_values.specs.of_block_pool.Region.{blocks_for};
+ghost use Rattle.scenario_values.specs.of_segment_plan.Sound.{taken, has_name, is_new_file, are_new_files, IsFile};
+ghost use Rattle.scenario_values.specs.of_scenario_keys.Reading.{Gives};
 ghost use Rattle.scenario_slaves.specs.Files.{rights_of, rights_at, file_name_at, file_value_at, file_of, files_of};
 
-use ec_fields::{Octets, Rows, buffer_of};
-use file_store::{FileSpec, Name};
-use scenario_keys::{
+use scenario_values::ec_fields::{Octets, Rows, buffer_of};
+use scenario_values::file_store::{FileSpec, Name};
+use scenario_values::needed_octets;
+use scenario_values::scenario_keys::{
     Place, Rule, Stop, bool_or_false, integer_or, needed_name, needed_text, only_known, put,
     refused, unless,
 };
-use scenario_values::needed_octets;
 use std::alloc::Global;
 use toml::Table;
 

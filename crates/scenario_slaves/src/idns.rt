@@ -1,13 +1,13 @@
 ghost use Rattle.std.specs.Prelude.{◌≡◌, ◌≤◌, [], map, length, IfOk, All, true};
 ghost use Rattle.std.specs.List.{list_any};
 ghost use Rattle.toml.specs.View.{table_view};
-ghost use Rattle.segment_plan.specs.Sound.{has_key, is_new_idn, are_new_idns, IsIdn};
-ghost use Rattle.scenario_keys.specs.Reading.{Gives};
+ghost use Rattle.scenario_values.specs.of_segment_plan.Sound.{has_key, is_new_idn, are_new_idns, IsIdn};
+ghost use Rattle.scenario_values.specs.of_scenario_keys.Reading.{Gives};
 ghost use Rattle.scenario_slaves.specs.Idns.{drive_at, idn_of, idns_of};
 
-use ec_fields::Rows;
-use idn_table::IdnSpec;
-use scenario_keys::{
+use scenario_values::ec_fields::Rows;
+use scenario_values::idn_table::IdnSpec;
+use scenario_values::scenario_keys::{
     Place, Rule, Stop, bool_or_false, integer_or, needed_integer, needed_sizes, only_known, put,
     some_label, unless,
 };

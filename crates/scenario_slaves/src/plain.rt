@@ -1,16 +1,16 @@
 ghost use Rattle.std.specs.Prelude.{IfOk};
 ghost use Rattle.toml.specs.View.{table_view};
-ghost use Rattle.segment_plan.specs.Sound.{IsSlave};
-ghost use Rattle.scenario_keys.specs.Reading.{Gives};
+ghost use Rattle.scenario_values.specs.of_segment_plan.Sound.{IsSlave};
+ghost use Rattle.scenario_values.specs.of_scenario_keys.Reading.{Gives};
 ghost use Rattle.scenario_slaves.specs.Plain.{HasMac, plain_slave_of};
 
 use crate::protocols::serves;
 use crate::settings::{mac, pace, start};
-use ec_fields::{Octets, Rows};
-use scenario_keys::{
+use scenario_values::ec_fields::{Octets, Rows};
+use scenario_values::scenario_keys::{
     Place, Stop, bool_or_false, integer_or, needed_integer, needed_name, needed_pair,
 };
-use segment_plan::SlaveSpec;
+use scenario_values::segment_plan::SlaveSpec;
 use std::alloc::Global;
 use toml::Table;
 

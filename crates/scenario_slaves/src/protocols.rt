@@ -1,10 +1,10 @@
 ghost use Rattle.std.specs.Prelude.{◌≡◌, map};
 ghost use Rattle.toml.specs.View.{view, items_view, table_view};
-ghost use Rattle.scenario_keys.specs.Reading.{Gives, each};
-ghost use Rattle.scenario_keys.specs.Keys.{text_in, list_of};
+ghost use Rattle.scenario_values.specs.of_scenario_keys.Reading.{Gives, each};
+ghost use Rattle.scenario_values.specs.of_scenario_keys.Keys.{text_in, list_of};
 ghost use Rattle.scenario_slaves.specs.Protocols.{more_served, none_served, served_of, serves_of, serves_in, serves_at};
 
-use scenario_keys::{Place, Rule, Stop, needed, refused, text};
+use scenario_values::scenario_keys::{Place, Rule, Stop, needed, refused, text};
 use std::alloc::Global;
 use toml::{Table, Value};
 

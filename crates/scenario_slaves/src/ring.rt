@@ -1,16 +1,16 @@
 ghost use Rattle.std.specs.Prelude.{◌≡◌, ◌≤◌, map, length, IfOk, All};
 ghost use Rattle.toml.specs.View.{table_view};
-ghost use Rattle.segment_plan.specs.Sound.{IsSlave, IsPace};
-ghost use Rattle.scenario_keys.specs.Reading.{Gives};
+ghost use Rattle.scenario_values.specs.of_segment_plan.Sound.{IsSlave, IsPace};
+ghost use Rattle.scenario_values.specs.of_scenario_keys.Reading.{Gives};
 ghost use Rattle.scenario_slaves.specs.Plain.{HasMac};
 ghost use Rattle.scenario_slaves.specs.Distinct.{IsDistinct};
 ghost use Rattle.scenario_slaves.specs.Slaves.{slaves_of, paces_of};
 
 use crate::settings::pace;
 use crate::slave::slave;
-use ec_fields::Rows;
-use scenario_keys::{Place, Stop, put};
-use segment_plan::SlaveSpec;
+use scenario_values::ec_fields::Rows;
+use scenario_values::scenario_keys::{Place, Stop, put};
+use scenario_values::segment_plan::SlaveSpec;
 use std::alloc::Global;
 use toml::Table;
 

@@ -1,7 +1,7 @@
 ghost use Rattle.std.specs.Prelude.{◌≡◌, map, IfOk};
 ghost use Rattle.toml.specs.View.{table_view};
-ghost use Rattle.segment_plan.specs.Sound.{IsSlave};
-ghost use Rattle.scenario_keys.specs.Reading.{Gives};
+ghost use Rattle.scenario_values.specs.of_segment_plan.Sound.{IsSlave};
+ghost use Rattle.scenario_values.specs.of_scenario_keys.Reading.{Gives};
 ghost use Rattle.scenario_slaves.specs.Plain.{HasMac};
 ghost use Rattle.scenario_slaves.specs.Distinct.{IsDistinct};
 ghost use Rattle.scenario_slaves.specs.Slave.{slave_keys, slave_of};
@@ -9,9 +9,9 @@ ghost use Rattle.scenario_slaves.specs.Slave.{slave_keys, slave_of};
 use crate::files::files;
 use crate::idns::idns;
 use crate::plain::plain_slave;
-use scenario_keys::{Place, Stop, only_known};
+use scenario_values::scenario_keys::{Place, Stop, only_known};
+use scenario_values::segment_plan::SlaveSpec;
 use scenario_values::{objects, tables_or_none};
-use segment_plan::SlaveSpec;
 use std::alloc::Global;
 use toml::Table;
 

@@ -1,9 +1,9 @@
 -- The entries of an object, as a dictionary wants them.
 use Rattle.std.proofs.Common.{◌≡◌, ◌≤◌, true, List, [], ◌∷◌, length, All, refl, arith}
 use Rattle.std.proofs.lemmas.List.Elements.{All-head, All-tail}
-use Rattle.object_dictionary.specs.declared.entry.EntrySpec.{EntrySpec}
-use Rattle.object_dictionary.specs.Whole.{sizes}
-use Rattle.object_dictionary.specs.Sound.{are_entries, is_object}
+use Rattle.segment_plan.specs.of_object_dictionary.declared.entry.EntrySpec.{EntrySpec}
+use Rattle.segment_plan.specs.of_object_dictionary.Whole.{sizes}
+use Rattle.segment_plan.specs.of_object_dictionary.Sound.{are_entries, is_object}
 use Rattle.segment_plan.specs.declared.slave.ObjectSpec.{ObjectSpec}
 use Rattle.segment_plan.specs.Sound.{IsEntry, kept}
 

@@ -1,8 +1,8 @@
 -- The entries of an object, or their first refusal.
 use Rattle.std.specs.Prelude.{ℕ, ℤ, int_le, ◌==◌, ◌&&◌, List, [], ◌∷◌, codes, Option, Some, None, Result, Ok, Bool, true, if◌then◌else◌, is_none}
 use Rattle.toml.specs.Data.{Members}
-use Rattle.object_dictionary.specs.declared.entry.EntrySpec.{EntrySpec}
-use Rattle.object_dictionary.specs.Entries.{is_text, size_of_kind, bound_refusal}
+use Rattle.segment_plan.specs.of_object_dictionary.declared.entry.EntrySpec.{EntrySpec}
+use Rattle.segment_plan.specs.of_object_dictionary.Entries.{is_text, size_of_kind, bound_refusal}
 use Rattle.segment_plan.specs.Sound.{is_kind}
 use Rattle.scenario_keys.specs.declared.place.Place.{Place}
 use Rattle.scenario_keys.specs.declared.place.Place.TheVariants as places

@@ -2,7 +2,7 @@
 use Rattle.std.specs.Prelude.{ℕ, ◌==◌, ◌||◌, ◌&&◌, not, nat_le, nat_lt, List, [], ◌∷◌, length, codes, Option, Some, None, Result, Ok, Bool, if◌then◌else◌}
 use Rattle.std.specs.Str.{bytes_eq}
 use Rattle.toml.specs.Data.{Members}
-use Rattle.object_dictionary.specs.Whole.{sizes}
+use Rattle.segment_plan.specs.of_object_dictionary.Whole.{sizes}
 use Rattle.segment_plan.specs.declared.slave.ObjectSpec.{ObjectSpec}
 use Rattle.scenario_keys.specs.declared.place.Place.{Place}
 use Rattle.scenario_keys.specs.declared.place.Place.TheVariants as places

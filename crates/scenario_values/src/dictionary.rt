@@ -1,18 +1,18 @@
 ghost use Rattle.std.specs.Prelude.{◌≡◌, ◌≤◌, ◌<◌, map, length, IfOk, IfSome, All, true, IsTrue};
 ghost use Rattle.toml.specs.View.{table_view};
-ghost use Rattle.object_dictionary.specs.Sound.{is_object, is_rising};
+ghost use Rattle.segment_plan.specs.of_object_dictionary.Sound.{is_object, is_rising};
 ghost use Rattle.scenario_keys.specs.Reading.{Gives};
 ghost use Rattle.scenario_values.specs.Objects.{code_of, code_at, is_index, index_at, is_many, entry_tables_at, sized, object_of, objects_of};
 ghost use Rattle.segment_plan.specs.Sound.{IsEntry, is_code, kept, IsObject, indexes};
 
 use crate::entries::entries;
 use crate::tables::needed_tables;
-use ec_fields::Rows;
-use object_dictionary::are_small;
+use scenario_keys::ec_fields::Rows;
 use scenario_keys::{
     Place, Rule, Stop, label_or_none, needed_integer, needed_text, only_known, put, refused, unless,
 };
 use segment_plan::ObjectSpec;
+use segment_plan::object_dictionary::are_small;
 use std::alloc::Global;
 use toml::Table;
 

@@ -1,14 +1,14 @@
 -- A step of the mailboxes alone, as another sees it.
 use Rattle.std.proofs.Common.{◌≡◌, ℕ, Option, sym, ap, ◌∙◌}
-use Rattle.exchange_model.specs.Exchange.{Exchange}
-use Rattle.link_model.specs.Slave.{node_look, node_serve}
+use Rattle.idle_slaves.specs.of_exchange_model.Exchange.{Exchange}
+use Rattle.idle_slaves.specs.of_link_model.Slave.{node_look, node_serve}
 use Rattle.seen_slaves.specs.Steps.{IsStanding}
-use Rattle.segment_model.specs.Slaves.{Processor, Registers, Slave, serving}
-use Rattle.serving_model.specs.Erasing.{slave_as}
-use Rattle.state_model.specs.Stated.{Stated}
-use Rattle.state_model.specs.States.{Table, carry}
+use Rattle.idle_slaves.specs.of_segment_model.Slaves.{Processor, Registers, Slave, serving}
+use Rattle.served_rings.specs.of_serving_model.Erasing.{slave_as}
+use Rattle.idle_slaves.specs.of_state_model.Stated.{Stated}
+use Rattle.idle_slaves.specs.of_state_model.States.{Table, carry}
 use Rattle.idle_slaves.specs.Steps.{StepsAlone}
-use Rattle.state_model.specs.Accounts.{Duty}
+use Rattle.idle_slaves.specs.of_state_model.Accounts.{Duty}
 
 pub alone_as : {V A N P S W B M Q R : Type 0} (x : Exchange V A N P S) (s : Stated V A P) (table : Table) (hand : Option Duty) (n : Slave V N) → IsStanding x s table hand n → (f : N → M) (server : V → W) (u : Exchange W B M Q R) (processor : Processor W) (tell : ℕ → W → W) (state : W → ℕ) →
     ((r : Registers) → processor.carry r ≡ carry table r) → ((al : ℕ) (w : W) → processor.tell al w ≡ tell al w) → ((w : W) → tell (state w) w ≡ w) → ((v : V) → state (server v) ≡ s.state (x.app v)) → StepsAlone u processor table hand (slave_as f server n)

@@ -1,33 +1,33 @@
 -- Frame by frame of a serving: the clocks of its slaves, and what these answer.
 use Rattle.std.proofs.Common.{◌≡◌, ℕ, suc, Bool, Option, List, [], ◌∷◌, ◌++◌, map, length, refl, sym, ap, ap₂, ◌∙◌, subst}
 use Rattle.std.proofs.lemmas.List.{length-map}
-use Rattle.frame_view.specs.Seen.{seen}
-use Rattle.frame_view.specs.View.{Lens}
+use Rattle.idle_slaves.specs.of_frame_view.Seen.{seen}
+use Rattle.idle_slaves.specs.of_frame_view.View.{Lens}
 use Rattle.idle_slaves.proofs.Fits.{Slave}
 use Rattle.idle_slaves.proofs.Walk.{one_more}
-use Rattle.life_runs.specs.First.{lens_of, first_leads}
-use Rattle.life_runs.specs.Led.{Exchanged, gives_up_at, missed_behind, speech_at}
-use Rattle.life_runs.specs.of_datagrams.Datagram as Raw
-use Rattle.link_mails.specs.Body.{Body}
-use Rattle.master_duty.specs.Reply.{Reply}
-use Rattle.master_hand.specs.Spoken.{Asked}
+use Rattle.idle_slaves.specs.of_life_runs.First.{lens_of, first_leads}
+use Rattle.idle_slaves.specs.of_life_runs.Led.{Exchanged, gives_up_at, missed_behind, speech_at}
+use Rattle.idle_slaves.specs.of_datagrams.Datagram as Raw
+use Rattle.idle_slaves.specs.of_link_mails.Body.{Body}
+use Rattle.served_rings.specs.of_master_duty.Reply.{Reply}
+use Rattle.served_rings.specs.of_master_hand.Spoken.{Asked}
 use Rattle.idle_slaves.specs.of_plan_ring.Lives.{IsKnown}
 use Rattle.idle_slaves.specs.of_plan_ring.Round.{AllRound, ring_of}
 use Rattle.idle_slaves.proofs.of_plan_ring.Lives.{front_round, last_round}
-use Rattle.run_frames.specs.Answers.{AllAnswer, AllAsk}
-use Rattle.run_frames.specs.Goes.{Under}
-use Rattle.run_frames.specs.Led.{AreLed}
-use Rattle.run_frames.specs.Runs.{Progress}
-use Rattle.run_frames.proofs.Leading.{SeenIs}
-use Rattle.segment_plan.specs.Sound as Plan
-use Rattle.segment_plan.specs.declared.plan.Scenario.{Scenario}
-use Rattle.segment_ring.specs.declared.wire.Fate.TheVariants.{Pass, Lost}
+use Rattle.idle_slaves.specs.of_run_frames.Answers.{AllAnswer, AllAsk}
+use Rattle.idle_slaves.specs.of_run_frames.Goes.{Under}
+use Rattle.idle_slaves.specs.of_run_frames.Led.{AreLed}
+use Rattle.idle_slaves.specs.of_run_frames.Runs.{Progress}
+use Rattle.idle_slaves.proofs.of_run_frames.Leading.{SeenIs}
+use Rattle.idle_slaves.specs.of_segment_plan.Sound as Plan
+use Rattle.idle_slaves.specs.of_segment_plan.declared.plan.Scenario.{Scenario}
+use Rattle.idle_slaves.specs.of_segment_ring.declared.wire.Fate.TheVariants.{Pass, Lost}
 use Rattle.served_rings.specs.of_served_places.Answered.{ServedAnswers, ServedAsks}
 use Rattle.served_rings.specs.of_served_places.Toured.{IsServedToured, back_under, first_served, lost_under, serves_on, served_back, served_lost}
 use Rattle.served_rings.proofs.of_served_places.Slaves.{all_led_back, all_led_lost, leads_asked}
 use Rattle.served_rings.specs.Rings.{AreServedLived, ServedMember, served_members}
 use Rattle.served_rings.proofs.Lives.{asked_members}
-use Rattle.served_rings.specs.of_life_runs.Served.{Keyed, MayAsk, Serves, ServedTurn, AllServedTurn, IsServedFrame, IsServedLed, all_serve, asked_at}
+use Rattle.idle_slaves.specs.of_life_runs.Served.{Keyed, MayAsk, Serves, ServedTurn, AllServedTurn, IsServedFrame, IsServedLed, all_serve, asked_at}
 use Rattle.seen_slaves.specs.Eager.{leads_of, turns_of}
 use Rattle.seen_slaves.proofs.Clocks.{RunOn, answers, clocks, run_back, run_lost, stands_on}
 use Rattle.seen_slaves.proofs.Seats.{nodes_are}

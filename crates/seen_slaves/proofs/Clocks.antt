@@ -2,42 +2,42 @@
 use Rattle.std.proofs.Common.{◌≡◌, ℕ, suc, Bool, true, false, List, [], ◌∷◌, ◌++◌, map, length, refl, sym, ap, ◌∙◌, subst, if◌then◌else◌}
 use Rattle.std.specs.Prelude.{⊤}
 use Rattle.std.proofs.lemmas.List.{length-map}
-use Rattle.datagrams.specs.Frame.{chained}
-use Rattle.exchange_model.specs.Exchange.{Speech}
-use Rattle.frame_view.specs.Seen.{seen}
-use Rattle.frame_view.specs.View.{Lens}
+use Rattle.idle_slaves.specs.of_datagrams.Frame.{chained}
+use Rattle.idle_slaves.specs.of_exchange_model.Exchange.{Speech}
+use Rattle.idle_slaves.specs.of_frame_view.Seen.{seen}
+use Rattle.idle_slaves.specs.of_frame_view.View.{Lens}
 use Rattle.idle_slaves.proofs.Fits.{Slave}
-use Rattle.life_model.specs.Repairs.{way_of}
-use Rattle.life_model.specs.Lives.{Life, Spot, Stand, gives_up}
-use Rattle.life_model.specs.Own.{own}
-use Rattle.life_runs.specs.First.{lens_of, leads_from}
-use Rattle.life_runs.specs.Led.{Exchanged, gives_up_at, is_passed}
-use Rattle.link_mails.specs.Body.{Body}
-use Rattle.master_duty.specs.Reply.{Reply}
-use Rattle.master_hand.specs.Spoken.{Asked, acknowledged, is_followed}
+use Rattle.idle_slaves.specs.of_life_model.Repairs.{way_of}
+use Rattle.idle_slaves.specs.of_life_model.Lives.{Life, Spot, Stand, gives_up}
+use Rattle.idle_slaves.specs.of_life_model.Own.{own}
+use Rattle.idle_slaves.specs.of_life_runs.First.{lens_of, leads_from}
+use Rattle.idle_slaves.specs.of_life_runs.Led.{Exchanged, gives_up_at, is_passed}
+use Rattle.idle_slaves.specs.of_link_mails.Body.{Body}
+use Rattle.served_rings.specs.of_master_duty.Reply.{Reply}
+use Rattle.served_rings.specs.of_master_hand.Spoken.{Asked, acknowledged, is_followed}
 use Rattle.idle_slaves.specs.of_plan_ring.Lives.{IsKnown}
 use Rattle.idle_slaves.specs.of_plan_ring.Plan.{FitsPlan, step}
 use Rattle.idle_slaves.specs.of_plan_ring.Round.{WentRound, all_seen, frame_seen, ring_after, ring_of}
 use Rattle.idle_slaves.proofs.of_plan_ring.Known.{AllBoot, all_boot}
 use Rattle.idle_slaves.proofs.of_plan_ring.Lives.{one_after}
-use Rattle.run_frames.specs.Answers.{AllAnswer, AllAsk, AsksFirst, EachAsks, StandAnswers}
-use Rattle.run_frames.specs.Goes.{Under, all_back, all_lost, clocked_behind, is_same, stepped_behind}
-use Rattle.run_frames.specs.Led.{AreLed}
-use Rattle.segment_model.specs.Record.{Frame}
-use Rattle.segment_model.specs.Slaves.{Datagram}
-use Rattle.segment_plan.specs.Sound as Plan
-use Rattle.segment_plan.specs.declared.plan.Scenario.{Scenario}
-use Rattle.segment_plan.specs.declared.service.Service as Row
-use Rattle.segment_plan.specs.declared.slave.SlaveSpec.{SlaveSpec}
-use Rattle.segment_ring.specs.Ring.{RingState}
-use Rattle.segment_ring.specs.Schedule.{fate_at}
-use Rattle.segment_ring.specs.declared.wire.Fate.{Fate}
-use Rattle.segment_ring.specs.declared.wire.Fate.TheVariants.{Pass}
+use Rattle.idle_slaves.specs.of_run_frames.Answers.{AllAnswer, AllAsk, AsksFirst, EachAsks, StandAnswers}
+use Rattle.idle_slaves.specs.of_run_frames.Goes.{Under, all_back, all_lost, clocked_behind, is_same, stepped_behind}
+use Rattle.idle_slaves.specs.of_run_frames.Led.{AreLed}
+use Rattle.idle_slaves.specs.of_segment_model.Record.{Frame}
+use Rattle.idle_slaves.specs.of_segment_model.Slaves.{Datagram}
+use Rattle.idle_slaves.specs.of_segment_plan.Sound as Plan
+use Rattle.idle_slaves.specs.of_segment_plan.declared.plan.Scenario.{Scenario}
+use Rattle.idle_slaves.specs.of_segment_plan.declared.service.Service as Row
+use Rattle.idle_slaves.specs.of_segment_plan.declared.slave.SlaveSpec.{SlaveSpec}
+use Rattle.idle_slaves.specs.of_segment_ring.Ring.{RingState}
+use Rattle.idle_slaves.specs.of_segment_ring.Schedule.{fate_at}
+use Rattle.idle_slaves.specs.of_segment_ring.declared.wire.Fate.{Fate}
+use Rattle.idle_slaves.specs.of_segment_ring.declared.wire.Fate.TheVariants.{Pass}
 use Rattle.served_rings.specs.of_served_places.Toured.{first_served}
 use Rattle.served_rings.specs.Rings.{AllServedAt, AreServedLived, IsServedAt, ServedMember, served_member, served_members}
 use Rattle.served_rings.proofs.All as Every
 use Rattle.served_rings.proofs.One as One
-use Rattle.served_rings.specs.of_life_runs.Served.{Serves, ServedTurn, AllServedTurn, IsServedFrame, IsServedTurn, all_serve, served_behind}
+use Rattle.idle_slaves.specs.of_life_runs.Served.{Serves, ServedTurn, AllServedTurn, IsServedFrame, IsServedTurn, all_serve, served_behind}
 use Rattle.seen_slaves.specs.Eager.{leads_of, turns_of}
 use Rattle.seen_slaves.proofs.Seats.{nodes_are}
 use Rattle.idle_slaves.specs.of_plan_ring.Clocks.{AllAnswered, AllAsked, AllStand, AnswersAs, AsksAs, clocks_on}
@@ -47,10 +47,10 @@ use Rattle.idle_slaves.proofs.of_plan_ring.Opened.{nothing_awaited}
 use Rattle.idle_slaves.proofs.of_plan_ring.SlaveTurns.{given}
 use Rattle.idle_slaves.specs.of_slave_server.Serving.{Serving}
 use Rattle.idle_slaves.specs.of_slave_server.Spec.{node_of}
-use Rattle.slave_node.specs.Node.{Node}
-use Rattle.whole_ring.specs.Members.{AllLived, Member}
-use Rattle.whole_ring.specs.Turning.{AllTurn, Turn, behind_frame, frame_at, given_up, next_life}
-use Rattle.whole_ring.proofs.Members as Members
+use Rattle.idle_slaves.specs.of_slave_node.Node.{Node}
+use Rattle.served_rings.specs.of_whole_ring.Members.{AllLived, Member}
+use Rattle.served_rings.specs.of_whole_ring.Turning.{AllTurn, Turn, behind_frame, frame_at, given_up, next_life}
+use Rattle.served_rings.proofs.of_whole_ring.Members as Members
 
 -- ---- THE CLOCKS of the slaves as they are counted
 abbrev pub clocks : List Slave → List Bool

@@ -3,11 +3,11 @@ use Rattle.std.proofs.Common.{◌≡◌, ℕ, ◌==◌, Bool, true, false, Optio
 use Rattle.std.specs.Prelude.{⊤}
 use Rattle.idle_slaves.specs.Going.{IsCome}
 use Rattle.idle_slaves.specs.Phases.{idle_states}
-use Rattle.link_model.specs.Link.{Fate, is_met}
-use Rattle.segment_model.specs.Ends.{Outcome}
-use Rattle.segment_model.specs.Record.{News}
-use Rattle.segment_model.specs.Slaves.{Registers}
-use Rattle.state_model.specs.States.{Event, Hand, Phase, States, Table, Turn, begins, carry, happens, looks, phase_behind, reads, returned, run, shown, turned, word_met, word_of, writes}
+use Rattle.idle_slaves.specs.of_link_model.Link.{Fate, is_met}
+use Rattle.idle_slaves.specs.of_segment_model.Ends.{Outcome}
+use Rattle.idle_slaves.specs.of_segment_model.Record.{News}
+use Rattle.idle_slaves.specs.of_segment_model.Slaves.{Registers}
+use Rattle.idle_slaves.specs.of_state_model.States.{Event, Hand, Phase, States, Table, Turn, begins, carry, happens, looks, phase_behind, reads, returned, run, shown, turned, word_met, word_of, writes}
 
 -- both have a service in hand with this target and phase, or none
 abbrev SameHand : {N M : Type 0} → Option (Hand N) → Option (Hand M) → Type 0

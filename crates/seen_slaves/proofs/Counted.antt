@@ -2,29 +2,29 @@
 use Rattle.std.proofs.Common.{◌≡◌, ℕ, suc, ◌%◌, ◌==◌, ◌&&◌, Bool, true, false, not, Option, List, [], ◌∷◌, map, refl, sym, ap, ◌∙◌, if◌then◌else◌}
 use Rattle.std.specs.Prelude.{nat_le}
 use Rattle.idle_slaves.specs.Eager.{Remembered}
-use Rattle.frame_view.specs.Seen.{seen}
-use Rattle.frame_view.specs.View.{Lens}
-use Rattle.life_model.specs.Lives.{Spot, Stand}
-use Rattle.life_runs.specs.Led.{Exchanged}
-use Rattle.life_runs.specs.of_datagrams.Datagram as Raw
-use Rattle.link_mails.specs.Body.{Body}
-use Rattle.master_tour.proofs.Backs.{seen_aims}
-use Rattle.master_side.specs.Counts.{counts_behind, counts_on}
-use Rattle.run_frames.specs.Led.{AreLed}
-use Rattle.run_frames.specs.Waits.{Waits, all_anew, all_on, waits_on}
-use Rattle.segment_model.specs.Record.{did_read}
-use Rattle.segment_model.specs.Slaves.{Datagram, grams}
-use Rattle.segment_plan.specs.declared.service.Service as Plan
-use Rattle.segment_plan.specs.declared.slave.SlaveSpec.{SlaveSpec}
-use Rattle.segment_ring.specs.declared.wire.Fate.{Fate}
-use Rattle.segment_ring.specs.declared.wire.Fate.TheVariants.{Pass}
-use Rattle.served_rings.specs.of_life_runs.Served.{Serves, ServedTurn, AllServedTurn, IsServedTurn, recorded, served_behind}
+use Rattle.idle_slaves.specs.of_frame_view.Seen.{seen}
+use Rattle.idle_slaves.specs.of_frame_view.View.{Lens}
+use Rattle.idle_slaves.specs.of_life_model.Lives.{Spot, Stand}
+use Rattle.idle_slaves.specs.of_life_runs.Led.{Exchanged}
+use Rattle.idle_slaves.specs.of_datagrams.Datagram as Raw
+use Rattle.idle_slaves.specs.of_link_mails.Body.{Body}
+use Rattle.idle_slaves.proofs.of_master_tour.Backs.{seen_aims}
+use Rattle.served_rings.specs.of_master_side.Counts.{counts_behind, counts_on}
+use Rattle.idle_slaves.specs.of_run_frames.Led.{AreLed}
+use Rattle.idle_slaves.specs.of_run_frames.Waits.{Waits, all_anew, all_on, waits_on}
+use Rattle.idle_slaves.specs.of_segment_model.Record.{did_read}
+use Rattle.idle_slaves.specs.of_segment_model.Slaves.{Datagram, grams}
+use Rattle.idle_slaves.specs.of_segment_plan.declared.service.Service as Plan
+use Rattle.idle_slaves.specs.of_segment_plan.declared.slave.SlaveSpec.{SlaveSpec}
+use Rattle.idle_slaves.specs.of_segment_ring.declared.wire.Fate.{Fate}
+use Rattle.idle_slaves.specs.of_segment_ring.declared.wire.Fate.TheVariants.{Pass}
+use Rattle.idle_slaves.specs.of_life_runs.Served.{Serves, ServedTurn, AllServedTurn, IsServedTurn, recorded, served_behind}
 use Rattle.served_rings.specs.of_served_places.Toured.{back_under}
 use Rattle.seen_slaves.specs.Eager.{leads_of}
 use Rattle.seen_slaves.proofs.Ready.{AllCounted, AllStationed, nexts_then}
 use Rattle.seen_slaves.proofs.Unread.{unread_on}
 use Rattle.idle_slaves.specs.of_slave_server.Serving.{Serving}
-use Rattle.slave_node.specs.Node.{Node}
+use Rattle.idle_slaves.specs.of_slave_node.Node.{Node}
 use Rattle.idle_slaves.proofs.Fits.{AllReady, IsReady, Slave, next_of, nexts_of}
 use Rattle.idle_slaves.proofs.Lists.{AllStanding, IsStanding}
 

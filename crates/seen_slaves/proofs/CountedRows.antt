@@ -2,14 +2,14 @@
 use Rattle.std.proofs.Common.{◌≡◌, ◌≤◌, ℕ, Bool, List, [], ◌∷◌, Ok, refl, sym, ◌∙◌, arith}
 use Rattle.seen_slaves.proofs.Steps.{mail_step, service_step}
 use Rattle.seen_slaves.specs.Counted.{IsCounted, once, never, AreCounted}
-use Rattle.master_hand.specs.Spoken as Spoken
+use Rattle.served_rings.specs.of_master_hand.Spoken as Spoken
 use Rattle.served_rings.specs.Served.{server_behind}
 use Rattle.served_rings.specs.Speakers.{spoken, table_of}
-use Rattle.slave_model.specs.Profile.{Protocol, Profile, serves}
-use Rattle.slave_parts.specs.Parts.{Server, parts}
-use Rattle.state_model.specs.Families.{InState}
-use Rattle.state_model.specs.Stated.{Service}
-use Rattle.state_model.specs.Promises.{state_behind}
+use Rattle.idle_slaves.specs.of_slave_model.Profile.{Protocol, Profile, serves}
+use Rattle.idle_slaves.specs.of_slave_parts.Parts.{Server, parts}
+use Rattle.idle_slaves.specs.of_state_model.Families.{InState}
+use Rattle.idle_slaves.specs.of_state_model.Stated.{Service}
+use Rattle.idle_slaves.specs.of_state_model.Promises.{state_behind}
 
 module _ (p : Profile) (boot : Bool) (station : ℕ) where
   -- a row of mails

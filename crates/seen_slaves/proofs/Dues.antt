@@ -2,52 +2,52 @@
 use Rattle.std.proofs.Common.{◌≡◌, ℕ, suc, List, [], ◌∷◌, map, length, refl, sym, ap, ◌∙◌, subst}
 use Rattle.std.specs.Prelude.{All}
 use Rattle.std.proofs.lemmas.List.Elements.{All-head, All-tail}
-use Rattle.datagrams.specs.Datagram as Raw
-use Rattle.exchange_model.specs.Exchange.{Speech}
-use Rattle.frame_view.specs.Seen.{datagrams_seen, seen}
-use Rattle.frame_view.specs.View.{Lens}
+use Rattle.idle_slaves.specs.of_datagrams.Datagram as Raw
+use Rattle.idle_slaves.specs.of_exchange_model.Exchange.{Speech}
+use Rattle.idle_slaves.specs.of_frame_view.Seen.{datagrams_seen, seen}
+use Rattle.idle_slaves.specs.of_frame_view.View.{Lens}
 use Rattle.served_rings.specs.Led.{LedEra}
 use Rattle.served_rings.proofs.Singles.{seen_single}
 use Rattle.served_rings.specs.Lives.{LedKept}
 use Rattle.served_rings.specs.LedRings.{AllLedMembers, LedMember}
-use Rattle.life_model.specs.Lives.{AsksOpen, Era, Life, Spot, Stand, era_next, life_next}
-use Rattle.life_model.specs.Own.{own}
-use Rattle.life_runs.specs.First.{lens_of, spot_of}
-use Rattle.life_runs.specs.Led.{speech_at}
-use Rattle.link_mails.specs.Body.{Body}
-use Rattle.link_model.specs.Frames.{all_accepted}
-use Rattle.master_duty.specs.Reply.{Reply}
-use Rattle.master_hand.specs.Spoken.{Asked, acknowledged, hand_speech, is_followed, is_passed}
-use Rattle.master_side.specs.Due.{EachDue}
-use Rattle.master_tour.specs.Brings.{accepted_at}
-use Rattle.slave_model.specs.Hears.{HearsFirst}
+use Rattle.idle_slaves.specs.of_life_model.Lives.{AsksOpen, Era, Life, Spot, Stand, era_next, life_next}
+use Rattle.idle_slaves.specs.of_life_model.Own.{own}
+use Rattle.idle_slaves.specs.of_life_runs.First.{lens_of, spot_of}
+use Rattle.idle_slaves.specs.of_life_runs.Led.{speech_at}
+use Rattle.idle_slaves.specs.of_link_mails.Body.{Body}
+use Rattle.idle_slaves.specs.of_link_model.Frames.{all_accepted}
+use Rattle.served_rings.specs.of_master_duty.Reply.{Reply}
+use Rattle.served_rings.specs.of_master_hand.Spoken.{Asked, acknowledged, hand_speech, is_followed, is_passed}
+use Rattle.served_rings.specs.of_master_side.Due.{EachDue}
+use Rattle.served_rings.specs.of_master_tour.Brings.{accepted_at}
+use Rattle.idle_slaves.specs.of_slave_model.Hears.{HearsFirst}
 use Rattle.idle_slaves.specs.of_plan_ring.Dues.{AllDue, IsDueOf}
 use Rattle.idle_slaves.specs.of_plan_ring.PlanMet.{AllMet, IsMet, slave_at}
 use Rattle.idle_slaves.specs.of_plan_ring.Plan.{AllMacs, FitsPlan, step}
 use Rattle.served_rings.specs.Speakers.{any_speaker, processor_of, seer_of, spoken, table_of}
 use Rattle.seen_slaves.specs.Brings.{SeenBringsDue}
 use Rattle.seen_slaves.proofs.Seen.{seen_due}
-use Rattle.segment_model.specs.Record.{Frame}
-use Rattle.segment_model.specs.Slaves.{Datagram, frame_after, grams}
-use Rattle.segment_plan.specs.Sound.{IsSlave}
-use Rattle.segment_plan.specs.declared.plan.Scenario.{Scenario}
-use Rattle.segment_plan.specs.declared.slave.SlaveSpec.{SlaveSpec}
+use Rattle.idle_slaves.specs.of_segment_model.Record.{Frame}
+use Rattle.idle_slaves.specs.of_segment_model.Slaves.{Datagram, frame_after, grams}
+use Rattle.idle_slaves.specs.of_segment_plan.Sound.{IsSlave}
+use Rattle.idle_slaves.specs.of_segment_plan.declared.plan.Scenario.{Scenario}
+use Rattle.idle_slaves.specs.of_segment_plan.declared.slave.SlaveSpec.{SlaveSpec}
 use Rattle.served_rings.specs.Serves.{serves}
 use Rattle.served_rings.specs.Rings.{AllServedAt, IsServedAt, counters_of, served_member, served_members}
-use Rattle.served_rings.specs.of_life_runs.Served.{AllServedTurn, IsServedTurn, Serves, ServedTurn}
+use Rattle.idle_slaves.specs.of_life_runs.Served.{AllServedTurn, IsServedTurn, Serves, ServedTurn}
 use Rattle.seen_slaves.specs.Eager.{leads_of}
 use Rattle.seen_slaves.proofs.Seats.{Laws, all_fair, open_lives, plan_seen}
-use Rattle.slave_lives.specs.Lived.{node_seen}
-use Rattle.slave_model.specs.Profile.{IsProfile, Profile, areas_of}
-use Rattle.slave_parts.specs.Parts.{Server, parts}
-use Rattle.slave_parts.specs.Served.{product_whole}
+use Rattle.idle_slaves.specs.of_slave_lives.Lived.{node_seen}
+use Rattle.idle_slaves.specs.of_slave_model.Profile.{IsProfile, Profile, areas_of}
+use Rattle.idle_slaves.specs.of_slave_parts.Parts.{Server, parts}
+use Rattle.idle_slaves.specs.of_slave_parts.Served.{product_whole}
 use Rattle.idle_slaves.specs.of_slave_server.Serving.{Serving}
 use Rattle.idle_slaves.specs.of_slave_server.Spec.{profile_of}
-use Rattle.slave_node.specs.Node.{Node}
-use Rattle.state_model.specs.Families.{InState}
-use Rattle.state_model.specs.Accounts.{Pick}
-use Rattle.whole_ring.specs.Members.{AllLived}
-use Rattle.whole_ring.specs.Whole.{LivesOpenBy}
+use Rattle.idle_slaves.specs.of_slave_node.Node.{Node}
+use Rattle.idle_slaves.specs.of_state_model.Families.{InState}
+use Rattle.idle_slaves.specs.of_state_model.Accounts.{Pick}
+use Rattle.served_rings.specs.of_whole_ring.Members.{AllLived}
+use Rattle.served_rings.specs.of_whole_ring.Whole.{LivesOpenBy}
 
 -- a master's choice before a frame changes nothing of how it stands to a slave
 next_stands : (x : Speech Body Asked Reply) (made : ℕ) (l : Life Body Asked Reply) (stand : Stand) (pick : Pick Asked) → (life_next x acknowledged is_followed is_passed made l stand pick).stand ≡ l.stand

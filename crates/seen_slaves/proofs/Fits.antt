@@ -1,15 +1,15 @@
 -- What an epoch that is seen with what is meant by its mails says of its slave.
 use Rattle.std.proofs.Common.{◌≡◌, ◌≢◌, ℕ, Bool, true, false, Option, Some, None, option_map, List, [], ◌∷◌, ◌++◌, map, length, refl, sym, ap, ◌∙◌, subst, inl, inr, append-nil, if◌then◌else◌}
-use Rattle.slave_model.specs.Moments.{IsMailsLast, WasHeard}
-use Rattle.slave_model.specs.Waits.{NeverWaits}
-use Rattle.exchange_model.specs.Exchange.{Exchange, IsLawful, given, plain}
-use Rattle.exchange_model.specs.Rows.{Row}
+use Rattle.idle_slaves.specs.of_slave_model.Moments.{IsMailsLast, WasHeard}
+use Rattle.idle_slaves.specs.of_slave_model.Waits.{NeverWaits}
+use Rattle.idle_slaves.specs.of_exchange_model.Exchange.{Exchange, IsLawful, given, plain}
+use Rattle.idle_slaves.specs.of_exchange_model.Rows.{Row}
 use Rattle.idle_slaves.proofs.Comes.{era_comes}
 use Rattle.idle_slaves.proofs.Links.{era_link}
-use Rattle.life_model.specs.Lives.{Era, Spot}
-use Rattle.few_replies.specs.Erased.{EndOne}
-use Rattle.few_replies.specs.Heard.{IsPassedBy}
-use Rattle.few_replies.specs.Silent.{is_passed}
+use Rattle.idle_slaves.specs.of_life_model.Lives.{Era, Spot}
+use Rattle.served_rings.specs.of_few_replies.Erased.{EndOne}
+use Rattle.served_rings.specs.of_few_replies.Heard.{IsPassedBy}
+use Rattle.served_rings.specs.of_few_replies.Silent.{is_passed}
 use Rattle.seen_slaves.proofs.Comes.{come}
 use Rattle.seen_slaves.proofs.Links.{link}
 use Rattle.seen_slaves.specs.Fits.{FitsSo, HasNone}
@@ -21,21 +21,21 @@ use Rattle.seen_slaves.proofs.Alone.{alone_as}
 use Rattle.seen_slaves.proofs.SeenRows.{state_real}
 use Rattle.seen_slaves.proofs.SeenStands.{era_stands}
 use Rattle.served_rings.proofs.SeenSettled.{none_box}
-use Rattle.segment_model.specs.Ends.{Passing}
-use Rattle.segment_model.specs.Record.{Frame}
-use Rattle.segment_model.specs.Slaves.{Processor, Registers, Slave}
-use Rattle.serving_model.specs.Erasing.{slave_as}
-use Rattle.serving_model.specs.Passing.{ends_told}
-use Rattle.serving_model.specs.Tagged.{Asked, Rowed, Tagged, answer_gifts, ends_marked, ideal, is_own, own_gift, real}
-use Rattle.serving_model.proofs.TaggedLaw.{marked-answer}
+use Rattle.idle_slaves.specs.of_segment_model.Ends.{Passing}
+use Rattle.idle_slaves.specs.of_segment_model.Record.{Frame}
+use Rattle.idle_slaves.specs.of_segment_model.Slaves.{Processor, Registers, Slave}
+use Rattle.served_rings.specs.of_serving_model.Erasing.{slave_as}
+use Rattle.served_rings.specs.of_serving_model.Passing.{ends_told}
+use Rattle.served_rings.specs.of_serving_model.Tagged.{Asked, Rowed, Tagged, answer_gifts, ends_marked, ideal, is_own, own_gift, real}
+use Rattle.served_rings.proofs.of_serving_model.TaggedLaw.{marked-answer}
 use Rattle.seen_slaves.specs.Last.{LastPasses}
-use Rattle.state_model.specs.Stated.{IsStated, Service}
-use Rattle.state_model.specs.States.{Table}
-use Rattle.run_work.specs.of_life_counts.Epochs.{IsRun, IsSeen, IsSpeaker, Speaker, between, era_named, newest_of, seeing, seeing_states}
-use Rattle.run_work.specs.of_life_counts.Spoken.{IsNamed, IsPassed}
-use Rattle.run_work.proofs.of_life_counts.TaggedWhole.{seeing_lawful, seeing_stated}
+use Rattle.idle_slaves.specs.of_state_model.Stated.{IsStated, Service}
+use Rattle.idle_slaves.specs.of_state_model.States.{Table}
+use Rattle.served_rings.specs.of_life_counts.Epochs.{IsRun, IsSeen, IsSpeaker, Speaker, between, era_named, newest_of, seeing, seeing_states}
+use Rattle.served_rings.specs.of_life_counts.Spoken.{IsNamed, IsPassed}
+use Rattle.served_rings.proofs.of_life_counts.TaggedWhole.{seeing_lawful, seeing_stated}
 use Rattle.seen_slaves.proofs.Never.{never_calm}
-use Rattle.state_model.specs.Accounts.{Started}
+use Rattle.idle_slaves.specs.of_state_model.Accounts.{Started}
 
 -- what came into hand last is the newest
 newest_last : {Q : Type 0} (front : List (Started Q)) (s : Started Q) → newest_of (front ++ s ∷ []) ≡ Some s.service

@@ -1,28 +1,28 @@
 -- The record's counter of the last mail heard is the side's, all along a slave's life: whatever its frames are.
 use Rattle.std.proofs.Common.{◌≡◌, ℕ, ◌==◌, Bool, true, false, Option, None, List, [], ◌∷◌, refl, sym, ap, ◌∙◌, if◌then◌else◌}
 use Rattle.std.specs.Prelude.{nat_le}
-use Rattle.life_runs.specs.Lives.{came_so, lost_so}
-use Rattle.exchange_model.specs.Exchange.{Speech}
-use Rattle.frame_view.specs.Seen.{seen}
-use Rattle.frame_view.specs.View.{Lens}
-use Rattle.life_model.specs.Lives.{Life, Spot, era_back, era_lost, era_next, granted, new_side}
-use Rattle.life_model.specs.Own.{own}
-use Rattle.link_mails.specs.Body.{Body}
-use Rattle.link_model.specs.Frames.{Ask, Gram, all_accepted, halves_lost, halves_without}
-use Rattle.link_model.specs.Link.{Halves}
-use Rattle.link_model.specs.Master.{InHalf}
-use Rattle.master_duty.specs.Reply.{Reply}
-use Rattle.master_hand.specs.Spoken.{Asked}
-use Rattle.master_side.specs.Passing.{news_back, news_lost}
-use Rattle.master_tour.proofs.Backs.{own_accepted, own_back, seen_aims}
-use Rattle.few_replies.proofs.Passings.{counted_same}
-use Rattle.run_frames.proofs.Access.{begins_same, holds_same}
-use Rattle.segment_model.specs.Ends.{Passing}
-use Rattle.segment_model.specs.Record.{Kept, News, frame_news, heard_behind, kept_after, mails_heard, nothing_kept}
-use Rattle.segment_model.specs.Seats.{Side, next_mail, side_begins}
-use Rattle.segment_model.specs.Slaves.{grams}
-use Rattle.segment_model.proofs.News.{heard_frame, kept_back}
-use Rattle.state_model.specs.Accounts.{Pick, mails_choice, new_account}
+use Rattle.idle_slaves.specs.of_life_runs.Lives.{came_so, lost_so}
+use Rattle.idle_slaves.specs.of_exchange_model.Exchange.{Speech}
+use Rattle.idle_slaves.specs.of_frame_view.Seen.{seen}
+use Rattle.idle_slaves.specs.of_frame_view.View.{Lens}
+use Rattle.idle_slaves.specs.of_life_model.Lives.{Life, Spot, era_back, era_lost, era_next, granted, new_side}
+use Rattle.idle_slaves.specs.of_life_model.Own.{own}
+use Rattle.idle_slaves.specs.of_link_mails.Body.{Body}
+use Rattle.idle_slaves.specs.of_link_model.Frames.{Ask, Gram, all_accepted, halves_lost, halves_without}
+use Rattle.idle_slaves.specs.of_link_model.Link.{Halves}
+use Rattle.idle_slaves.specs.of_link_model.Master.{InHalf}
+use Rattle.served_rings.specs.of_master_duty.Reply.{Reply}
+use Rattle.served_rings.specs.of_master_hand.Spoken.{Asked}
+use Rattle.served_rings.specs.of_master_side.Passing.{news_back, news_lost}
+use Rattle.idle_slaves.proofs.of_master_tour.Backs.{own_accepted, own_back, seen_aims}
+use Rattle.served_rings.proofs.of_few_replies.Passings.{counted_same}
+use Rattle.idle_slaves.proofs.of_run_frames.Access.{begins_same, holds_same}
+use Rattle.idle_slaves.specs.of_segment_model.Ends.{Passing}
+use Rattle.idle_slaves.specs.of_segment_model.Record.{Kept, News, frame_news, heard_behind, kept_after, mails_heard, nothing_kept}
+use Rattle.idle_slaves.specs.of_segment_model.Seats.{Side, next_mail, side_begins}
+use Rattle.idle_slaves.specs.of_segment_model.Slaves.{grams}
+use Rattle.served_rings.proofs.of_segment_model.News.{heard_frame, kept_back}
+use Rattle.idle_slaves.specs.of_state_model.Accounts.{Pick, mails_choice, new_account}
 
 abbrev pub Heard : Kept → Option Passing → Side Body Asked Reply → Type 0
 Heard kept passing d = d.halves.inn.last ≡ kept.heard

@@ -2,12 +2,12 @@
 use Rattle.std.proofs.Common.{◌≡◌, ℕ, zero, suc, Bool, true, List, [], ◌∷◌, ◌++◌, map, length, refl, sym, ap, ◌∙◌}
 use Rattle.std.specs.Prelude.{drop}
 use Rattle.std.proofs.lemmas.List.{length-map}
-use Rattle.exchange_model.specs.Exchange.{Exchange, given, plain}
+use Rattle.idle_slaves.specs.of_exchange_model.Exchange.{Exchange, given, plain}
 use Rattle.served_rings.specs.of_few_replies.Calm.{calm_tagged}
-use Rattle.slave_model.specs.Hears.{HearsFirst}
-use Rattle.slave_model.proofs.HearsDialogues.{not_none}
-use Rattle.serving_model.specs.Tagged.{IsServed, Asked, Meant, Rowed, Tagged, ideal, is_own, more_of, tagged, told, untag}
-use Rattle.serving_model.proofs.TaggedLaw.{cut_told, told-plain, untag-append, untag-told}
+use Rattle.idle_slaves.specs.of_slave_model.Hears.{HearsFirst}
+use Rattle.idle_slaves.proofs.of_slave_model.HearsDialogues.{not_none}
+use Rattle.served_rings.specs.of_serving_model.Tagged.{IsServed, Asked, Meant, Rowed, Tagged, ideal, is_own, more_of, tagged, told, untag}
+use Rattle.served_rings.proofs.of_serving_model.TaggedLaw.{cut_told, told-plain, untag-append, untag-told}
 use Rattle.seen_slaves.proofs.Never.{and_left, told_of}
 
 -- where no mail is left none is left of what is told

@@ -1,20 +1,20 @@
 -- What is due where it is seen what is meant by mails is due to the master, by its names.
 use Rattle.std.proofs.Common.{◌≡◌, inl, inr, ℕ, Bool, true, false, Option, None, Some, option_map, List, [], ◌∷◌, ◌++◌, map, refl, sym, ap, ◌∙◌, if◌then◌else◌}
 use Rattle.std.proofs.lemmas.List.{map-append}
-use Rattle.exchange_model.specs.Exchange.{Exchange, Speech, plain}
-use Rattle.exchange_model.specs.Rows.{Row, left}
+use Rattle.idle_slaves.specs.of_exchange_model.Exchange.{Exchange, Speech, plain}
+use Rattle.idle_slaves.specs.of_exchange_model.Rows.{Row, left}
 use Rattle.served_rings.specs.of_few_replies.Calm.{calm_tagged}
-use Rattle.master_side.specs.Due.{EachDue, IsAwaited, IsDue, IsReply}
-use Rattle.few_replies.specs.Client.{ByContents}
-use Rattle.few_replies.specs.Erased.{OfRow, row_seen}
-use Rattle.few_replies.proofs.Clients.{plain_untag}
+use Rattle.served_rings.specs.of_master_side.Due.{EachDue, IsAwaited, IsDue, IsReply}
+use Rattle.served_rings.specs.of_few_replies.Client.{ByContents}
+use Rattle.served_rings.specs.of_few_replies.Erased.{OfRow, row_seen}
+use Rattle.served_rings.proofs.of_few_replies.Clients.{plain_untag}
 use Rattle.seen_slaves.proofs.Left.{left_as}
-use Rattle.serving_model.specs.Passing.{ends_told}
-use Rattle.serving_model.specs.Tagged.{Asked, Tagged, is_own, untag}
-use Rattle.state_model.specs.Stated.{Stated}
-use Rattle.run_work.specs.of_life_counts.Spoken.{Naming, Speaks}
-use Rattle.run_work.proofs.of_life_counts.Begins.{NowKnown, RowKnown}
-use Rattle.run_work.proofs.of_life_counts.Clients.{IsKnown, plans}
+use Rattle.served_rings.specs.of_serving_model.Passing.{ends_told}
+use Rattle.served_rings.specs.of_serving_model.Tagged.{Asked, Tagged, is_own, untag}
+use Rattle.idle_slaves.specs.of_state_model.Stated.{Stated}
+use Rattle.served_rings.specs.of_life_counts.Spoken.{Naming, Speaks}
+use Rattle.served_rings.proofs.of_life_counts.Begins.{NowKnown, RowKnown}
+use Rattle.served_rings.proofs.of_life_counts.Clients.{IsKnown, plans}
 
 module _ {V M Q R T : Type 0} (x : Exchange V V M Q R) (calm : V → Bool) (fair : M → Bool) (s : Stated V V Q) (n : Naming M Q T R) (speaks : Speaks n x.speech s.acknowledged) where
   abbrev Meant : Type 0

@@ -2,19 +2,19 @@
 use Rattle.std.proofs.Common.{◌≡◌, ℕ, Bool, true, false, Option, Some, None, List, [], length, refl, sym, subst, arith, if◌then◌else◌}
 use Rattle.std.specs.Prelude.{◌&&◌, nat_lt}
 use Rattle.std.proofs.lemmas.Bool.Decides.{nat_tests}
-use Rattle.slave_model.specs.Moments.{IsMailsLast}
-use Rattle.exchange_model.specs.Exchange.{Speech}
-use Rattle.life_model.specs.Lives.{Era, Life, Spot, Stand, era_back, granted, life_back, life_lost, life_next, passes, passing_begins}
-use Rattle.life_model.specs.Own.{own}
-use Rattle.segment_model.specs.Ends.{Passing}
-use Rattle.segment_model.specs.Record.{News}
-use Rattle.segment_model.specs.Seats.{Side}
-use Rattle.segment_model.specs.Slaves.{Datagram, Found}
+use Rattle.idle_slaves.specs.of_slave_model.Moments.{IsMailsLast}
+use Rattle.idle_slaves.specs.of_exchange_model.Exchange.{Speech}
+use Rattle.idle_slaves.specs.of_life_model.Lives.{Era, Life, Spot, Stand, era_back, granted, life_back, life_lost, life_next, passes, passing_begins}
+use Rattle.idle_slaves.specs.of_life_model.Own.{own}
+use Rattle.idle_slaves.specs.of_segment_model.Ends.{Passing}
+use Rattle.idle_slaves.specs.of_segment_model.Record.{News}
+use Rattle.idle_slaves.specs.of_segment_model.Seats.{Side}
+use Rattle.idle_slaves.specs.of_segment_model.Slaves.{Datagram, Found}
 use Rattle.seen_slaves.specs.Last.{LastPasses}
 use Rattle.seen_slaves.proofs.Lives.{back_keeps, lost_keeps, next_keeps}
-use Rattle.state_model.specs.Stated.{Service}
-use Rattle.state_model.specs.Accounts.{Account, Duty, Pick, Started, account_begins, is_free, starts}
-use Rattle.state_model.proofs.Completed.{started_back}
+use Rattle.idle_slaves.specs.of_state_model.Stated.{Service}
+use Rattle.idle_slaves.specs.of_state_model.Accounts.{Account, Duty, Pick, Started, account_begins, is_free, starts}
+use Rattle.idle_slaves.proofs.of_state_model.Completed.{started_back}
 
 abbrev Lasts : {Q : Type 0} → Option Passing → List (Started Q) → Type 0
 Lasts passing started = (p : Passing) → passing ≡ Some p → IsMailsLast started

@@ -1,14 +1,14 @@
 -- Along an epoch as its master leads it.
 use Rattle.std.proofs.Common.{◌≡◌, ℕ, Bool, true, false, Option, Some, None, List, [], length, refl, subst, if◌then◌else◌}
-use Rattle.slave_model.specs.Moments.{NowAnswered}
-use Rattle.exchange_model.specs.Exchange.{Exchange}
-use Rattle.life_model.specs.Lives.{Era, Life, Spot, Stand, era_after, era_back, new_life, opens_state, reopening, reopens, reopens_at, returns_to_init}
-use Rattle.link_model.specs.Segment.{RingFate}
-use Rattle.few_replies.specs.Led.{IsLed, news_in, turn_next}
-use Rattle.segment_model.specs.Record.{Frame, News}
-use Rattle.segment_model.specs.Slaves.{Datagram, Processor, Registers, Slave}
+use Rattle.idle_slaves.specs.of_slave_model.Moments.{NowAnswered}
+use Rattle.idle_slaves.specs.of_exchange_model.Exchange.{Exchange}
+use Rattle.idle_slaves.specs.of_life_model.Lives.{Era, Life, Spot, Stand, era_after, era_back, new_life, opens_state, reopening, reopens, reopens_at, returns_to_init}
+use Rattle.idle_slaves.specs.of_link_model.Segment.{RingFate}
+use Rattle.served_rings.specs.of_few_replies.Led.{IsLed, news_in, turn_next}
+use Rattle.idle_slaves.specs.of_segment_model.Record.{Frame, News}
+use Rattle.idle_slaves.specs.of_segment_model.Slaves.{Datagram, Processor, Registers, Slave}
 use Rattle.seen_slaves.proofs.Said.{back, lost, next, none_says}
-use Rattle.state_model.specs.Accounts.{Duty, Stage}
+use Rattle.idle_slaves.specs.of_state_model.Accounts.{Duty, Stage}
 
 -- a reopening leaves the epoch
 reopens_era : {M Q R : Type 0} (l : Life M Q R) (hand : Option Duty) → (reopens l hand).era ≡ l.era

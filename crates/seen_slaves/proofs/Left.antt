@@ -2,12 +2,12 @@
 use Rattle.std.proofs.Common.{◌≡◌, ℕ, suc, zero, List, [], ◌∷◌, map, length, refl, sym, ap, ◌∙◌}
 use Rattle.std.specs.Prelude.{drop}
 use Rattle.std.proofs.lemmas.List.{length-map}
-use Rattle.exchange_model.specs.Exchange.{Speech, plain}
-use Rattle.exchange_model.specs.Rows.{Row, left}
-use Rattle.few_replies.specs.Erased.{PlanOne, row_seen}
-use Rattle.segment_model.specs.Laws.{IsSettled}
-use Rattle.segment_model.specs.Slaves.{Slave}
-use Rattle.serving_model.specs.Erasing.{box_as, slave_as}
+use Rattle.idle_slaves.specs.of_exchange_model.Exchange.{Speech, plain}
+use Rattle.idle_slaves.specs.of_exchange_model.Rows.{Row, left}
+use Rattle.served_rings.specs.of_few_replies.Erased.{PlanOne, row_seen}
+use Rattle.idle_slaves.specs.of_segment_model.Laws.{IsSettled}
+use Rattle.idle_slaves.specs.of_segment_model.Slaves.{Slave}
+use Rattle.served_rings.specs.of_serving_model.Erasing.{box_as, slave_as}
 
 drop_as : {N M : Type 0} (f : N → M) (n : ℕ) (xs : List N) → drop n (map f xs) ≡ map f (drop n xs)
 drop_as f zero xs = refl

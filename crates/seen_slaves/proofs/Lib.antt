@@ -1,3 +1,9 @@
+pub use Rattle.idle_slaves.proofs as of_idle_slaves
+pub use Rattle.idle_slaves.proofs.of_master_tour as of_master_tour
+pub use Rattle.idle_slaves.proofs.of_plan_ring as of_plan_ring
+pub use Rattle.idle_slaves.proofs.of_run_frames as of_run_frames
+pub use Rattle.served_rings.proofs.of_served_places as of_served_places
+pub use Rattle.served_rings.proofs as of_served_rings
 pub mod Alone
 mod Answered
 mod Clocks

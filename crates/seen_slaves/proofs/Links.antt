@@ -2,16 +2,16 @@
 use Rattle.std.proofs.Common.{◌≡◌, ◌≢◌, ℕ, Bool, true, false, Option, Some, None, option_map, List, [], ◌∷◌, ◌++◌, map, refl, sym, ap, ◌∙◌, subst, if◌then◌else◌}
 use Rattle.std.proofs.lemmas.List.{length-map, map-append}
 use Rattle.idle_slaves.specs.Links.{HasLink}
-use Rattle.link_model.specs.Agree.{Follows, InAgree, Knows, OutAgree, SideAgree, last_body, last_met, last_met_of, unread}
-use Rattle.link_model.specs.Counters.{counter_of, next_counter}
-use Rattle.link_model.specs.Link.{Link}
-use Rattle.link_model.specs.Mails.{LinkMail, bodies, counter_in, is_repeat, news, seen}
-use Rattle.link_model.specs.Master.{InHalf, InState, OutHalf}
-use Rattle.link_model.specs.Slave.{InSide, OutSide}
-use Rattle.few_replies.specs.Erased.{halves_as, row_seen, side_seen}
-use Rattle.segment_model.specs.Seats.{Side}
-use Rattle.segment_model.specs.Slaves.{Serving, Slave}
-use Rattle.serving_model.specs.Erasing.{box_as, in_as, mail_as, node_as, out_as, slave_as}
+use Rattle.idle_slaves.specs.of_link_model.Agree.{Follows, InAgree, Knows, OutAgree, SideAgree, last_body, last_met, last_met_of, unread}
+use Rattle.idle_slaves.specs.of_link_model.Counters.{counter_of, next_counter}
+use Rattle.idle_slaves.specs.of_link_model.Link.{Link}
+use Rattle.idle_slaves.specs.of_link_model.Mails.{LinkMail, bodies, counter_in, is_repeat, news, seen}
+use Rattle.idle_slaves.specs.of_link_model.Master.{InHalf, InState, OutHalf}
+use Rattle.idle_slaves.specs.of_link_model.Slave.{InSide, OutSide}
+use Rattle.served_rings.specs.of_few_replies.Erased.{halves_as, row_seen, side_seen}
+use Rattle.idle_slaves.specs.of_segment_model.Seats.{Side}
+use Rattle.idle_slaves.specs.of_segment_model.Slaves.{Serving, Slave}
+use Rattle.served_rings.specs.of_serving_model.Erasing.{box_as, in_as, mail_as, node_as, out_as, slave_as}
 
 module _ {N M : Type 0} (f : N → M) where
   -- ---- mails

@@ -1,11 +1,11 @@
 -- WHAT EACH EPOCH KEEPS, at every frame of a life: what holds of a new one, however it was opened, and goes on with its frames.
 use Rattle.std.proofs.Common.{ℕ, ◌==◌, Bool, true, false, Option, Some, None, List, if◌then◌else◌}
 use Rattle.std.specs.Prelude.{◌&&◌}
-use Rattle.exchange_model.specs.Exchange.{Speech}
-use Rattle.life_model.specs.Lives.{Era, Life, Opening, Spot, Stand, clears, era_back, era_lost, era_next, is_shown, last_step, life_back, life_lost, life_next, new_era, opening_back, opens, opens_state, reopening, reopens, reopens_at, returns_to_init, shows_clear, steps_on}
-use Rattle.segment_model.specs.Record.{News}
-use Rattle.segment_model.specs.Slaves.{Datagram, Found}
-use Rattle.state_model.specs.Accounts.{Duty, Pick, Stage}
+use Rattle.idle_slaves.specs.of_exchange_model.Exchange.{Speech}
+use Rattle.idle_slaves.specs.of_life_model.Lives.{Era, Life, Opening, Spot, Stand, clears, era_back, era_lost, era_next, is_shown, last_step, life_back, life_lost, life_next, new_era, opening_back, opens, opens_state, reopening, reopens, reopens_at, returns_to_init, shows_clear, steps_on}
+use Rattle.idle_slaves.specs.of_segment_model.Record.{News}
+use Rattle.idle_slaves.specs.of_segment_model.Slaves.{Datagram, Found}
+use Rattle.idle_slaves.specs.of_state_model.Accounts.{Duty, Pick, Stage}
 
 module _ {M Q R : Type 0} (P : Era M Q R → Type 0) (new : (cleared : Option ℕ) (state : ℕ) → P (new_era cleared state)) (open_too : (e : Era M Q R) (frame : ℕ) → P e → P (record e { opened = Some frame })) where
   -- an opening, and a reopening

@@ -1,39 +1,39 @@
 -- What a frame that came back was for each open slave of a serving.
 use Rattle.std.proofs.Common.{◌≡◌, ℕ, suc, List, [], ◌∷◌, ◌++◌, map, length, refl, sym, ap, ◌∙◌, subst}
 use Rattle.std.proofs.lemmas.List.{length-map}
-use Rattle.datagrams.specs.Frame.{chained}
-use Rattle.frame_view.specs.Seen.{seen}
-use Rattle.frame_view.specs.View.{Lens}
-use Rattle.life_model.specs.Own.{own}
-use Rattle.life_runs.specs.First.{lens_of}
-use Rattle.life_runs.specs.Led.{Exchanged}
-use Rattle.link_mails.specs.Body.{Body}
-use Rattle.master_hand.specs.Spoken.{Asked, is_followed, is_passed}
+use Rattle.idle_slaves.specs.of_datagrams.Frame.{chained}
+use Rattle.idle_slaves.specs.of_frame_view.Seen.{seen}
+use Rattle.idle_slaves.specs.of_frame_view.View.{Lens}
+use Rattle.idle_slaves.specs.of_life_model.Own.{own}
+use Rattle.idle_slaves.specs.of_life_runs.First.{lens_of}
+use Rattle.idle_slaves.specs.of_life_runs.Led.{Exchanged}
+use Rattle.idle_slaves.specs.of_link_mails.Body.{Body}
+use Rattle.served_rings.specs.of_master_hand.Spoken.{Asked, is_followed, is_passed}
 use Rattle.idle_slaves.specs.of_plan_ring.PlanMet.{AllMet, IsMet}
 use Rattle.idle_slaves.specs.of_plan_ring.Lives.{IsKnown}
 use Rattle.idle_slaves.specs.of_plan_ring.Plan.{FitsPlan, step}
 use Rattle.idle_slaves.specs.of_plan_ring.Round.{WentRound, all_seen, behind, frame_seen, ring_after, ring_of}
 use Rattle.idle_slaves.proofs.of_plan_ring.Known.{AllBoot, all_boot}
 use Rattle.idle_slaves.proofs.of_plan_ring.Lives.{one_after}
-use Rattle.segment_model.specs.Record.{Frame}
-use Rattle.segment_plan.specs.Sound as Plan
-use Rattle.segment_plan.specs.declared.plan.Scenario.{Scenario}
-use Rattle.segment_plan.specs.declared.slave.SlaveSpec.{SlaveSpec}
-use Rattle.segment_ring.specs.Ring.{RingState, ring_returned}
-use Rattle.segment_ring.specs.Schedule.{fate_at}
-use Rattle.segment_ring.specs.declared.wire.Fate.TheVariants.{Pass}
+use Rattle.idle_slaves.specs.of_segment_model.Record.{Frame}
+use Rattle.idle_slaves.specs.of_segment_plan.Sound as Plan
+use Rattle.idle_slaves.specs.of_segment_plan.declared.plan.Scenario.{Scenario}
+use Rattle.idle_slaves.specs.of_segment_plan.declared.slave.SlaveSpec.{SlaveSpec}
+use Rattle.idle_slaves.specs.of_segment_ring.Ring.{RingState, ring_returned}
+use Rattle.idle_slaves.specs.of_segment_ring.Schedule.{fate_at}
+use Rattle.idle_slaves.specs.of_segment_ring.declared.wire.Fate.TheVariants.{Pass}
 use Rattle.served_rings.specs.Rings.{AllServedAt, AreServedLived, ServedMember, served_member, served_members}
 use Rattle.served_rings.proofs.All as Every
-use Rattle.served_rings.specs.of_life_runs.Served.{Serves, ServedTurn, AllServedTurn, IsServedFrame}
+use Rattle.idle_slaves.specs.of_life_runs.Served.{Serves, ServedTurn, AllServedTurn, IsServedFrame}
 use Rattle.seen_slaves.specs.Eager.{leads_of}
 use Rattle.seen_slaves.proofs.Seats.{nodes_are, paces_are}
 use Rattle.idle_slaves.specs.of_plan_ring.Met.{AllOpenMet, OpenMet}
 use Rattle.idle_slaves.proofs.of_plan_ring.Each.{meets}
 use Rattle.idle_slaves.proofs.of_plan_ring.OpenEach.{each_met}
 use Rattle.idle_slaves.specs.of_slave_server.Serving.{Serving}
-use Rattle.slave_node.specs.Node.{Node, node_passed}
-use Rattle.whole_ring.specs.Turning.{AllTurn, Turn, behind_frame, frame_at}
-use Rattle.whole_ring.proofs.Members as Members
+use Rattle.idle_slaves.specs.of_slave_node.Node.{Node, node_passed}
+use Rattle.served_rings.specs.of_whole_ring.Turning.{AllTurn, Turn, behind_frame, frame_at}
+use Rattle.served_rings.proofs.of_whole_ring.Members as Members
 
 -- no frame changes a pace
 paces_after : (ring : RingState (Node Serving)) (fs : List Exchanged) → (ring_after ring fs).paces ≡ ring.paces

@@ -2,11 +2,11 @@
 use Rattle.std.proofs.Common.{◌≡◌, ℕ, zero, suc, ◌&&◌, Bool, true, false, List, [], ◌∷◌, ◌++◌, map, length, refl, sym, ap, ◌∙◌}
 use Rattle.std.specs.Prelude.{drop}
 use Rattle.std.proofs.lemmas.List.{length-map}
-use Rattle.exchange_model.specs.Exchange.{Exchange, given, plain}
-use Rattle.slave_model.specs.Waits.{NeverWaits}
+use Rattle.idle_slaves.specs.of_exchange_model.Exchange.{Exchange, given, plain}
+use Rattle.idle_slaves.specs.of_slave_model.Waits.{NeverWaits}
 use Rattle.served_rings.specs.of_few_replies.Calm.{calm_tagged}
-use Rattle.serving_model.specs.Tagged.{IsServed, Asked, Meant, Rowed, Tagged, ideal, is_own, more_of, tagged, told, untag}
-use Rattle.serving_model.proofs.TaggedLaw.{CutTold, cut_told, told-plain, untag-append, untag-told}
+use Rattle.served_rings.specs.of_serving_model.Tagged.{IsServed, Asked, Meant, Rowed, Tagged, ideal, is_own, more_of, tagged, told, untag}
+use Rattle.served_rings.proofs.of_serving_model.TaggedLaw.{CutTold, cut_told, told-plain, untag-append, untag-told}
 
 untag_nil : {M Q : Type 0} (ts : List (Tagged M Q)) → untag ts ≡ [] → ts ≡ []
 untag_nil [] e = refl

@@ -3,19 +3,19 @@ use Rattle.std.proofs.Common.{◌≡◌, ◌≤◌, ℕ, zero, suc, Bool, List, 
 use Rattle.std.proofs.lemmas.Bool.{cases_lt}
 use Rattle.seen_slaves.proofs.CountedRows.{rows_counted}
 use Rattle.seen_slaves.specs.Counted.{IsToldByNumber}
-use Rattle.life_model.specs.Lives.{Era}
-use Rattle.link_mails.specs.Body.{Body}
-use Rattle.master_duty.specs.Reply.{Reply}
-use Rattle.master_hand.specs.Spoken.{Asked}
+use Rattle.idle_slaves.specs.of_life_model.Lives.{Era}
+use Rattle.idle_slaves.specs.of_link_mails.Body.{Body}
+use Rattle.served_rings.specs.of_master_duty.Reply.{Reply}
+use Rattle.served_rings.specs.of_master_hand.Spoken.{Asked}
 use Rattle.served_rings.specs.Served.{IsServedEra, server_behind}
 use Rattle.served_rings.specs.Speakers.{cleared_whole, spoken, table_of}
-use Rattle.slave_model.specs.Profile.{Profile}
-use Rattle.slave_parts.specs.Parts.{Server}
-use Rattle.slave_server.specs.Serving.{fresh}
-use Rattle.state_model.specs.Families.{InState}
-use Rattle.state_model.specs.Stated.{Service}
-use Rattle.state_model.specs.Promises.{state_behind}
-use Rattle.state_model.specs.Promise.{services_in}
+use Rattle.idle_slaves.specs.of_slave_model.Profile.{Profile}
+use Rattle.idle_slaves.specs.of_slave_parts.Parts.{Server}
+use Rattle.idle_slaves.specs.of_slave_server.Serving.{fresh}
+use Rattle.idle_slaves.specs.of_state_model.Families.{InState}
+use Rattle.idle_slaves.specs.of_state_model.Stated.{Service}
+use Rattle.idle_slaves.specs.of_state_model.Promises.{state_behind}
+use Rattle.idle_slaves.specs.of_state_model.Promise.{services_in}
 
 -- more of a list: the first part, and what is behind it
 take_more : {A : Type 0} (few many : ℕ) (xs : List A) → few ≤ many → (rest : List A) × (take many xs ≡ take few xs ++ rest)

@@ -2,9 +2,9 @@
 use Rattle.std.proofs.Common.{◌≡◌, ◌⊎◌, inl, inr, ℕ, ◌-◌, Bool, true, false, not, nat_lt, List, ◌++◌, length, Option, None, Some, Result, Ok, Err, refl}
 use Rattle.std.specs.Prelude.{◌==◌, ◌||◌, nat_le}
 use Rattle.seen_slaves.proofs.Choices.{either}
-use Rattle.protocol_models.specs.CoeMails.{Coe, Expedited, First, Upload, Segment, SegmentAnswer, UploadSegment, Abort, ListRequest, ObjectRequest, EntryRequest, Information, InformationError, CoeFault, Short, Service, Command, Size, CoeMail, mail, unread, failed, fragment, other}
-use Rattle.protocol_models.specs.Tables.{Target, Ask, list, object, entry, Tables}
-use Rattle.protocol_models.specs.CoeServer.{Transfer, idle, downloading, uploading, Outcome, issued, stored, begins, takes_first, takes_segment, download_answer, is_expedited, opened, takes_upload_segment, same, informed, unknown_command, takes_unread, coe_takes, coe_outcome}
+use Rattle.idle_slaves.specs.of_protocol_models.CoeMails.{Coe, Expedited, First, Upload, Segment, SegmentAnswer, UploadSegment, Abort, ListRequest, ObjectRequest, EntryRequest, Information, InformationError, CoeFault, Short, Service, Command, Size, CoeMail, mail, unread, failed, fragment, other}
+use Rattle.idle_slaves.specs.of_protocol_models.Tables.{Target, Ask, list, object, entry, Tables}
+use Rattle.idle_slaves.specs.of_protocol_models.CoeServer.{Transfer, idle, downloading, uploading, Outcome, issued, stored, begins, takes_first, takes_segment, download_answer, is_expedited, opened, takes_upload_segment, same, informed, unknown_command, takes_unread, coe_takes, coe_outcome}
 
 module _ {S : Type 0} (o : Tables S) (eoe : Bool) (room : ℕ) where
   -- counted, or the tables are these

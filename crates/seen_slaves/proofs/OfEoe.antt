@@ -1,14 +1,14 @@
 -- A MAIL OF EoE is counted, or leaves the station: a packet is whole by its last fragment alone, and that one is counted.
 use Rattle.std.proofs.Common.{◌≡◌, ◌⊎◌, inl, inr, ℕ, Bool, true, false, Option, None, Some, refl, ◌∙◌}
 use Rattle.std.specs.Prelude.{if◌then◌else◌}
-use Rattle.eoe.specs.Joining.{Taken, added, awaited, ended, payload_of, taken_by}
-use Rattle.eoe.specs.declared.joining.Joined.{Joined}
-use Rattle.eoe.specs.declared.joining.Joined.TheVariants.{More, Whole, Dropped}
-use Rattle.eoe.specs.declared.joining.Unfinished.{Unfinished}
-use Rattle.eoe.specs.declared.message.Fragment.{Fragment}
-use Rattle.protocol_models.specs.EoeMails.{Eoe, Part, SetIp, SetIpAnswer, GetIp, GetIpAnswer, EoeFault, Short, WrongType, Offset, EoeMail, mail, unread, unsupported, failed, other}
-use Rattle.protocol_models.specs.Network.{Network, Station}
-use Rattle.protocol_models.specs.EoeServer.{Outcome, joined, addressed, set_answer, eoe_takes, takes_unread, eoe_outcome}
+use Rattle.served_rings.specs.of_eoe.Joining.{Taken, added, awaited, ended, payload_of, taken_by}
+use Rattle.served_rings.specs.of_eoe.declared.joining.Joined.{Joined}
+use Rattle.served_rings.specs.of_eoe.declared.joining.Joined.TheVariants.{More, Whole, Dropped}
+use Rattle.served_rings.specs.of_eoe.declared.joining.Unfinished.{Unfinished}
+use Rattle.served_rings.specs.of_eoe.declared.message.Fragment.{Fragment}
+use Rattle.idle_slaves.specs.of_protocol_models.EoeMails.{Eoe, Part, SetIp, SetIpAnswer, GetIp, GetIpAnswer, EoeFault, Short, WrongType, Offset, EoeMail, mail, unread, unsupported, failed, other}
+use Rattle.idle_slaves.specs.of_protocol_models.Network.{Network, Station}
+use Rattle.idle_slaves.specs.of_protocol_models.EoeServer.{Outcome, joined, addressed, set_answer, eoe_takes, takes_unread, eoe_outcome}
 
 module _ {S : Type 0} (o : Network S) (room : ℕ) where
   -- counted, or the station is this

@@ -2,9 +2,9 @@
 use Rattle.std.proofs.Common.{◌≡◌, ◌⊎◌, inl, inr, ℕ, ◌+◌, true, false, not, nat_lt, List, ◌++◌, length, Option, None, Some, refl}
 use Rattle.std.specs.Prelude.{◌==◌}
 use Rattle.seen_slaves.proofs.Choices.{either}
-use Rattle.protocol_models.specs.FoeMails.{Foe, Read, Write, Data, Ack, Error, Busy, FoeFault, Short, Opcode, Name, FoeMail, mail, unread, failed, other}
-use Rattle.protocol_models.specs.Files.{Files}
-use Rattle.protocol_models.specs.FoeServer.{Transfer, idle, reading, writing, closing, Outcome, packet_room, is_last, opened, begun, closes, stores, takes_data, continues, takes_ack, takes_unread, foe_takes, foe_outcome}
+use Rattle.idle_slaves.specs.of_protocol_models.FoeMails.{Foe, Read, Write, Data, Ack, Error, Busy, FoeFault, Short, Opcode, Name, FoeMail, mail, unread, failed, other}
+use Rattle.idle_slaves.specs.of_protocol_models.Files.{Files}
+use Rattle.idle_slaves.specs.of_protocol_models.FoeServer.{Transfer, idle, reading, writing, closing, Outcome, packet_room, is_last, opened, begun, closes, stores, takes_data, continues, takes_ack, takes_unread, foe_takes, foe_outcome}
 
 module _ {S : Type 0} (o : Files S) (out back : ℕ) where
   -- counted, or the files are these

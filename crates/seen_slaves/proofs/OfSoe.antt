@@ -2,9 +2,9 @@
 use Rattle.std.proofs.Common.{◌≡◌, ◌⊎◌, inl, inr, ℕ, Bool, true, List, Option, Result, Ok, Err, refl}
 use Rattle.std.specs.Prelude.{◌==◌}
 use Rattle.seen_slaves.proofs.Choices.{either}
-use Rattle.protocol_models.specs.Elements.{Target, Elements}
-use Rattle.protocol_models.specs.SoeMails.{Soe, SoeFault, Short, Opcode, Incomplete, SoeMail, mail, unread, failed, other}
-use Rattle.protocol_models.specs.SoeServer.{Join, Outcome, asked, gathered, written, target_of, takes_whole, takes_unread, soe_outcome}
+use Rattle.idle_slaves.specs.of_protocol_models.Elements.{Target, Elements}
+use Rattle.idle_slaves.specs.of_protocol_models.SoeMails.{Soe, SoeFault, Short, Opcode, Incomplete, SoeMail, mail, unread, failed, other}
+use Rattle.idle_slaves.specs.of_protocol_models.SoeServer.{Join, Outcome, asked, gathered, written, target_of, takes_whole, takes_unread, soe_outcome}
 
 module _ {S : Type 0} (o : Elements S) (room : ℕ) where
   -- counted, or the table is this

@@ -1,39 +1,39 @@
 -- The slaves of a serving by a frame that came back and gained nothing, and by which no mail that is passed on came a step on.
 use Rattle.std.proofs.Common.{◌≡◌, ℕ, ◌==◌, Bool, true, false, Option, Some, None, List, [], ◌∷◌, map, refl, sym, ap, ◌∙◌, subst}
 use Rattle.std.specs.Prelude.{nat_le, slice_get, ⊤}
-use Rattle.datagrams.specs.Datagram as Raw
+use Rattle.idle_slaves.specs.of_datagrams.Datagram as Raw
 use Rattle.idle_slaves.specs.Eager.{Remembered, AllEager, AllRemember, IsEager, RemembersOn}
 use Rattle.idle_slaves.specs.EagerFrames.{One, TellsBy}
 use Rattle.idle_slaves.proofs.Choices.{stand_next}
 use Rattle.idle_slaves.proofs.Sent.{counter_is, met, none_sent, one_sent}
-use Rattle.exchange_model.specs.Exchange.{Speech}
-use Rattle.frame_view.specs.Seen.{datagrams_seen, seen}
-use Rattle.frame_view.specs.View.{Lens}
-use Rattle.life_model.specs.Gains.{gains}
-use Rattle.life_model.specs.Lives.{Life, Spot, Stand}
-use Rattle.life_model.specs.Own.{own}
-use Rattle.life_runs.specs.Led.{Exchanged, speech_at, is_passed}
-use Rattle.link_mails.specs.Body.{Body}
-use Rattle.master_duty.specs.Reply.{Reply}
-use Rattle.master_hand.specs.Spoken.{Asked, acknowledged, is_followed, passed}
-use Rattle.master_tour.proofs.Backs.{seen_aims}
+use Rattle.idle_slaves.specs.of_exchange_model.Exchange.{Speech}
+use Rattle.idle_slaves.specs.of_frame_view.Seen.{datagrams_seen, seen}
+use Rattle.idle_slaves.specs.of_frame_view.View.{Lens}
+use Rattle.idle_slaves.specs.of_life_model.Gains.{gains}
+use Rattle.idle_slaves.specs.of_life_model.Lives.{Life, Spot, Stand}
+use Rattle.idle_slaves.specs.of_life_model.Own.{own}
+use Rattle.idle_slaves.specs.of_life_runs.Led.{Exchanged, speech_at, is_passed}
+use Rattle.idle_slaves.specs.of_link_mails.Body.{Body}
+use Rattle.served_rings.specs.of_master_duty.Reply.{Reply}
+use Rattle.served_rings.specs.of_master_hand.Spoken.{Asked, acknowledged, is_followed, passed}
+use Rattle.idle_slaves.proofs.of_master_tour.Backs.{seen_aims}
 use Rattle.idle_slaves.specs.of_plan_ring.PlanMet.{slave_at, AllMet, IsMet}
-use Rattle.run_frames.specs.Goes.{Under, back_life}
-use Rattle.run_frames.specs.Led.{AreLed}
-use Rattle.run_frames.specs.Waits.{Waits}
-use Rattle.segment_model.specs.Slaves.{Access, Datagram, counter_met, frame_after}
-use Rattle.segment_plan.specs.declared.service.Service as Plan
-use Rattle.segment_plan.specs.declared.slave.SlaveSpec.{SlaveSpec}
-use Rattle.segment_ring.specs.declared.wire.Fate.{Fate}
-use Rattle.segment_ring.specs.declared.wire.Fate.TheVariants.{Pass}
-use Rattle.served_rings.specs.of_life_runs.Served.{Keyed, Serves, ServedTurn, AllServedTurn, IsServedTurn, ServedComes, served_behind, served_life}
-use Rattle.served_rings.specs.of_life_runs.Told.{Passed}
+use Rattle.idle_slaves.specs.of_run_frames.Goes.{Under, back_life}
+use Rattle.idle_slaves.specs.of_run_frames.Led.{AreLed}
+use Rattle.idle_slaves.specs.of_run_frames.Waits.{Waits}
+use Rattle.idle_slaves.specs.of_segment_model.Slaves.{Access, Datagram, counter_met, frame_after}
+use Rattle.idle_slaves.specs.of_segment_plan.declared.service.Service as Plan
+use Rattle.idle_slaves.specs.of_segment_plan.declared.slave.SlaveSpec.{SlaveSpec}
+use Rattle.idle_slaves.specs.of_segment_ring.declared.wire.Fate.{Fate}
+use Rattle.idle_slaves.specs.of_segment_ring.declared.wire.Fate.TheVariants.{Pass}
+use Rattle.idle_slaves.specs.of_life_runs.Served.{Keyed, Serves, ServedTurn, AllServedTurn, IsServedTurn, ServedComes, served_behind, served_life}
+use Rattle.idle_slaves.specs.of_life_runs.Told.{Passed}
 use Rattle.served_rings.specs.of_served_places.Toured.{back_under}
 use Rattle.seen_slaves.specs.Eager.{AllStill, leads_of, turns_of}
 use Rattle.seen_slaves.proofs.Tells.{tells}
 use Rattle.idle_slaves.specs.of_slave_server.Serving.{Serving}
-use Rattle.slave_node.specs.Node.{Node}
-use Rattle.state_model.specs.Stated.{Service}
+use Rattle.idle_slaves.specs.of_slave_node.Node.{Node}
+use Rattle.idle_slaves.specs.of_state_model.Stated.{Service}
 use Rattle.idle_slaves.proofs.Fits.{AllReady, AllSeated, IsReady, IsSeated, Slave, next_of, nexts_of}
 use Rattle.idle_slaves.proofs.Lists.{AllStanding, SameAll}
 use Rattle.idle_slaves.proofs.Ready.{script_end, state_left}

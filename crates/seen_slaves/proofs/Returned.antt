@@ -1,12 +1,12 @@
 -- What a frame tells a station: so do its return, and the slave's own datagrams alone.
 use Rattle.std.proofs.Common.{◌≡◌, ℕ, ◌==◌, ◌||◌, Bool, true, false, List, [], ◌∷◌, ◌++◌, refl, sym, ap, ◌∙◌, if◌then◌else◌}
-use Rattle.life_model.specs.Own.{own}
-use Rattle.link_mails.specs.Body.{Body}
-use Rattle.master_tour.proofs.Unders.{SameAim}
-use Rattle.segment_model.specs.Record.{all_told, is_for, last_told, mail_told, told_behind}
-use Rattle.segment_model.specs.Returned.{Returns}
-use Rattle.segment_model.specs.Seats.{is_write, writes}
-use Rattle.segment_model.specs.Slaves.{Datagram, grams}
+use Rattle.idle_slaves.specs.of_life_model.Own.{own}
+use Rattle.idle_slaves.specs.of_link_mails.Body.{Body}
+use Rattle.idle_slaves.proofs.of_master_tour.Unders.{SameAim}
+use Rattle.idle_slaves.specs.of_segment_model.Record.{all_told, is_for, last_told, mail_told, told_behind}
+use Rattle.idle_slaves.specs.of_segment_model.Returned.{Returns}
+use Rattle.idle_slaves.specs.of_segment_model.Seats.{is_write, writes}
+use Rattle.idle_slaves.specs.of_segment_model.Slaves.{Datagram, grams}
 
 -- both tell a station the same
 pub record SameTold (station last : ℕ) (ds es : List (Datagram Body)) : Type 0 where

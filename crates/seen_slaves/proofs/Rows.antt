@@ -3,25 +3,25 @@ use Rattle.std.proofs.Common.{◌≡◌, ℕ, Bool, true, false, Option, Some, N
 use Rattle.std.specs.Prelude.{◌&&◌, All, nat_le}
 use Rattle.std.proofs.lemmas.Bool.{le-leb}
 use Rattle.std.proofs.lemmas.List.Elements.{All-nil, All-cons, All-head, All-tail}
-use Rattle.frame_view.specs.Seen.{seen}
-use Rattle.frame_view.specs.View.{Lens}
+use Rattle.idle_slaves.specs.of_frame_view.Seen.{seen}
+use Rattle.idle_slaves.specs.of_frame_view.View.{Lens}
 use Rattle.served_rings.proofs.of_served_places.Each.{each}
-use Rattle.frame_view.specs.Shares.{came_at, given_where}
-use Rattle.life_model.specs.Lives.{Life, Spot, Stand, life_back, life_lost, life_next}
-use Rattle.life_runs.specs.Led.{Exchanged, Leads, speech_at, is_passed}
-use Rattle.life_runs.specs.of_datagrams.Datagram as Raw
-use Rattle.link_mails.specs.Body.{Body}
-use Rattle.master_duty.specs.Reply.{Reply}
-use Rattle.master_hand.specs.Spoken.{Asked, acknowledged, is_followed}
-use Rattle.master_side.specs.Passing.{news_back, news_lost}
-use Rattle.master_side.specs.Counts.{kept_on}
-use Rattle.few_replies.specs.Heard.{EraPasses}
-use Rattle.few_replies.proofs.Rows as Passing
-use Rattle.segment_model.specs.Record.{Kept}
-use Rattle.segment_model.specs.Slaves.{Found}
-use Rattle.segment_ring.specs.declared.wire.Fate.{Fate}
-use Rattle.segment_ring.specs.declared.wire.Fate.TheVariants.{Pass, Lost}
-use Rattle.served_rings.specs.of_life_runs.Served.{Serves, ServedTurn, IsServedTurn, IsServedLed, all_serve, new_serves, recorded, served_life}
+use Rattle.idle_slaves.specs.of_frame_view.Shares.{came_at, given_where}
+use Rattle.idle_slaves.specs.of_life_model.Lives.{Life, Spot, Stand, life_back, life_lost, life_next}
+use Rattle.idle_slaves.specs.of_life_runs.Led.{Exchanged, Leads, speech_at, is_passed}
+use Rattle.idle_slaves.specs.of_datagrams.Datagram as Raw
+use Rattle.idle_slaves.specs.of_link_mails.Body.{Body}
+use Rattle.served_rings.specs.of_master_duty.Reply.{Reply}
+use Rattle.served_rings.specs.of_master_hand.Spoken.{Asked, acknowledged, is_followed}
+use Rattle.served_rings.specs.of_master_side.Passing.{news_back, news_lost}
+use Rattle.served_rings.specs.of_master_side.Counts.{kept_on}
+use Rattle.served_rings.specs.of_few_replies.Heard.{EraPasses}
+use Rattle.served_rings.proofs.of_few_replies.Rows as Passing
+use Rattle.idle_slaves.specs.of_segment_model.Record.{Kept}
+use Rattle.idle_slaves.specs.of_segment_model.Slaves.{Found}
+use Rattle.idle_slaves.specs.of_segment_ring.declared.wire.Fate.{Fate}
+use Rattle.idle_slaves.specs.of_segment_ring.declared.wire.Fate.TheVariants.{Pass, Lost}
+use Rattle.idle_slaves.specs.of_life_runs.Served.{Serves, ServedTurn, IsServedTurn, IsServedLed, all_serve, new_serves, recorded, served_life}
 use Rattle.seen_slaves.specs.Rows.{IsNew, PassesSo}
 use Rattle.seen_slaves.proofs.Heard.{Heard, back_heard, lost_heard, lost_none, new_heard, news_heard, next_heard}
 use Rattle.seen_slaves.proofs.Stands.{At, back_at, lost_at, next_at}

@@ -1,16 +1,16 @@
 -- What was heard of the newest service is its answer, at every frame of a life.
 use Rattle.std.proofs.Common.{◌≡◌, ℕ, ◌&&◌, Bool, true, false, Option, Some, None, option_map, List, [], ◌∷◌, ◌++◌, refl, ap, subst, if◌then◌else◌}
-use Rattle.slave_model.specs.Moments.{NowAnswered}
-use Rattle.exchange_model.specs.Exchange.{Speech, plain}
-use Rattle.exchange_model.specs.Rows.{Row, answer_after, begun, row_heard, row_told}
-use Rattle.life_model.specs.Lives.{Era, Life, Spot, Stand, granted, life_back, life_lost, life_next}
-use Rattle.life_model.specs.Own.{own}
-use Rattle.link_model.specs.Frames.{all_accepted}
-use Rattle.segment_model.specs.Record.{News}
-use Rattle.segment_model.specs.Seats.{Choice, Side, is_over, next_mail, side_begins, side_holds, side_next}
-use Rattle.segment_model.specs.Slaves.{Datagram, Found, grams}
+use Rattle.idle_slaves.specs.of_slave_model.Moments.{NowAnswered}
+use Rattle.idle_slaves.specs.of_exchange_model.Exchange.{Speech, plain}
+use Rattle.idle_slaves.specs.of_exchange_model.Rows.{Row, answer_after, begun, row_heard, row_told}
+use Rattle.idle_slaves.specs.of_life_model.Lives.{Era, Life, Spot, Stand, granted, life_back, life_lost, life_next}
+use Rattle.idle_slaves.specs.of_life_model.Own.{own}
+use Rattle.idle_slaves.specs.of_link_model.Frames.{all_accepted}
+use Rattle.idle_slaves.specs.of_segment_model.Record.{News}
+use Rattle.idle_slaves.specs.of_segment_model.Seats.{Choice, Side, is_over, next_mail, side_begins, side_holds, side_next}
+use Rattle.idle_slaves.specs.of_segment_model.Slaves.{Datagram, Found, grams}
 use Rattle.seen_slaves.proofs.Lives.{back_keeps, lost_keeps, next_keeps}
-use Rattle.state_model.specs.Accounts.{Pick, mails_choice}
+use Rattle.idle_slaves.specs.of_state_model.Accounts.{Pick, mails_choice}
 
 module _ {M Q R : Type 0} (x : Speech M Q R) where
   -- of a row

@@ -2,58 +2,58 @@
 use Rattle.std.proofs.Common.{◌≡◌, ◌≢◌, ℕ, suc, ◌&&◌, Bool, true, false, Option, Some, None, List, [], ◌∷◌, map, refl, sym, ap, ap₂, ◌∙◌, subst}
 use Rattle.std.specs.Prelude.{All}
 use Rattle.std.proofs.lemmas.List.Elements.{All-head, All-tail}
-use Rattle.slave_model.specs.Moments.{IsFree, NowAnswered}
-use Rattle.slave_model.specs.Waits.{NeverWaits}
+use Rattle.idle_slaves.specs.of_slave_model.Moments.{IsFree, NowAnswered}
+use Rattle.idle_slaves.specs.of_slave_model.Waits.{NeverWaits}
 use Rattle.idle_slaves.specs.Eager.{MayBegin, NoneLeft}
 use Rattle.idle_slaves.specs.Visited.{IsLeft, LifeSpent, is_boxed, is_served}
 use Rattle.idle_slaves.proofs.Fits.{AllSeated, IsFit, IsSeated, ToldWhole, exchange_at}
 use Rattle.idle_slaves.proofs.Opened.{answered_is}
 use Rattle.idle_slaves.proofs.Settled.{is_left}
-use Rattle.exchange_model.specs.Exchange.{Speech}
-use Rattle.frame_view.specs.View.{Lens}
+use Rattle.idle_slaves.specs.of_exchange_model.Exchange.{Speech}
+use Rattle.idle_slaves.specs.of_frame_view.View.{Lens}
 use Rattle.served_rings.specs.Led.{LedEra}
 use Rattle.served_rings.specs.Lives.{LedKept, LedLeft, LedYet}
 use Rattle.served_rings.specs.LedRings.{AllLedMembers, LedMember}
-use Rattle.life_model.specs.Eras.{planned}
-use Rattle.life_model.specs.Lives.{Era, Life, Spot, Stand}
-use Rattle.life_runs.specs.First.{lens_of, spot_of}
-use Rattle.life_runs.specs.Led.{speech_at}
-use Rattle.link_mails.specs.Body.{Body}
-use Rattle.master_duty.specs.Reply.{Reply}
-use Rattle.master_hand.specs.Spoken.{Asked, acknowledged, hand_speech, is_followed, is_passed}
-use Rattle.few_replies.specs.Heard.{EraPasses}
+use Rattle.idle_slaves.specs.of_life_model.Eras.{planned}
+use Rattle.idle_slaves.specs.of_life_model.Lives.{Era, Life, Spot, Stand}
+use Rattle.idle_slaves.specs.of_life_runs.First.{lens_of, spot_of}
+use Rattle.idle_slaves.specs.of_life_runs.Led.{speech_at}
+use Rattle.idle_slaves.specs.of_link_mails.Body.{Body}
+use Rattle.served_rings.specs.of_master_duty.Reply.{Reply}
+use Rattle.served_rings.specs.of_master_hand.Spoken.{Asked, acknowledged, hand_speech, is_followed, is_passed}
+use Rattle.served_rings.specs.of_few_replies.Heard.{EraPasses}
 use Rattle.idle_slaves.specs.of_plan_ring.PlanMet.{slave_at}
 use Rattle.idle_slaves.specs.of_plan_ring.Plan.{AllMacs, FitsPlan, plan_of, step}
 use Rattle.served_rings.specs.Speakers.{any_speaker, processor_of, seer_of, spoken, table_of}
 use Rattle.seen_slaves.specs.Fits.{FitsSo, HasNone}
 use Rattle.seen_slaves.proofs.Fits.{fits}
 use Rattle.seen_slaves.proofs.Speaks.{first, plans_some, silent}
-use Rattle.segment_model.specs.Ends.{Passing}
-use Rattle.segment_model.specs.Record.{Frame}
-use Rattle.segment_model.specs.Slaves.{serving}
-use Rattle.segment_plan.specs.Sound.{IsSlave}
-use Rattle.segment_plan.specs.declared.plan.Scenario.{Scenario}
-use Rattle.segment_plan.specs.declared.slave.SlaveSpec.{SlaveSpec}
+use Rattle.idle_slaves.specs.of_segment_model.Ends.{Passing}
+use Rattle.idle_slaves.specs.of_segment_model.Record.{Frame}
+use Rattle.idle_slaves.specs.of_segment_model.Slaves.{serving}
+use Rattle.idle_slaves.specs.of_segment_plan.Sound.{IsSlave}
+use Rattle.idle_slaves.specs.of_segment_plan.declared.plan.Scenario.{Scenario}
+use Rattle.idle_slaves.specs.of_segment_plan.declared.slave.SlaveSpec.{SlaveSpec}
 use Rattle.served_rings.specs.Serves.{serves}
 use Rattle.served_rings.specs.Rings.{AllServedAt, IsServedAt, ServedMember, counters_of, served_member, served_members}
 use Rattle.seen_slaves.specs.Rows.{PassesSo, ToldSo}
-use Rattle.served_rings.specs.of_life_runs.Served.{Serves}
+use Rattle.idle_slaves.specs.of_life_runs.Served.{Serves}
 use Rattle.seen_slaves.specs.Eager.{leads_of}
-use Rattle.slave_lives.specs.Lived.{node_seen}
-use Rattle.slave_model.specs.Profile.{IsProfile, Profile, areas_of}
-use Rattle.slave_parts.specs.Parts.{Server, parts}
-use Rattle.slave_parts.specs.Served.{product_whole}
+use Rattle.idle_slaves.specs.of_slave_lives.Lived.{node_seen}
+use Rattle.idle_slaves.specs.of_slave_model.Profile.{IsProfile, Profile, areas_of}
+use Rattle.idle_slaves.specs.of_slave_parts.Parts.{Server, parts}
+use Rattle.idle_slaves.specs.of_slave_parts.Served.{product_whole}
 use Rattle.idle_slaves.specs.of_slave_server.Serving.{Serving}
 use Rattle.idle_slaves.specs.of_slave_server.Spec.{profile_of}
-use Rattle.slave_node.specs.Node.{Node}
+use Rattle.idle_slaves.specs.of_slave_node.Node.{Node}
 use Rattle.seen_slaves.proofs.Told.{none_sent, none_waits}
-use Rattle.state_model.specs.Families.{InState}
-use Rattle.run_work.specs.of_life_counts.Epochs.{AllFair, IsRun, IsSeen, IsSpeaker, between, seeing, seeing_states}
-use Rattle.run_work.proofs.of_life_counts.TaggedWhole.{epoch_seen}
-use Rattle.state_model.specs.Accounts.{Started}
-use Rattle.state_model.specs.Tasks.{IsTaskPlan}
-use Rattle.whole_ring.specs.Members.{AllLived}
-use Rattle.whole_ring.specs.Whole.{LivesOpenBy, StandsBy}
+use Rattle.idle_slaves.specs.of_state_model.Families.{InState}
+use Rattle.served_rings.specs.of_life_counts.Epochs.{AllFair, IsRun, IsSeen, IsSpeaker, between, seeing, seeing_states}
+use Rattle.served_rings.proofs.of_life_counts.TaggedWhole.{epoch_seen}
+use Rattle.idle_slaves.specs.of_state_model.Accounts.{Started}
+use Rattle.idle_slaves.specs.of_state_model.Tasks.{IsTaskPlan}
+use Rattle.served_rings.specs.of_whole_ring.Members.{AllLived}
+use Rattle.served_rings.specs.of_whole_ring.Whole.{LivesOpenBy, StandsBy}
 
 -- A SLAVE OF A PLAN AND ITS MASTER keep the laws of both, with any mails passed on; and no client of the slave waits in vain
 pub record Laws : Type 0 where

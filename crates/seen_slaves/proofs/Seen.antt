@@ -1,48 +1,48 @@
 -- WHAT A FRAME MORE BRINGS of an epoch that its master leads is due to it: so it is where it is seen what is meant by its mails.
 use Rattle.std.proofs.Common.{◌≡◌, ℕ, Bool, true, false, not, cond, is_some, Option, Some, None, option_map, List, [], ◌∷◌, ◌++◌, map, length, refl, sym, ap, ◌∙◌, subst, append_assoc}
 use Rattle.std.proofs.lemmas.List.{map-append}
-use Rattle.exchange_model.specs.Exchange.{Exchange, plain}
-use Rattle.exchange_model.specs.Rows.{Row, row_heard}
-use Rattle.exchange_model.proofs.Words.{plain-append}
-use Rattle.life_model.specs.Eras.{era_frames, planned}
-use Rattle.life_model.specs.Lives.{AsksOpen, Era, Spot, era_next, granted}
-use Rattle.life_model.specs.Own.{own}
-use Rattle.link_model.specs.Frames.{all_accepted}
-use Rattle.link_model.specs.Segment.{RingFate}
-use Rattle.master_side.specs.Due.{EachDue}
-use Rattle.slave_model.specs.Hears.{HearsFirst}
-use Rattle.few_replies.specs.Client.{ByContents}
-use Rattle.few_replies.specs.Erased.{OfRow}
-use Rattle.few_replies.specs.Led.{AreSingle, EraTurn, IsLed, MayTurn}
-use Rattle.few_replies.specs.Silent.{is_passed}
+use Rattle.idle_slaves.specs.of_exchange_model.Exchange.{Exchange, plain}
+use Rattle.idle_slaves.specs.of_exchange_model.Rows.{Row, row_heard}
+use Rattle.idle_slaves.proofs.of_exchange_model.Words.{plain-append}
+use Rattle.idle_slaves.specs.of_life_model.Eras.{era_frames, planned}
+use Rattle.idle_slaves.specs.of_life_model.Lives.{AsksOpen, Era, Spot, era_next, granted}
+use Rattle.idle_slaves.specs.of_life_model.Own.{own}
+use Rattle.idle_slaves.specs.of_link_model.Frames.{all_accepted}
+use Rattle.idle_slaves.specs.of_link_model.Segment.{RingFate}
+use Rattle.served_rings.specs.of_master_side.Due.{EachDue}
+use Rattle.idle_slaves.specs.of_slave_model.Hears.{HearsFirst}
+use Rattle.served_rings.specs.of_few_replies.Client.{ByContents}
+use Rattle.served_rings.specs.of_few_replies.Erased.{OfRow}
+use Rattle.served_rings.specs.of_few_replies.Led.{AreSingle, EraTurn, IsLed, MayTurn}
+use Rattle.served_rings.specs.of_few_replies.Silent.{is_passed}
 use Rattle.idle_slaves.proofs.of_plan_ring.Eras.{era_due}
-use Rattle.segment_model.specs.Record.{Frame}
-use Rattle.segment_model.specs.Slaves.{Datagram, Processor, Registers, Slave, frame_after, grams, slave_after}
+use Rattle.idle_slaves.specs.of_segment_model.Record.{Frame}
+use Rattle.idle_slaves.specs.of_segment_model.Slaves.{Datagram, Processor, Registers, Slave, frame_after, grams, slave_after}
 use Rattle.seen_slaves.specs.Brings.{AllAreFair, SeenBringsDue}
-use Rattle.few_replies.proofs.Naturals.{accepted_as}
+use Rattle.served_rings.proofs.of_few_replies.Naturals.{accepted_as}
 use Rattle.seen_slaves.proofs.Known.{HasRest, each_due}
 use Rattle.seen_slaves.proofs.Ties.{tied}
-use Rattle.serving_model.specs.Erasing.{all_as}
-use Rattle.serving_model.specs.Passing.{ends_told}
-use Rattle.serving_model.specs.Tagged.{Asked, Rowed, Tagged, is_own, real, untag}
-use Rattle.serving_model.proofs.Erasing.{frame_after-as}
-use Rattle.state_model.specs.States.{Table}
-use Rattle.run_work.specs.of_life_counts.Epochs.{IsRun, IsSpeaker, Speaker, between, era_named, seeing, seeing_states}
-use Rattle.run_work.specs.of_life_counts.Foreseen.{AllRight}
-use Rattle.run_work.proofs.of_life_counts.Answered.{AllAnswered, HasAnswer, StateLast, next_rests}
-use Rattle.run_work.proofs.of_life_counts.Begins.{Next}
-use Rattle.run_work.proofs.of_life_counts.Eras.{Knows, era_knows}
-use Rattle.run_work.proofs.of_life_counts.Frames.{frame_to, own_to, to_own}
-use Rattle.run_work.proofs.of_life_counts.Led as Led
-use Rattle.run_work.proofs.of_life_counts.Marks.{HasReplies, IsPassedNow, PassedNow}
-use Rattle.run_work.proofs.of_life_counts.Opened.{after_started}
-use Rattle.run_work.proofs.of_life_counts.Turns as Turns
-use Rattle.run_work.proofs.of_life_counts.Ways.{met}
-use Rattle.run_work.proofs.of_life_counts.TaggedWhole.{seeing_lawful, seeing_stated}
+use Rattle.served_rings.specs.of_serving_model.Erasing.{all_as}
+use Rattle.served_rings.specs.of_serving_model.Passing.{ends_told}
+use Rattle.served_rings.specs.of_serving_model.Tagged.{Asked, Rowed, Tagged, is_own, real, untag}
+use Rattle.served_rings.proofs.of_serving_model.Erasing.{frame_after-as}
+use Rattle.idle_slaves.specs.of_state_model.States.{Table}
+use Rattle.served_rings.specs.of_life_counts.Epochs.{IsRun, IsSpeaker, Speaker, between, era_named, seeing, seeing_states}
+use Rattle.served_rings.specs.of_life_counts.Foreseen.{AllRight}
+use Rattle.served_rings.proofs.of_life_counts.Answered.{AllAnswered, HasAnswer, StateLast, next_rests}
+use Rattle.served_rings.proofs.of_life_counts.Begins.{Next}
+use Rattle.served_rings.proofs.of_life_counts.Eras.{Knows, era_knows}
+use Rattle.served_rings.proofs.of_life_counts.Frames.{frame_to, own_to, to_own}
+use Rattle.served_rings.proofs.of_life_counts.Led as Led
+use Rattle.served_rings.proofs.of_life_counts.Marks.{HasReplies, IsPassedNow, PassedNow}
+use Rattle.served_rings.proofs.of_life_counts.Opened.{after_started}
+use Rattle.served_rings.proofs.of_life_counts.Turns as Turns
+use Rattle.served_rings.proofs.of_life_counts.Ways.{met}
+use Rattle.served_rings.proofs.of_life_counts.TaggedWhole.{seeing_lawful, seeing_stated}
 use Rattle.seen_slaves.proofs.Hears.{hears_calm}
-use Rattle.state_model.specs.Accounts.{Pick, Started}
-use Rattle.state_model.specs.Promise.{services_in}
-use Rattle.state_model.specs.Tasks.{IsTaskPlan}
+use Rattle.idle_slaves.specs.of_state_model.Accounts.{Pick, Started}
+use Rattle.idle_slaves.specs.of_state_model.Promise.{services_in}
+use Rattle.idle_slaves.specs.of_state_model.Tasks.{IsTaskPlan}
 
 module _ {V M Q R C T A : Type 0} (w : Speaker V M Q R C T) (k : IsSpeaker w) (hears : HearsFirst w.exchange) (fair : AllAreFair w) (u : Exchange V A M T (Option R)) (processor : Processor V) (seer : Processor (Rowed V M Q)) (tables : ℕ → Table) (spot : Spot)
     (run : IsRun w u processor seer (tables spot.station)) (opened : ℕ) (v : V) (r : Registers) (plan : IsTaskPlan (seeing w) (seeing_states w) seer tables (planned spot (between v) r ∷ [])) (answers : r.station ≡ spot.station) where

@@ -1,9 +1,9 @@
 -- The AL state of a server in the middle of a row.
 use Rattle.std.proofs.Common.{◌≡◌, ◌==◌, Bool, true, false, Option, Some, None, List, [], ◌∷◌, refl, sym, ◌∙◌, if◌then◌else◌}
-use Rattle.exchange_model.specs.Exchange.{Exchange, after}
-use Rattle.serving_model.specs.Tagged.{Rowed, ideal_in, ideal, real}
-use Rattle.serving_model.specs.TaggedStates.{IsStatedServed}
-use Rattle.state_model.specs.Stated.{Stated}
+use Rattle.idle_slaves.specs.of_exchange_model.Exchange.{Exchange, after}
+use Rattle.served_rings.specs.of_serving_model.Tagged.{Rowed, ideal_in, ideal, real}
+use Rattle.served_rings.specs.of_serving_model.TaggedStates.{IsStatedServed}
+use Rattle.idle_slaves.specs.of_state_model.Stated.{Stated}
 
 module _ {V M Q R : Type 0} (x : Exchange V V M Q R) (s : Stated V V Q) (k : IsStatedServed x s) where
   state_after : (v : V) (ms : List M) → s.state (after x.serve v ms) ≡ s.state v

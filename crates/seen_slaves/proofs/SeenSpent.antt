@@ -1,29 +1,29 @@
 -- Where nothing is left, as another sees it.
 use Rattle.std.proofs.Common.{◌≡◌, ℕ, ◌&&◌, Bool, true, false, not, Option, Some, None, option_map, List, [], ◌∷◌, ◌++◌, map, refl, sym, ap, ◌∙◌, subst, inl, inr, if◌then◌else◌}
 use Rattle.std.specs.Prelude.{is_none, is_some}
-use Rattle.slave_model.specs.Moments.{HasNothing, IsFree, IsMailsLast, WasHeard}
-use Rattle.slave_model.proofs.Laws.{heard, nothing}
-use Rattle.exchange_model.specs.Exchange.{Exchange, Speech, IsLawful}
-use Rattle.exchange_model.specs.Rows.{Row, ends_unheard, left}
-use Rattle.life_model.specs.Eras.{EraIs}
-use Rattle.life_model.specs.Lives.{Era, Spot}
-use Rattle.link_model.specs.Mails.{LinkMail}
-use Rattle.slave_model.specs.Waits.{NeverWaits}
-use Rattle.few_replies.specs.Erased.{OfRow, PlanOne, row_seen, side_seen}
-use Rattle.few_replies.specs.Heard.{EraPasses, HeardBy, IsPassedBy}
+use Rattle.idle_slaves.specs.of_slave_model.Moments.{HasNothing, IsFree, IsMailsLast, WasHeard}
+use Rattle.idle_slaves.proofs.of_slave_model.Laws.{heard, nothing}
+use Rattle.idle_slaves.specs.of_exchange_model.Exchange.{Exchange, Speech, IsLawful}
+use Rattle.idle_slaves.specs.of_exchange_model.Rows.{Row, ends_unheard, left}
+use Rattle.idle_slaves.specs.of_life_model.Eras.{EraIs}
+use Rattle.idle_slaves.specs.of_life_model.Lives.{Era, Spot}
+use Rattle.idle_slaves.specs.of_link_model.Mails.{LinkMail}
+use Rattle.idle_slaves.specs.of_slave_model.Waits.{NeverWaits}
+use Rattle.served_rings.specs.of_few_replies.Erased.{OfRow, PlanOne, row_seen, side_seen}
+use Rattle.served_rings.specs.of_few_replies.Heard.{EraPasses, HeardBy, IsPassedBy}
 use Rattle.seen_slaves.proofs.Left.{left_as}
 use Rattle.served_rings.proofs.SeenSettled.{settled_back}
 use Rattle.seen_slaves.specs.Spent.{IsEndTold, NothingSeen, SpeakOne}
-use Rattle.segment_model.specs.Ends.{Passing}
-use Rattle.segment_model.specs.Record.{Frame}
-use Rattle.segment_model.specs.Seats.{Side, is_none_left, is_over}
-use Rattle.segment_model.specs.Slaves.{Processor, Registers, Slave}
-use Rattle.serving_model.specs.Erasing.{box_as}
+use Rattle.idle_slaves.specs.of_segment_model.Ends.{Passing}
+use Rattle.idle_slaves.specs.of_segment_model.Record.{Frame}
+use Rattle.idle_slaves.specs.of_segment_model.Seats.{Side, is_none_left, is_over}
+use Rattle.idle_slaves.specs.of_segment_model.Slaves.{Processor, Registers, Slave}
+use Rattle.served_rings.specs.of_serving_model.Erasing.{box_as}
 use Rattle.seen_slaves.specs.Last.{LastPasses}
-use Rattle.state_model.specs.Stated.{Service, Stated, IsStated}
-use Rattle.state_model.specs.States.{Table}
-use Rattle.run_work.specs.of_life_counts.Seen.{era_seen, service_seen, started_seen}
-use Rattle.state_model.specs.Accounts.{Started, is_acknowledged, is_free}
+use Rattle.idle_slaves.specs.of_state_model.Stated.{Service, Stated, IsStated}
+use Rattle.idle_slaves.specs.of_state_model.States.{Table}
+use Rattle.served_rings.specs.of_life_counts.Seen.{era_seen, service_seen, started_seen}
+use Rattle.idle_slaves.specs.of_state_model.Accounts.{Started, is_acknowledged, is_free}
 
 map_none : {X Y : Type 0} (f : X → Y) (xs : List X) → map f xs ≡ [] → xs ≡ []
 map_none f [] e = refl

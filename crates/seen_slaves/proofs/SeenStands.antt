@@ -1,20 +1,20 @@
 -- The AL state of an open epoch's slave, in its registers and in its server.
 use Rattle.std.proofs.Common.{◌≡◌, ℕ, Bool, false, Option, Some, None, List, [], ◌∷◌, sym, subst}
-use Rattle.exchange_model.specs.Exchange.{Exchange, IsLawful}
-use Rattle.life_model.specs.Eras.{EraIs, era_frames, planned}
-use Rattle.life_model.specs.Lives.{Spot, Era}
+use Rattle.idle_slaves.specs.of_exchange_model.Exchange.{Exchange, IsLawful}
+use Rattle.idle_slaves.specs.of_life_model.Eras.{EraIs, era_frames, planned}
+use Rattle.idle_slaves.specs.of_life_model.Lives.{Spot, Era}
 use Rattle.seen_slaves.specs.Steps.{IsStanding}
-use Rattle.segment_model.specs.Record.{Frame}
-use Rattle.segment_model.specs.Seats.{Seat, Side, Planned, sides_of, ring_of}
-use Rattle.segment_model.specs.Slaves.{Processor, Registers, Ring, Slave}
-use Rattle.state_model.specs.Stated.{Stated, IsStated}
-use Rattle.state_model.specs.States.{Table, carry}
-use Rattle.state_model.proofs.Sessions.{Whole, session_keeps}
-use Rattle.state_model.proofs.Stately.{StateStep, step_state}
-use Rattle.state_model.proofs.Walks.{EachOne}
-use Rattle.state_model.specs.Accounts.{Account, Duty, Stage}
-use Rattle.state_model.specs.Promise.{EachTask}
-use Rattle.state_model.specs.Tasks.{IsTasked, IsTaskPlan, run, new_tasks}
+use Rattle.idle_slaves.specs.of_segment_model.Record.{Frame}
+use Rattle.idle_slaves.specs.of_segment_model.Seats.{Seat, Side, Planned, sides_of, ring_of}
+use Rattle.idle_slaves.specs.of_segment_model.Slaves.{Processor, Registers, Ring, Slave}
+use Rattle.idle_slaves.specs.of_state_model.Stated.{Stated, IsStated}
+use Rattle.idle_slaves.specs.of_state_model.States.{Table, carry}
+use Rattle.idle_slaves.proofs.of_state_model.Sessions.{Whole, session_keeps}
+use Rattle.idle_slaves.proofs.of_state_model.Stately.{StateStep, step_state}
+use Rattle.idle_slaves.proofs.of_state_model.Walks.{EachOne}
+use Rattle.idle_slaves.specs.of_state_model.Accounts.{Account, Duty, Stage}
+use Rattle.idle_slaves.specs.of_state_model.Promise.{EachTask}
+use Rattle.idle_slaves.specs.of_state_model.Tasks.{IsTasked, IsTaskPlan, run, new_tasks}
 use Rattle.idle_slaves.specs.Steps.{Drains, NotGone}
 
 -- the AL state stays

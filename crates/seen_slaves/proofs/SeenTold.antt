@@ -1,16 +1,16 @@
 -- What has its answer was told whole, as another sees it.
 use Rattle.std.proofs.Common.{◌≡◌, ℕ, Bool, false, Option, Some, None, option_map, List, [], map, refl, sym, ap, ◌∙◌, subst}
-use Rattle.slave_model.proofs.Laws.{answered}
-use Rattle.exchange_model.specs.Exchange.{Exchange, Speech, IsLawful}
-use Rattle.exchange_model.specs.Rows.{Row, ends_unheard, left}
-use Rattle.life_model.specs.Eras.{EraIs}
-use Rattle.life_model.specs.Lives.{Era, Spot}
-use Rattle.few_replies.specs.Erased.{OfRow, PlanOne, row_seen, side_seen}
+use Rattle.idle_slaves.proofs.of_slave_model.Laws.{answered}
+use Rattle.idle_slaves.specs.of_exchange_model.Exchange.{Exchange, Speech, IsLawful}
+use Rattle.idle_slaves.specs.of_exchange_model.Rows.{Row, ends_unheard, left}
+use Rattle.idle_slaves.specs.of_life_model.Eras.{EraIs}
+use Rattle.idle_slaves.specs.of_life_model.Lives.{Era, Spot}
+use Rattle.served_rings.specs.of_few_replies.Erased.{OfRow, PlanOne, row_seen, side_seen}
 use Rattle.seen_slaves.proofs.Left.{left_as}
-use Rattle.segment_model.specs.Record.{Frame}
-use Rattle.segment_model.specs.Slaves.{Processor, Registers, Slave}
-use Rattle.state_model.specs.Stated.{Stated, IsStated}
-use Rattle.state_model.specs.States.{Table}
+use Rattle.idle_slaves.specs.of_segment_model.Record.{Frame}
+use Rattle.idle_slaves.specs.of_segment_model.Slaves.{Processor, Registers, Slave}
+use Rattle.idle_slaves.specs.of_state_model.Stated.{Stated, IsStated}
+use Rattle.idle_slaves.specs.of_state_model.States.{Table}
 
 module _ {N M P Q S R V A : Type 0} (f : N → M) (g : P → Q) (h : S → R) (x : Exchange V A N P S) (s : Stated V A P) (y : Speech M Q R) (acknowledged : Q → Bool) (processor : Processor V) (table : ℕ → Table) (spot : Spot) (e : Era N P S) (opened last : ℕ) (fs : List (Frame N)) (v : V) (r : Registers) (n : Slave V N)
     (law : IsLawful x) (stated : IsStated x s) (is : EraIs x s processor table spot e opened last fs v r n) (hand : e.account.hand ≡ None) where

@@ -2,17 +2,17 @@
 use Rattle.std.proofs.Common.{◌≡◌, ◌≢◌, ℕ, ◌==◌, ◌&&◌, Bool, true, false, not, Option, Some, None, option_map, List, [], ◌∷◌, ◌++◌, map, refl, sym, ap, ◌∙◌, subst, arith, if◌then◌else◌, inl, inr}
 use Rattle.std.specs.Prelude.{◌⊎◌, ⊤}
 use Rattle.std.proofs.lemmas.Bool.Decides.{nat_tests}
-use Rattle.exchange_model.specs.Exchange.{Speech}
-use Rattle.exchange_model.specs.Rows.{Row, row_heard}
-use Rattle.life_model.specs.Lives.{passes}
-use Rattle.link_model.specs.Counters.{next_counter}
-use Rattle.link_model.specs.Mails.{LinkMail, news}
-use Rattle.few_replies.proofs.Passings.{sends, skips}
-use Rattle.segment_model.specs.Ends.{Passing, passing_after}
-use Rattle.segment_model.specs.Record.{News}
-use Rattle.segment_model.specs.Seats.{Side}
-use Rattle.segment_model.proofs.Posts.{IsFresh, KeptOut}
-use Rattle.segment_model.proofs.Written.{Tells, has_written, mails_told}
+use Rattle.idle_slaves.specs.of_exchange_model.Exchange.{Speech}
+use Rattle.idle_slaves.specs.of_exchange_model.Rows.{Row, row_heard}
+use Rattle.idle_slaves.specs.of_life_model.Lives.{passes}
+use Rattle.idle_slaves.specs.of_link_model.Counters.{next_counter}
+use Rattle.idle_slaves.specs.of_link_model.Mails.{LinkMail, news}
+use Rattle.served_rings.proofs.of_few_replies.Passings.{sends, skips}
+use Rattle.idle_slaves.specs.of_segment_model.Ends.{Passing, passing_after}
+use Rattle.idle_slaves.specs.of_segment_model.Record.{News}
+use Rattle.idle_slaves.specs.of_segment_model.Seats.{Side}
+use Rattle.served_rings.proofs.of_segment_model.Posts.{IsFresh, KeptOut}
+use Rattle.served_rings.proofs.of_segment_model.Written.{Tells, has_written, mails_told}
 use Rattle.seen_slaves.specs.Told.{NoneTold}
 
 -- HOW FAR IT IS TOLD: while it waits nothing was told of its row, or its mail wasn't sent yet; and once that was sent it is held until its write is done

@@ -1,24 +1,24 @@
 -- A slave's client, from whatever server: what the mails of one protocol are answered leaves the join of SoE alone.
 use Rattle.std.proofs.Common.{◌≡◌, ℕ, Bool, true, false, None, List, [], ◌++◌, length, refl, sym, ap, ◌∙◌}
 use Rattle.std.specs.Prelude.{drop}
-use Rattle.exchange_model.specs.Exchange.{given, plain}
-use Rattle.link_mails.specs.Body.{Body}
-use Rattle.slave_model.specs.Waits.{NeverWaits}
-use Rattle.slave_model.proofs.Dialogues.{tells_all}
-use Rattle.slave_model.proofs.Slaves.{slave_never}
-use Rattle.slave_model.specs.Application.{Parts, ArePartsLawful, station_valid}
-use Rattle.slave_model.specs.Product.{emission, product, protocols, refusal, served, side}
-use Rattle.slave_model.specs.Profile.{Profile, Protocol, IsProfile, serves}
-use Rattle.slave_model.specs.Server.{Server, Seat, ServiceOf, reseated, seat}
-use Rattle.slave_model.proofs.ProductLaw.{one_client}
-use Rattle.slave_model.proofs.Stations.{both, left_of}
-use Rattle.slave_parts.specs.Served.{AreFilesServed, core_of, is_fine, product_whole, protocols_whole, served_whole, side_whole, slave_whole}
-use Rattle.slave_parts.specs.Whole.{gated_whole}
-use Rattle.slave_parts.proofs.JoinedLaw.{given_whole, mine_part}
-use Rattle.slave_parts.proofs.Sides.{side_of, side_speech}
-use Rattle.slave_parts.proofs.SlaveLaw.{client}
-use Rattle.exchange_model.specs.Refusing.{gated}
-use Rattle.state_model.proofs.FamilyLaw.{plain_given_in}
+use Rattle.idle_slaves.specs.of_exchange_model.Exchange.{given, plain}
+use Rattle.idle_slaves.specs.of_link_mails.Body.{Body}
+use Rattle.idle_slaves.specs.of_slave_model.Waits.{NeverWaits}
+use Rattle.idle_slaves.proofs.of_slave_model.Dialogues.{tells_all}
+use Rattle.idle_slaves.proofs.of_slave_model.Slaves.{slave_never}
+use Rattle.idle_slaves.specs.of_slave_model.Application.{Parts, ArePartsLawful, station_valid}
+use Rattle.idle_slaves.specs.of_slave_model.Product.{emission, product, protocols, refusal, served, side}
+use Rattle.idle_slaves.specs.of_slave_model.Profile.{Profile, Protocol, IsProfile, serves}
+use Rattle.idle_slaves.specs.of_slave_model.Server.{Server, Seat, ServiceOf, reseated, seat}
+use Rattle.idle_slaves.proofs.of_slave_model.ProductLaw.{one_client}
+use Rattle.idle_slaves.proofs.of_slave_model.Stations.{both, left_of}
+use Rattle.idle_slaves.specs.of_slave_parts.Served.{AreFilesServed, core_of, is_fine, product_whole, protocols_whole, served_whole, side_whole, slave_whole}
+use Rattle.idle_slaves.specs.of_slave_parts.Whole.{gated_whole}
+use Rattle.idle_slaves.proofs.of_slave_parts.JoinedLaw.{given_whole, mine_part}
+use Rattle.idle_slaves.proofs.of_slave_parts.Sides.{side_of, side_speech}
+use Rattle.idle_slaves.proofs.of_slave_parts.SlaveLaw.{client}
+use Rattle.idle_slaves.specs.of_exchange_model.Refusing.{gated}
+use Rattle.idle_slaves.proofs.of_state_model.FamilyLaw.{plain_given_in}
 
 -- of elements all mails are told at once, whatever the protocol does, in each AL state
 elements_tell : {T F I : Type 0} (o : Parts T F I) (p : Profile) (al : ℕ) (b c : Bool) (v : Seat T F I Protocol.SoE) (q : ServiceOf Protocol.SoE) (hs : List Body) →

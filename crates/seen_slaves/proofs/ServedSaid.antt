@@ -1,23 +1,23 @@
 -- What was heard of the newest service of each slave of a serving is its answer, frame by frame.
 use Rattle.std.proofs.Common.{◌≡◌, ℕ, Bool, true, false, None, List, [], sym, subst}
 use Rattle.std.specs.Prelude.{◌&&◌, All}
-use Rattle.frame_view.specs.Seen.{seen}
-use Rattle.frame_view.specs.View.{Lens}
+use Rattle.idle_slaves.specs.of_frame_view.Seen.{seen}
+use Rattle.idle_slaves.specs.of_frame_view.View.{Lens}
 use Rattle.served_rings.proofs.of_served_places.Each.{each}
-use Rattle.frame_view.specs.Shares.{came_at, given_where}
-use Rattle.life_model.specs.Lives.{Life, Spot, life_lost, life_next}
-use Rattle.life_runs.specs.Led.{Exchanged, Leads, speech_at, is_passed}
-use Rattle.life_runs.specs.of_datagrams.Datagram as Raw
-use Rattle.link_mails.specs.Body.{Body}
-use Rattle.master_duty.specs.Reply.{Reply}
-use Rattle.master_hand.specs.Spoken.{Asked, acknowledged, is_followed}
-use Rattle.master_side.specs.Passing.{news_back, news_lost}
-use Rattle.segment_ring.specs.declared.wire.Fate.{Fate}
-use Rattle.segment_ring.specs.declared.wire.Fate.TheVariants.{Pass, Lost}
-use Rattle.served_rings.specs.of_life_runs.Served.{Serves, ServedTurn, IsServedTurn, IsServedLed, all_serve, new_serves, served_life}
+use Rattle.idle_slaves.specs.of_frame_view.Shares.{came_at, given_where}
+use Rattle.idle_slaves.specs.of_life_model.Lives.{Life, Spot, life_lost, life_next}
+use Rattle.idle_slaves.specs.of_life_runs.Led.{Exchanged, Leads, speech_at, is_passed}
+use Rattle.idle_slaves.specs.of_datagrams.Datagram as Raw
+use Rattle.idle_slaves.specs.of_link_mails.Body.{Body}
+use Rattle.served_rings.specs.of_master_duty.Reply.{Reply}
+use Rattle.served_rings.specs.of_master_hand.Spoken.{Asked, acknowledged, is_followed}
+use Rattle.served_rings.specs.of_master_side.Passing.{news_back, news_lost}
+use Rattle.idle_slaves.specs.of_segment_ring.declared.wire.Fate.{Fate}
+use Rattle.idle_slaves.specs.of_segment_ring.declared.wire.Fate.TheVariants.{Pass, Lost}
+use Rattle.idle_slaves.specs.of_life_runs.Served.{Serves, ServedTurn, IsServedTurn, IsServedLed, all_serve, new_serves, served_life}
 use Rattle.seen_slaves.specs.Rows.{IsNew, SaidSo}
 use Rattle.seen_slaves.proofs.Rows.{each_first}
-use Rattle.slave_model.specs.Moments.{NowAnswered}
+use Rattle.idle_slaves.specs.of_slave_model.Moments.{NowAnswered}
 use Rattle.seen_slaves.proofs.Said as Said
 
 module _ (lens : ℕ → Lens) (silent : (spot : Spot) (q : Asked) → (speech_at lens spot).ends q [] ≡ None) where

@@ -2,35 +2,35 @@
 use Rattle.std.proofs.Common.{◌≡◌, ◌≢◌, ℕ, ◌&&◌, Bool, true, false, Option, Some, None, List, [], ◌∷◌, ◌++◌, length, refl, sym, ap, ◌∙◌, subst, arith, if◌then◌else◌, inl, inr}
 use Rattle.std.specs.Prelude.{nat_le, nat_lt}
 use Rattle.std.proofs.lemmas.Bool.Decides.{nat_tests}
-use Rattle.life_runs.specs.Lives.{came_so, lost_so}
-use Rattle.exchange_model.specs.Exchange.{Speech}
-use Rattle.exchange_model.specs.Rows.{Row, begun, left}
-use Rattle.frame_view.specs.Seen.{seen}
-use Rattle.frame_view.specs.View.{Lens}
-use Rattle.life_model.specs.Lives.{AsksOpen, Era, Life, Spot, era_back, era_lost, era_next, granted, new_side, passes, passing_begins}
-use Rattle.life_model.specs.Own.{own}
-use Rattle.link_mails.specs.Body.{Body}
-use Rattle.link_model.specs.Counters.{next_counter}
-use Rattle.link_model.specs.Frames.{all_accepted}
-use Rattle.link_model.specs.Mails.{LinkMail}
-use Rattle.master_duty.specs.Reply.{Reply}
-use Rattle.master_hand.specs.Spoken.{Asked}
-use Rattle.master_side.specs.Passing.{news_back, news_lost}
-use Rattle.master_tour.proofs.Backs.{own_back, own_lost, seen_aims}
-use Rattle.few_replies.proofs.Passings.{counted_same, counted_told}
-use Rattle.few_replies.specs.Led.{counted_news}
-use Rattle.segment_model.specs.Ends.{Passing}
-use Rattle.segment_model.specs.Record.{Kept, News, all_told, back_news, kept_after, nothing_kept, told_behind}
-use Rattle.segment_model.specs.Returned.{Returns}
-use Rattle.segment_model.specs.Seats.{Side, first_left, next_mail, side_back, side_begins, side_holds, side_lost, writes}
-use Rattle.segment_model.specs.Slaves.{Datagram, grams}
-use Rattle.segment_model.proofs.Posts.{IsFresh, IsKnown, KeptOut, kept_frame}
-use Rattle.segment_model.proofs.Written.{Tells, back_frees, back_lasts, back_tells, frame_tells, has_written, losts_out, none_written}
+use Rattle.idle_slaves.specs.of_life_runs.Lives.{came_so, lost_so}
+use Rattle.idle_slaves.specs.of_exchange_model.Exchange.{Speech}
+use Rattle.idle_slaves.specs.of_exchange_model.Rows.{Row, begun, left}
+use Rattle.idle_slaves.specs.of_frame_view.Seen.{seen}
+use Rattle.idle_slaves.specs.of_frame_view.View.{Lens}
+use Rattle.idle_slaves.specs.of_life_model.Lives.{AsksOpen, Era, Life, Spot, era_back, era_lost, era_next, granted, new_side, passes, passing_begins}
+use Rattle.idle_slaves.specs.of_life_model.Own.{own}
+use Rattle.idle_slaves.specs.of_link_mails.Body.{Body}
+use Rattle.idle_slaves.specs.of_link_model.Counters.{next_counter}
+use Rattle.idle_slaves.specs.of_link_model.Frames.{all_accepted}
+use Rattle.idle_slaves.specs.of_link_model.Mails.{LinkMail}
+use Rattle.served_rings.specs.of_master_duty.Reply.{Reply}
+use Rattle.served_rings.specs.of_master_hand.Spoken.{Asked}
+use Rattle.served_rings.specs.of_master_side.Passing.{news_back, news_lost}
+use Rattle.idle_slaves.proofs.of_master_tour.Backs.{own_back, own_lost, seen_aims}
+use Rattle.served_rings.proofs.of_few_replies.Passings.{counted_same, counted_told}
+use Rattle.served_rings.specs.of_few_replies.Led.{counted_news}
+use Rattle.idle_slaves.specs.of_segment_model.Ends.{Passing}
+use Rattle.idle_slaves.specs.of_segment_model.Record.{Kept, News, all_told, back_news, kept_after, nothing_kept, told_behind}
+use Rattle.idle_slaves.specs.of_segment_model.Returned.{Returns}
+use Rattle.idle_slaves.specs.of_segment_model.Seats.{Side, first_left, next_mail, side_back, side_begins, side_holds, side_lost, writes}
+use Rattle.idle_slaves.specs.of_segment_model.Slaves.{Datagram, grams}
+use Rattle.served_rings.proofs.of_segment_model.Posts.{IsFresh, IsKnown, KeptOut, kept_frame}
+use Rattle.served_rings.proofs.of_segment_model.Written.{Tells, back_frees, back_lasts, back_tells, frame_tells, has_written, losts_out, none_written}
 use Rattle.seen_slaves.proofs.Returned.{SameTold, own_told, returned_told}
 use Rattle.seen_slaves.proofs.Sending.{StageBy, stage_on, untold_heard}
 use Rattle.seen_slaves.specs.Told.{EraTold, IsToldBy, NoneTold}
-use Rattle.state_model.specs.Stated.{Service}
-use Rattle.state_model.specs.Accounts.{Account, Duty, Pick, account_begins, is_free, mails_begin, new_account, starts}
+use Rattle.idle_slaves.specs.of_state_model.Stated.{Service}
+use Rattle.idle_slaves.specs.of_state_model.Accounts.{Account, Duty, Pick, account_begins, is_free, mails_begin, new_account, starts}
 
 abbrev Sides : Type 0
 Sides = Side Body Asked Reply

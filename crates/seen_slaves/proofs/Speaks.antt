@@ -1,9 +1,9 @@
 -- What a master that speaks as a slave's clients do says of whatever it asks.
 use Rattle.std.proofs.Common.{◌≡◌, ◌≢◌, true, false, Option, Some, None, option_map, List, [], ◌∷◌, refl, sym, ap, ◌∙◌, inl, inr}
-use Rattle.slave_model.specs.Waits.{NeverWaits}
+use Rattle.idle_slaves.specs.of_slave_model.Waits.{NeverWaits}
 use Rattle.seen_slaves.specs.Told.{PlansSome}
-use Rattle.run_work.specs.of_life_counts.Epochs.{IsSpeaker, Speaker}
-use Rattle.run_work.specs.of_life_counts.Spoken.{IsNamed}
+use Rattle.served_rings.specs.of_life_counts.Epochs.{IsSpeaker, Speaker}
+use Rattle.served_rings.specs.of_life_counts.Spoken.{IsNamed}
 
 module _ {V M Q R C T : Type 0} (w : Speaker V M Q R C T) (k : IsSpeaker w) where
   abbrev Named : T → Type 0

@@ -2,19 +2,19 @@
 use Rattle.std.proofs.Common.{◌≡◌, ℕ, suc, ◌==◌, Bool, true, false, Option, Some, None, refl, sym, ap, subst, arith, eqb-true, if◌then◌else◌}
 use Rattle.std.specs.Prelude.{◌&&◌, length, nat_lt, List, ⊤}
 use Rattle.std.proofs.lemmas.Bool.Decides.{nat_tests}
-use Rattle.life_runs.specs.Lives.{is_left}
-use Rattle.exchange_model.specs.Exchange.{Speech}
-use Rattle.frame_view.specs.Shares.{given_where}
-use Rattle.life_model.specs.Lives.{Era, Life, Opening, Spot, Stand, clears, era_back, era_lost, era_next, is_shown, last_step, life_back, life_lost, life_next, new_side, opening_back, opens, opens_state, reopening, reopens, reopens_at, returns_to_init, shows_clear, steps_on}
-use Rattle.link_mails.specs.Body.{Body}
-use Rattle.master_duty.specs.Reply.{Reply}
-use Rattle.master_hand.specs.Spoken.{Asked}
-use Rattle.master_side.specs.Counts.{kept_on}
-use Rattle.segment_model.specs.Ends.{Passing}
-use Rattle.segment_model.specs.Record.{Frame, Kept, News, kept_after, nothing_kept}
-use Rattle.segment_model.specs.Seats.{Side}
-use Rattle.segment_model.specs.Slaves.{Datagram, Found}
-use Rattle.state_model.specs.Accounts.{Duty, Pick, Stage}
+use Rattle.idle_slaves.specs.of_life_runs.Lives.{is_left}
+use Rattle.idle_slaves.specs.of_exchange_model.Exchange.{Speech}
+use Rattle.idle_slaves.specs.of_frame_view.Shares.{given_where}
+use Rattle.idle_slaves.specs.of_life_model.Lives.{Era, Life, Opening, Spot, Stand, clears, era_back, era_lost, era_next, is_shown, last_step, life_back, life_lost, life_next, new_side, opening_back, opens, opens_state, reopening, reopens, reopens_at, returns_to_init, shows_clear, steps_on}
+use Rattle.idle_slaves.specs.of_link_mails.Body.{Body}
+use Rattle.served_rings.specs.of_master_duty.Reply.{Reply}
+use Rattle.served_rings.specs.of_master_hand.Spoken.{Asked}
+use Rattle.served_rings.specs.of_master_side.Counts.{kept_on}
+use Rattle.idle_slaves.specs.of_segment_model.Ends.{Passing}
+use Rattle.idle_slaves.specs.of_segment_model.Record.{Frame, Kept, News, kept_after, nothing_kept}
+use Rattle.idle_slaves.specs.of_segment_model.Seats.{Side}
+use Rattle.idle_slaves.specs.of_segment_model.Slaves.{Datagram, Found}
+use Rattle.idle_slaves.specs.of_state_model.Accounts.{Duty, Pick, Stage}
 
 -- the last access of an opening comes behind Init, and so does the one behind each other that doesn't show it
 last_left : (o : Opening) → (o.step == last_step o) ≡ true → is_left o ≡ false

@@ -4,27 +4,27 @@ use Rattle.std.specs.Prelude.{All, nat_le}
 use Rattle.std.proofs.lemmas.Bool.{le-leb}
 use Rattle.std.proofs.lemmas.List.Elements.{All-nil, All-cons, All-head, All-tail}
 use Rattle.idle_slaves.specs.Eager.{Remembered}
-use Rattle.frame_view.specs.Seen.{seen}
-use Rattle.frame_view.specs.View.{Lens}
+use Rattle.idle_slaves.specs.of_frame_view.Seen.{seen}
+use Rattle.idle_slaves.specs.of_frame_view.View.{Lens}
 use Rattle.served_rings.proofs.of_served_places.Each.{each}
-use Rattle.life_model.specs.Lives.{Spot}
-use Rattle.life_runs.specs.First.{lens_of, first_leads, leads_from}
-use Rattle.life_runs.specs.Led.{Exchanged, Leads}
-use Rattle.life_runs.specs.of_datagrams.Datagram as Raw
+use Rattle.idle_slaves.specs.of_life_model.Lives.{Spot}
+use Rattle.idle_slaves.specs.of_life_runs.First.{lens_of, first_leads, leads_from}
+use Rattle.idle_slaves.specs.of_life_runs.Led.{Exchanged, Leads}
+use Rattle.idle_slaves.specs.of_datagrams.Datagram as Raw
 use Rattle.idle_slaves.specs.of_plan_ring.PlanMet.{AllMet}
 use Rattle.idle_slaves.specs.of_plan_ring.Round.{ring_of, AllRound}
-use Rattle.run_frames.specs.Runs.{Progress}
-use Rattle.run_frames.proofs.Leading.{SeenIs}
-use Rattle.segment_plan.specs.Bound.{slowest}
-use Rattle.segment_plan.specs.Sound.{IsPlan, IsSlave}
-use Rattle.segment_plan.specs.declared.plan.Scenario.{Scenario}
-use Rattle.segment_plan.specs.declared.service.Service as Plan
-use Rattle.segment_plan.specs.declared.slave.SlaveSpec.{SlaveSpec}
-use Rattle.segment_ring.specs.declared.wire.Fate.{Fate}
-use Rattle.segment_ring.specs.declared.wire.Fate.TheVariants.{Pass, Lost}
+use Rattle.idle_slaves.specs.of_run_frames.Runs.{Progress}
+use Rattle.idle_slaves.proofs.of_run_frames.Leading.{SeenIs}
+use Rattle.idle_slaves.specs.of_segment_plan.Bound.{slowest}
+use Rattle.idle_slaves.specs.of_segment_plan.Sound.{IsPlan, IsSlave}
+use Rattle.idle_slaves.specs.of_segment_plan.declared.plan.Scenario.{Scenario}
+use Rattle.idle_slaves.specs.of_segment_plan.declared.service.Service as Plan
+use Rattle.idle_slaves.specs.of_segment_plan.declared.slave.SlaveSpec.{SlaveSpec}
+use Rattle.idle_slaves.specs.of_segment_ring.declared.wire.Fate.{Fate}
+use Rattle.idle_slaves.specs.of_segment_ring.declared.wire.Fate.TheVariants.{Pass, Lost}
 use Rattle.seen_slaves.specs.Rows.{IsNew}
 use Rattle.seen_slaves.proofs.Rows.{each_first}
-use Rattle.served_rings.specs.of_life_runs.Served.{Serves, ServedTurn, IsServedFrame, IsServedTurn, all_serve, served_behind, served_life}
+use Rattle.idle_slaves.specs.of_life_runs.Served.{Serves, ServedTurn, IsServedFrame, IsServedTurn, all_serve, served_behind, served_life}
 use Rattle.served_rings.specs.of_served_places.Answered.{ServedWaits}
 use Rattle.served_rings.specs.of_served_places.Toured.{IsServedToured}
 use Rattle.served_rings.proofs.of_served_places.Slaves.{begins_so}

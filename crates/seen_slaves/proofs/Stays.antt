@@ -1,29 +1,29 @@
 -- What is remembered of visits stays while mails are asked.
 use Rattle.std.proofs.Common.{◌≡◌, ℕ, zero, suc, Bool, true, false, Option, None, List, [], ◌∷◌, map, refl, sym, ap, ◌∙◌, subst}
-use Rattle.datagrams.specs.Datagram as Raw
+use Rattle.idle_slaves.specs.of_datagrams.Datagram as Raw
 use Rattle.idle_slaves.specs.Eager.{Remembered, IsAtEnd}
 use Rattle.idle_slaves.specs.Standing.{Standing, Visited}
-use Rattle.frame_view.specs.View.{Lens}
+use Rattle.idle_slaves.specs.of_frame_view.View.{Lens}
 use Rattle.idle_slaves.specs.Held.{HeldUp}
 use Rattle.idle_slaves.specs.Waiting.{Memory}
-use Rattle.life_model.specs.Lives.{Spot}
-use Rattle.life_model.specs.Own.{own}
-use Rattle.life_runs.specs.Led.{Exchanged, speech_at}
-use Rattle.link_mails.specs.Body.{Body}
-use Rattle.link_model.specs.Frames.{all_accepted}
-use Rattle.master_hand.specs.Spoken.{acknowledged}
+use Rattle.idle_slaves.specs.of_life_model.Lives.{Spot}
+use Rattle.idle_slaves.specs.of_life_model.Own.{own}
+use Rattle.idle_slaves.specs.of_life_runs.Led.{Exchanged, speech_at}
+use Rattle.idle_slaves.specs.of_link_mails.Body.{Body}
+use Rattle.idle_slaves.specs.of_link_model.Frames.{all_accepted}
+use Rattle.served_rings.specs.of_master_hand.Spoken.{acknowledged}
 use Rattle.idle_slaves.specs.of_plan_ring.PlanMet.{slave_at}
-use Rattle.run_frames.specs.Led.{AreLed}
-use Rattle.run_frames.specs.Waits.{Waits}
-use Rattle.segment_model.specs.Slaves.{Datagram, grams, serving}
-use Rattle.segment_plan.specs.declared.service.Service as Plan
-use Rattle.segment_plan.specs.declared.slave.SlaveSpec.{SlaveSpec}
-use Rattle.served_rings.specs.of_life_runs.Served.{Keyed, Serves, ServedTurn, AllServedTurn, asked_at, served_behind}
+use Rattle.idle_slaves.specs.of_run_frames.Led.{AreLed}
+use Rattle.idle_slaves.specs.of_run_frames.Waits.{Waits}
+use Rattle.idle_slaves.specs.of_segment_model.Slaves.{Datagram, grams, serving}
+use Rattle.idle_slaves.specs.of_segment_plan.declared.service.Service as Plan
+use Rattle.idle_slaves.specs.of_segment_plan.declared.slave.SlaveSpec.{SlaveSpec}
+use Rattle.idle_slaves.specs.of_life_runs.Served.{Keyed, Serves, ServedTurn, AllServedTurn, asked_at, served_behind}
 use Rattle.served_rings.specs.of_served_places.Toured.{back_under}
 use Rattle.seen_slaves.specs.Eager.{AllStaySo, StaysSo, leads_of, turns_of}
 use Rattle.seen_slaves.proofs.Ready.{AllCounted}
 use Rattle.idle_slaves.specs.of_slave_server.Serving.{Serving}
-use Rattle.slave_node.specs.Node.{Node}
+use Rattle.idle_slaves.specs.of_slave_node.Node.{Node}
 use Rattle.idle_slaves.specs.WaitEager.{AllSilent}
 use Rattle.idle_slaves.proofs.Fits.{Slave, exchange_at}
 use Rattle.idle_slaves.proofs.Lists.{AllQuiet, AllStanding, IsStanding}

@@ -1,34 +1,34 @@
 -- WHATEVER MAIL A SLAVE TAKES, it is counted, or leaves all but unfinished transfers; and a service of a script is counted.
 use Rattle.std.proofs.Common.{◌≡◌, ◌⊎◌, inl, inr, suc, ℕ, Bool, true, false, Option, None, Some, Ok, Err, [], refl}
 use Rattle.std.specs.Prelude.{if◌then◌else◌}
-use Rattle.protocol_models.specs.CoeMails as CoeMails
-use Rattle.protocol_models.specs.CoeOctets as CoeOctets
-use Rattle.protocol_models.specs.CoeServer as CoeServer
+use Rattle.idle_slaves.specs.of_protocol_models.CoeMails as CoeMails
+use Rattle.idle_slaves.specs.of_protocol_models.CoeOctets as CoeOctets
+use Rattle.idle_slaves.specs.of_protocol_models.CoeServer as CoeServer
 use Rattle.seen_slaves.proofs.Choices.{counted}
 use Rattle.seen_slaves.proofs.OfCoe.{coe_quiet}
 use Rattle.seen_slaves.proofs.OfEoe.{eoe_quiet}
 use Rattle.seen_slaves.proofs.OfFoe.{foe_quiet}
 use Rattle.seen_slaves.proofs.OfSoe.{soe_quiet}
 use Rattle.seen_slaves.specs.Counted.{IsCounted, once, never}
-use Rattle.protocol_models.specs.EoeMails as EoeMails
-use Rattle.protocol_models.specs.EoeOctets as EoeOctets
-use Rattle.protocol_models.specs.EoeServer as EoeServer
-use Rattle.exchange_model.specs.Refusing.{gated}
-use Rattle.protocol_models.specs.FoeMails as FoeMails
-use Rattle.protocol_models.specs.FoeOctets as FoeOctets
-use Rattle.protocol_models.specs.FoeServer as FoeServer
-use Rattle.link_mails.specs.Body.{Body}
-use Rattle.mailbox_mail.specs.declared.mail.Kind.{Kind}
-use Rattle.mailbox_mail.specs.declared.mail.MailFault.TheVariants.{Short, LengthPastArea, UnknownKind}
-use Rattle.slave_model.specs.Application.{Parts, station_tables, station_files, station_elements, network}
-use Rattle.slave_model.specs.Product.{protocol_of, refusal, serve, serve_by, serve_other, served}
-use Rattle.slave_model.specs.Profile.{Protocol, Profile, serves}
-use Rattle.slave_model.specs.Server.{Server, ServiceOf, heard_by, one_more, refused_counts, reseated, seat}
-use Rattle.slave_parts.specs.Served.{served_whole}
-use Rattle.slave_parts.specs.Whole.{gated_whole}
-use Rattle.protocol_models.specs.SoeMails as SoeMails
-use Rattle.protocol_models.specs.SoeOctets as SoeOctets
-use Rattle.protocol_models.specs.SoeServer as SoeServer
+use Rattle.idle_slaves.specs.of_protocol_models.EoeMails as EoeMails
+use Rattle.idle_slaves.specs.of_protocol_models.EoeOctets as EoeOctets
+use Rattle.idle_slaves.specs.of_protocol_models.EoeServer as EoeServer
+use Rattle.idle_slaves.specs.of_exchange_model.Refusing.{gated}
+use Rattle.idle_slaves.specs.of_protocol_models.FoeMails as FoeMails
+use Rattle.idle_slaves.specs.of_protocol_models.FoeOctets as FoeOctets
+use Rattle.idle_slaves.specs.of_protocol_models.FoeServer as FoeServer
+use Rattle.idle_slaves.specs.of_link_mails.Body.{Body}
+use Rattle.served_rings.specs.of_mailbox_mail.declared.mail.Kind.{Kind}
+use Rattle.served_rings.specs.of_mailbox_mail.declared.mail.MailFault.TheVariants.{Short, LengthPastArea, UnknownKind}
+use Rattle.idle_slaves.specs.of_slave_model.Application.{Parts, station_tables, station_files, station_elements, network}
+use Rattle.idle_slaves.specs.of_slave_model.Product.{protocol_of, refusal, serve, serve_by, serve_other, served}
+use Rattle.idle_slaves.specs.of_slave_model.Profile.{Protocol, Profile, serves}
+use Rattle.idle_slaves.specs.of_slave_model.Server.{Server, ServiceOf, heard_by, one_more, refused_counts, reseated, seat}
+use Rattle.idle_slaves.specs.of_slave_parts.Served.{served_whole}
+use Rattle.idle_slaves.specs.of_slave_parts.Whole.{gated_whole}
+use Rattle.idle_slaves.specs.of_protocol_models.SoeMails as SoeMails
+use Rattle.idle_slaves.specs.of_protocol_models.SoeOctets as SoeOctets
+use Rattle.idle_slaves.specs.of_protocol_models.SoeServer as SoeServer
 
 module _ {T F I : Type 0} (o : Parts T F I) (p : Profile) (al : ℕ) (j : Server T F I) where
   of_either : (w : Server T F I) → (w.handled ≡ suc j.handled) ⊎ ((w.handled ≡ j.handled) × (w.app ≡ j.app)) → IsCounted j w

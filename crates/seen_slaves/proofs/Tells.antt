@@ -1,15 +1,15 @@
 -- What a frame tells of a mail that is passed on, by the one datagram of its slave.
 use Rattle.std.proofs.Common.{◌≡◌, ℕ, ◌==◌, Bool, true, false, Option, List, [], ◌∷◌, ◌++◌, map, refl, sym, ap, ◌∙◌, subst, append-nil, if◌then◌else◌}
 use Rattle.idle_slaves.specs.EagerFrames.{TellsBy}
-use Rattle.life_model.specs.Own.{own}
-use Rattle.link_mails.specs.Body.{Body}
-use Rattle.link_model.specs.Frames.{Ask}
-use Rattle.link_model.specs.Mails.{news as link_news}
-use Rattle.master_side.specs.Passing.{news_back}
-use Rattle.master_tour.proofs.Unders.{SameAim}
-use Rattle.few_replies.specs.Led.{counted_news}
-use Rattle.segment_model.specs.Record.{Kept, News, all_told, back_news, datagram_news, found_news, gram_news, is_for, last_heard, mail_told}
-use Rattle.segment_model.specs.Slaves.{Access, Datagram, Found, grams}
+use Rattle.idle_slaves.specs.of_life_model.Own.{own}
+use Rattle.idle_slaves.specs.of_link_mails.Body.{Body}
+use Rattle.idle_slaves.specs.of_link_model.Frames.{Ask}
+use Rattle.idle_slaves.specs.of_link_model.Mails.{news as link_news}
+use Rattle.served_rings.specs.of_master_side.Passing.{news_back}
+use Rattle.idle_slaves.proofs.of_master_tour.Unders.{SameAim}
+use Rattle.served_rings.specs.of_few_replies.Led.{counted_news}
+use Rattle.idle_slaves.specs.of_segment_model.Record.{Kept, News, all_told, back_news, datagram_news, found_news, gram_news, is_for, last_heard, mail_told}
+use Rattle.idle_slaves.specs.of_segment_model.Slaves.{Access, Datagram, Found, grams}
 use Rattle.seen_slaves.proofs.Returned.{own_told}
 
 -- datagrams to others tell nothing

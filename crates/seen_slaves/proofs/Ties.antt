@@ -1,22 +1,22 @@
 -- AN EPOCH THAT ITS MASTER LEADS, and what is kept of it turn by turn, where each mail is fair.
 use Rattle.std.proofs.Common.{◌≡◌, ℕ, Bool, true, Option, List, [], ◌∷◌}
-use Rattle.exchange_model.specs.Exchange.{Exchange}
-use Rattle.life_model.specs.Eras.{planned}
-use Rattle.life_model.specs.Lives.{Era, Spot}
-use Rattle.few_replies.specs.Led.{IsAnswered, IsLed, NoneUnheard, turn_next}
-use Rattle.few_replies.specs.Silent.{is_passed}
-use Rattle.few_replies.proofs.Silences.{answered}
-use Rattle.few_replies.proofs.Turns.{heard_law}
-use Rattle.segment_model.specs.Record.{Frame}
-use Rattle.segment_model.specs.Slaves.{Processor, Registers, Slave}
+use Rattle.idle_slaves.specs.of_exchange_model.Exchange.{Exchange}
+use Rattle.idle_slaves.specs.of_life_model.Eras.{planned}
+use Rattle.idle_slaves.specs.of_life_model.Lives.{Era, Spot}
+use Rattle.served_rings.specs.of_few_replies.Led.{IsAnswered, IsLed, NoneUnheard, turn_next}
+use Rattle.served_rings.specs.of_few_replies.Silent.{is_passed}
+use Rattle.served_rings.proofs.of_few_replies.Silences.{answered}
+use Rattle.served_rings.proofs.of_few_replies.Turns.{heard_law}
+use Rattle.idle_slaves.specs.of_segment_model.Record.{Frame}
+use Rattle.idle_slaves.specs.of_segment_model.Slaves.{Processor, Registers, Slave}
 use Rattle.seen_slaves.specs.Brings.{AllAreFair}
-use Rattle.serving_model.specs.Tagged.{Asked, Rowed, Tagged}
-use Rattle.state_model.specs.States.{Table}
-use Rattle.run_work.specs.of_life_counts.Epochs.{IsRun, IsSpeaker, Speaker, between, seeing, seeing_states}
-use Rattle.run_work.proofs.of_life_counts.Led as Led
-use Rattle.run_work.proofs.of_life_counts.Sessions.{begin}
-use Rattle.run_work.proofs.of_life_counts.TaggedWhole.{seeing_lawful, seeing_stated}
-use Rattle.state_model.specs.Tasks.{IsTaskPlan}
+use Rattle.served_rings.specs.of_serving_model.Tagged.{Asked, Rowed, Tagged}
+use Rattle.idle_slaves.specs.of_state_model.States.{Table}
+use Rattle.served_rings.specs.of_life_counts.Epochs.{IsRun, IsSpeaker, Speaker, between, seeing, seeing_states}
+use Rattle.served_rings.proofs.of_life_counts.Led as Led
+use Rattle.served_rings.proofs.of_life_counts.Sessions.{begin}
+use Rattle.served_rings.proofs.of_life_counts.TaggedWhole.{seeing_lawful, seeing_stated}
+use Rattle.idle_slaves.specs.of_state_model.Tasks.{IsTaskPlan}
 
 module _ {V M Q R C T A : Type 0} (w : Speaker V M Q R C T) (k : IsSpeaker w) (fair : AllAreFair w) (u : Exchange V A M T (Option R)) (processor : Processor V) (seer : Processor (Rowed V M Q)) (tables : ℕ → Table) (spot : Spot)
     (run : IsRun w u processor seer (tables spot.station)) (opened : ℕ) (v : V) (r : Registers) (plan : IsTaskPlan (seeing w) (seeing_states w) seer tables (planned spot (between v) r ∷ [])) (answers : r.station ≡ spot.station) where

@@ -1,12 +1,12 @@
 -- Where no mail is held and none is left to tell, a mail that is passed on is on its way no more.
 use Rattle.std.proofs.Common.{◌≡◌, ◌≢◌, Bool, Option, Some, None, List, [], length, sym, ap, ◌∙◌, subst, inl, inr}
 use Rattle.std.specs.Prelude.{drop}
-use Rattle.slave_model.specs.Moments.{NoneLeft}
-use Rattle.exchange_model.specs.Exchange.{Speech, plain}
-use Rattle.exchange_model.specs.Rows.{Row}
-use Rattle.life_model.specs.Lives.{Era}
-use Rattle.few_replies.specs.Heard.{EraPasses}
-use Rattle.segment_model.specs.Ends.{Passing}
+use Rattle.idle_slaves.specs.of_slave_model.Moments.{NoneLeft}
+use Rattle.idle_slaves.specs.of_exchange_model.Exchange.{Speech, plain}
+use Rattle.idle_slaves.specs.of_exchange_model.Rows.{Row}
+use Rattle.idle_slaves.specs.of_life_model.Lives.{Era}
+use Rattle.served_rings.specs.of_few_replies.Heard.{EraPasses}
+use Rattle.idle_slaves.specs.of_segment_model.Ends.{Passing}
 use Rattle.seen_slaves.specs.Told.{EraTold, NoneTold, PlansSome}
 
 module _ {M Q R : Type 0} (x : Speech M Q R) (more : M → Bool) (passed : Q → Bool) (e : Era M Q R) (plans : PlansSome x passed) (passes : EraPasses x more passed e) (told : EraTold e) (free : e.side.halves.out.holding ≡ None) (none : NoneLeft x e.side) where

@@ -3,26 +3,26 @@ use Rattle.std.proofs.Common.{◌≡◌, ℕ, zero, suc, Bool, true, List, [], �
 use Rattle.std.specs.Prelude.{◌&&◌, All, nat_le}
 use Rattle.std.proofs.lemmas.Bool.{le-leb}
 use Rattle.std.proofs.lemmas.List.Elements.{All-nil, All-cons, All-head, All-tail}
-use Rattle.frame_view.specs.Seen.{datagrams_seen, seen}
-use Rattle.frame_view.specs.View.{Lens}
-use Rattle.frame_view.specs.Shares.{came_at}
-use Rattle.life_model.specs.Lives.{AsksOpen, Life, Spot, Stand, life_next}
-use Rattle.life_runs.specs.Led.{Exchanged, Leads, speech_at, gives_up_at, is_passed}
-use Rattle.life_runs.specs.of_datagrams.Datagram as Raw
-use Rattle.link_mails.specs.Body.{Body}
-use Rattle.master_duty.specs.Reply.{Reply}
-use Rattle.master_hand.specs.Spoken.{Asked, acknowledged, is_followed}
-use Rattle.master_side.specs.Passing.{news_back, news_lost}
-use Rattle.master_side.specs.Counts.{kept_on}
-use Rattle.run_frames.specs.Answers.{AllReturned}
-use Rattle.run_frames.proofs.Leading.{SeenIs, led_view}
-use Rattle.run_frames.proofs.Toured.{front_returned, last_returned}
-use Rattle.segment_model.specs.Record.{Kept}
-use Rattle.segment_model.specs.Returned.{Returns}
-use Rattle.segment_model.specs.Slaves.{Datagram}
-use Rattle.segment_ring.specs.declared.wire.Fate.{Fate}
-use Rattle.segment_ring.specs.declared.wire.Fate.TheVariants.{Pass, Lost}
-use Rattle.served_rings.specs.of_life_runs.Served.{Keyed, Serves, ServedTurn, AllServedTurn, IsServedLed, IsServedTurn, all_serve, asked_at, new_serves, recorded, served_behind, served_life}
+use Rattle.idle_slaves.specs.of_frame_view.Seen.{datagrams_seen, seen}
+use Rattle.idle_slaves.specs.of_frame_view.View.{Lens}
+use Rattle.idle_slaves.specs.of_frame_view.Shares.{came_at}
+use Rattle.idle_slaves.specs.of_life_model.Lives.{AsksOpen, Life, Spot, Stand, life_next}
+use Rattle.idle_slaves.specs.of_life_runs.Led.{Exchanged, Leads, speech_at, gives_up_at, is_passed}
+use Rattle.idle_slaves.specs.of_datagrams.Datagram as Raw
+use Rattle.idle_slaves.specs.of_link_mails.Body.{Body}
+use Rattle.served_rings.specs.of_master_duty.Reply.{Reply}
+use Rattle.served_rings.specs.of_master_hand.Spoken.{Asked, acknowledged, is_followed}
+use Rattle.served_rings.specs.of_master_side.Passing.{news_back, news_lost}
+use Rattle.served_rings.specs.of_master_side.Counts.{kept_on}
+use Rattle.idle_slaves.specs.of_run_frames.Answers.{AllReturned}
+use Rattle.idle_slaves.proofs.of_run_frames.Leading.{SeenIs, led_view}
+use Rattle.idle_slaves.proofs.of_run_frames.Toured.{front_returned, last_returned}
+use Rattle.idle_slaves.specs.of_segment_model.Record.{Kept}
+use Rattle.idle_slaves.specs.of_segment_model.Returned.{Returns}
+use Rattle.idle_slaves.specs.of_segment_model.Slaves.{Datagram}
+use Rattle.idle_slaves.specs.of_segment_ring.declared.wire.Fate.{Fate}
+use Rattle.idle_slaves.specs.of_segment_ring.declared.wire.Fate.TheVariants.{Pass, Lost}
+use Rattle.idle_slaves.specs.of_life_runs.Served.{Keyed, Serves, ServedTurn, AllServedTurn, IsServedLed, IsServedTurn, all_serve, asked_at, new_serves, recorded, served_behind, served_life}
 use Rattle.seen_slaves.specs.Rows.{IsNew, ToldSo}
 use Rattle.seen_slaves.proofs.Rows.{each_first}
 use Rattle.seen_slaves.proofs.Stands.{At, back_at, lost_at, next_at}

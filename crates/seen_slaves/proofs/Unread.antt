@@ -6,32 +6,32 @@ use Rattle.idle_slaves.specs.EagerFrames.{One}
 use Rattle.idle_slaves.specs.Standing.{Standing}
 use Rattle.idle_slaves.proofs.Choices.{stand_next}
 use Rattle.idle_slaves.proofs.Sent.{gram_is, met, met_ask, read_counter}
-use Rattle.frame_view.specs.View.{Lens}
+use Rattle.idle_slaves.specs.of_frame_view.View.{Lens}
 use Rattle.idle_slaves.proofs.Waiting.{holds}
-use Rattle.life_model.specs.Lives.{Life, Stand, life_next}
-use Rattle.life_model.specs.Own.{own}
-use Rattle.life_runs.specs.Led.{Leads, speech_at, is_passed}
-use Rattle.link_mails.specs.Body.{Body}
-use Rattle.link_model.specs.Agree.{Knows, last_met_of, unread}
-use Rattle.link_model.specs.Counters.{next_counter}
-use Rattle.link_model.specs.Frames.{Ask, all_accepted, counted, gram_meets, halves_accept, mail_back, read_done}
-use Rattle.link_model.specs.Link.{Halves}
-use Rattle.link_model.specs.Mails.{LinkMail, counter_in, news}
-use Rattle.link_model.specs.Master.{InHalf, InState as HalfState}
-use Rattle.link_model.specs.Slave.{InSide}
-use Rattle.master_duty.specs.Reply.{Reply}
-use Rattle.master_hand.specs.Spoken.{Asked, acknowledged, is_followed}
-use Rattle.master_tour.proofs.Unders.{SameAim}
+use Rattle.idle_slaves.specs.of_life_model.Lives.{Life, Stand, life_next}
+use Rattle.idle_slaves.specs.of_life_model.Own.{own}
+use Rattle.idle_slaves.specs.of_life_runs.Led.{Leads, speech_at, is_passed}
+use Rattle.idle_slaves.specs.of_link_mails.Body.{Body}
+use Rattle.idle_slaves.specs.of_link_model.Agree.{Knows, last_met_of, unread}
+use Rattle.idle_slaves.specs.of_link_model.Counters.{next_counter}
+use Rattle.idle_slaves.specs.of_link_model.Frames.{Ask, all_accepted, counted, gram_meets, halves_accept, mail_back, read_done}
+use Rattle.idle_slaves.specs.of_link_model.Link.{Halves}
+use Rattle.idle_slaves.specs.of_link_model.Mails.{LinkMail, counter_in, news}
+use Rattle.idle_slaves.specs.of_link_model.Master.{InHalf, InState as HalfState}
+use Rattle.idle_slaves.specs.of_link_model.Slave.{InSide}
+use Rattle.served_rings.specs.of_master_duty.Reply.{Reply}
+use Rattle.served_rings.specs.of_master_hand.Spoken.{Asked, acknowledged, is_followed}
+use Rattle.idle_slaves.proofs.of_master_tour.Unders.{SameAim}
 use Rattle.idle_slaves.specs.of_plan_ring.PlanMet.{slave_at}
-use Rattle.run_frames.proofs.Access.{begins_same, holds_same}
-use Rattle.run_frames.specs.Goes.{Under}
-use Rattle.run_frames.specs.Waits.{Waits}
-use Rattle.segment_model.specs.Record.{did_read, is_for, is_read}
-use Rattle.segment_model.specs.Slaves.{Datagram, frame_after, grams, serving}
-use Rattle.segment_plan.specs.declared.service.Service as Plan
-use Rattle.segment_plan.specs.declared.slave.SlaveSpec.{SlaveSpec}
+use Rattle.idle_slaves.proofs.of_run_frames.Access.{begins_same, holds_same}
+use Rattle.idle_slaves.specs.of_run_frames.Goes.{Under}
+use Rattle.idle_slaves.specs.of_run_frames.Waits.{Waits}
+use Rattle.idle_slaves.specs.of_segment_model.Record.{did_read, is_for, is_read}
+use Rattle.idle_slaves.specs.of_segment_model.Slaves.{Datagram, frame_after, grams, serving}
+use Rattle.idle_slaves.specs.of_segment_plan.declared.service.Service as Plan
+use Rattle.idle_slaves.specs.of_segment_plan.declared.slave.SlaveSpec.{SlaveSpec}
 use Rattle.idle_slaves.specs.of_slave_server.Serving.{Serving}
-use Rattle.slave_node.specs.Node.{Node as Real}
+use Rattle.idle_slaves.specs.of_slave_node.Node.{Node as Real}
 use Rattle.idle_slaves.proofs.Fits.{IsFit, IsReady, Slave, exchange_at, next_of}
 use Rattle.idle_slaves.proofs.Lists.{IsStanding}
 use Rattle.idle_slaves.proofs.One.{quiet_at}

@@ -1,31 +1,31 @@
 -- Frame by frame of a serving.
 use Rattle.std.proofs.Common.{◌≡◌, ◌⊎◌, ◌≤◌, ◌<◌, ℕ, zero, suc, Bool, Option, None, List, [], ◌∷◌, ◌++◌, map, length, refl, sym, ap, ◌∙◌, subst, arith, inl, inr}
 use Rattle.idle_slaves.specs.Eager.{Remembered}
-use Rattle.exchange_model.specs.Exchange.{Speech}
-use Rattle.frame_view.specs.Seen.{seen, datagrams_seen}
-use Rattle.frame_view.specs.View.{Lens}
-use Rattle.life_model.specs.Lives.{Spot}
-use Rattle.life_runs.specs.First.{lens_of, first_leads}
-use Rattle.life_runs.specs.Led.{Exchanged, speech_at, is_passed, gives_up_at, missed_behind}
-use Rattle.link_mails.specs.Body.{Body}
-use Rattle.master_duty.specs.Reply.{Reply}
-use Rattle.master_hand.specs.Spoken.{Asked, acknowledged, is_followed}
+use Rattle.idle_slaves.specs.of_exchange_model.Exchange.{Speech}
+use Rattle.idle_slaves.specs.of_frame_view.Seen.{seen, datagrams_seen}
+use Rattle.idle_slaves.specs.of_frame_view.View.{Lens}
+use Rattle.idle_slaves.specs.of_life_model.Lives.{Spot}
+use Rattle.idle_slaves.specs.of_life_runs.First.{lens_of, first_leads}
+use Rattle.idle_slaves.specs.of_life_runs.Led.{Exchanged, speech_at, is_passed, gives_up_at, missed_behind}
+use Rattle.idle_slaves.specs.of_link_mails.Body.{Body}
+use Rattle.served_rings.specs.of_master_duty.Reply.{Reply}
+use Rattle.served_rings.specs.of_master_hand.Spoken.{Asked, acknowledged, is_followed}
 use Rattle.idle_slaves.specs.of_plan_ring.PlanMet.{AllMet}
 use Rattle.idle_slaves.specs.of_plan_ring.Round.{ring_of, ring_after, AllRound}
 use Rattle.idle_slaves.proofs.of_plan_ring.Lives.{front_round}
 use Rattle.idle_slaves.specs.of_plan_ring.Hands.{AllHand}
 use Rattle.idle_slaves.proofs.of_plan_ring.Hands.{hands_back, hands_lost}
 use Rattle.idle_slaves.proofs.of_plan_ring.Repairs.{all_repaired, none_repaired}
-use Rattle.run_frames.specs.Clocks.{repair_of, gains_all}
-use Rattle.run_frames.specs.Goes.{Under, AllUnder, AllClocked}
-use Rattle.run_frames.specs.Led.{AreLed}
-use Rattle.run_frames.specs.Orders.{opened_on}
-use Rattle.run_frames.specs.Runs.{Progress}
-use Rattle.run_frames.specs.Waits.{Waits, all_anew, all_on, waits_behind, SomeWaits}
-use Rattle.run_frames.proofs.Leading.{SeenIs, led_view}
-use Rattle.segment_plan.specs.declared.plan.Scenario.{Scenario}
-use Rattle.segment_ring.specs.declared.wire.Fate.TheVariants.{Pass, Lost}
-use Rattle.served_rings.specs.of_life_runs.Served.{Keyed, MayAsk, Serves, ServedTurn, IsServedFrame, IsServedLed, all_serve, asked_at}
+use Rattle.idle_slaves.specs.of_run_frames.Clocks.{repair_of, gains_all}
+use Rattle.idle_slaves.specs.of_run_frames.Goes.{Under, AllUnder, AllClocked}
+use Rattle.idle_slaves.specs.of_run_frames.Led.{AreLed}
+use Rattle.idle_slaves.specs.of_run_frames.Orders.{opened_on}
+use Rattle.idle_slaves.specs.of_run_frames.Runs.{Progress}
+use Rattle.idle_slaves.specs.of_run_frames.Waits.{Waits, all_anew, all_on, waits_behind, SomeWaits}
+use Rattle.idle_slaves.proofs.of_run_frames.Leading.{SeenIs, led_view}
+use Rattle.idle_slaves.specs.of_segment_plan.declared.plan.Scenario.{Scenario}
+use Rattle.idle_slaves.specs.of_segment_ring.declared.wire.Fate.TheVariants.{Pass, Lost}
+use Rattle.idle_slaves.specs.of_life_runs.Served.{Keyed, MayAsk, Serves, ServedTurn, IsServedFrame, IsServedLed, all_serve, asked_at}
 use Rattle.served_rings.specs.of_served_places.Answered.{ServedWaits}
 use Rattle.served_rings.specs.of_served_places.Toured.{IsServedToured, back_under, first_served, lost_under, serves_on, served_back, served_lost, still_served, waits_served}
 use Rattle.served_rings.proofs.of_served_places.Slaves.{all_led_back, all_led_lost, all_under, leads_asked}
@@ -34,7 +34,7 @@ use Rattle.seen_slaves.proofs.Counted.{counted_anew, counted_on}
 use Rattle.seen_slaves.proofs.Ready.{AllCounted, AllStationed, all_ready, nexts_served, nexts_then}
 use Rattle.seen_slaves.proofs.Stays.{all_silent, all_stay, counted_asked, paces_asked, paces_served}
 use Rattle.idle_slaves.specs.of_slave_server.Serving.{Serving}
-use Rattle.slave_node.specs.Node.{Node}
+use Rattle.idle_slaves.specs.of_slave_node.Node.{Node}
 use Rattle.idle_slaves.specs.WaitEager.{AllRest, AllSilent}
 use Rattle.idle_slaves.proofs.Fits.{AllReady, AllSeated, Slave, nexts_of}
 use Rattle.idle_slaves.proofs.Lists.{still_same, all_same, AllStanding, all_begin, all_quiet, all_stand, repaired}

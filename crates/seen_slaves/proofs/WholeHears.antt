@@ -1,34 +1,34 @@
 -- A slave's client hears first, from whatever server.
 use Rattle.std.proofs.Common.{◌≡◌, ℕ, Bool, true, false, None, List, [], ◌∷◌, ◌++◌, length, refl, sym, ap, ◌∙◌}
 use Rattle.std.specs.Prelude.{drop}
-use Rattle.exchange_model.specs.Areas.{Areas, AreMailboxes}
-use Rattle.exchange_model.specs.Exchange.{given, plain}
-use Rattle.exchange_model.proofs.Lists.{prefix_refl}
-use Rattle.exchange_model.specs.Refusing.{Refusal, refused_serve}
-use Rattle.link_mails.specs.Body.{Body}
-use Rattle.slave_model.specs.Hears.{HearsFirst}
-use Rattle.slave_model.proofs.HearsDialogues.{at_last, not_none}
-use Rattle.slave_model.proofs.HearsForms.{lifted_hears, refusing_hears}
-use Rattle.slave_model.proofs.HearsSlaves.{slave_hears}
-use Rattle.slave_model.specs.Application.{Parts, ArePartsLawful, station_elements, station_valid}
-use Rattle.slave_model.specs.Product.{emission, protocols, refusal, served, side}
-use Rattle.slave_model.specs.Profile.{Profile, Protocol, IsProfile, areas_of, serves}
-use Rattle.slave_model.specs.Server.{Server, Seat, ServiceOf, heard_by, reseated, seat, told_by}
-use Rattle.slave_model.proofs.ProductLaw.{refusals}
-use Rattle.slave_model.proofs.Sides.{sized, told_spells}
-use Rattle.slave_model.proofs.Stations.{both, elements_law, left_of}
-use Rattle.slave_parts.specs.Served.{AreFilesServed, core_of, is_fine, product_whole, protocols_whole, served_whole, side_whole, slave_whole}
-use Rattle.slave_parts.specs.SoeServed.{soe_served}
-use Rattle.slave_parts.specs.Whole.{gated_whole}
-use Rattle.slave_parts.proofs.JoinedLaw.{mine_part, plain_whole, told_part}
-use Rattle.slave_parts.proofs.ServedLaw.{kept}
-use Rattle.slave_parts.proofs.Sides.{side_of, side_speech}
-use Rattle.slave_parts.proofs.SlaveLaw.{client}
-use Rattle.slave_parts.proofs.SoeSpelled.{served_spells}
-use Rattle.protocol_models.specs.Elements.{Elements, AreLawful}
-use Rattle.protocol_models.specs.SoeMails as SoeMails
-use Rattle.protocol_models.specs.SoeOctets as SoeOctets
-use Rattle.state_model.proofs.FamilyLaw.{plain_given_in}
+use Rattle.idle_slaves.specs.of_exchange_model.Areas.{Areas, AreMailboxes}
+use Rattle.idle_slaves.specs.of_exchange_model.Exchange.{given, plain}
+use Rattle.idle_slaves.proofs.of_exchange_model.Lists.{prefix_refl}
+use Rattle.idle_slaves.specs.of_exchange_model.Refusing.{Refusal, refused_serve}
+use Rattle.idle_slaves.specs.of_link_mails.Body.{Body}
+use Rattle.idle_slaves.specs.of_slave_model.Hears.{HearsFirst}
+use Rattle.idle_slaves.proofs.of_slave_model.HearsDialogues.{at_last, not_none}
+use Rattle.idle_slaves.proofs.of_slave_model.HearsForms.{lifted_hears, refusing_hears}
+use Rattle.idle_slaves.proofs.of_slave_model.HearsSlaves.{slave_hears}
+use Rattle.idle_slaves.specs.of_slave_model.Application.{Parts, ArePartsLawful, station_elements, station_valid}
+use Rattle.idle_slaves.specs.of_slave_model.Product.{emission, protocols, refusal, served, side}
+use Rattle.idle_slaves.specs.of_slave_model.Profile.{Profile, Protocol, IsProfile, areas_of, serves}
+use Rattle.idle_slaves.specs.of_slave_model.Server.{Server, Seat, ServiceOf, heard_by, reseated, seat, told_by}
+use Rattle.idle_slaves.proofs.of_slave_model.ProductLaw.{refusals}
+use Rattle.idle_slaves.proofs.of_slave_model.Sides.{sized, told_spells}
+use Rattle.idle_slaves.proofs.of_slave_model.Stations.{both, elements_law, left_of}
+use Rattle.idle_slaves.specs.of_slave_parts.Served.{AreFilesServed, core_of, is_fine, product_whole, protocols_whole, served_whole, side_whole, slave_whole}
+use Rattle.idle_slaves.specs.of_slave_parts.SoeServed.{soe_served}
+use Rattle.idle_slaves.specs.of_slave_parts.Whole.{gated_whole}
+use Rattle.idle_slaves.proofs.of_slave_parts.JoinedLaw.{mine_part, plain_whole, told_part}
+use Rattle.idle_slaves.proofs.of_slave_parts.ServedLaw.{kept}
+use Rattle.idle_slaves.proofs.of_slave_parts.Sides.{side_of, side_speech}
+use Rattle.idle_slaves.proofs.of_slave_parts.SlaveLaw.{client}
+use Rattle.idle_slaves.proofs.of_slave_parts.SoeSpelled.{served_spells}
+use Rattle.idle_slaves.specs.of_protocol_models.Elements.{Elements, AreLawful}
+use Rattle.idle_slaves.specs.of_protocol_models.SoeMails as SoeMails
+use Rattle.idle_slaves.specs.of_protocol_models.SoeOctets as SoeOctets
+use Rattle.idle_slaves.proofs.of_state_model.FamilyLaw.{plain_given_in}
 use Rattle.seen_slaves.proofs.Served.{alone, full_same, heard_same}
 
 -- of elements nothing comes before the last mail, whatever join stood before

@@ -1,15 +1,15 @@
 -- WHAT ONE FRAME MORE BRINGS of an open slave whose master passes mails on.
 use Rattle.std.specs.Prelude.{Option, List, length}
-use Rattle.exchange_model.specs.Exchange.{Exchange}
-use Rattle.life_model.specs.Lives.{AsksOpen, Era, Spot, era_next}
-use Rattle.life_model.specs.Own.{own}
-use Rattle.link_model.specs.Frames.{all_accepted}
-use Rattle.master_side.specs.Due.{EachDue}
-use Rattle.few_replies.specs.Led.{AreSingle}
-use Rattle.segment_model.specs.Record.{Frame}
-use Rattle.segment_model.specs.Slaves.{Datagram, Slave, frame_after, grams}
-use Rattle.run_work.specs.of_life_counts.Epochs.{AllFair, Speaker}
-use Rattle.state_model.specs.Accounts.{Pick, Started}
+use Rattle.idle_slaves.specs.of_exchange_model.Exchange.{Exchange}
+use Rattle.idle_slaves.specs.of_life_model.Lives.{AsksOpen, Era, Spot, era_next}
+use Rattle.idle_slaves.specs.of_life_model.Own.{own}
+use Rattle.idle_slaves.specs.of_link_model.Frames.{all_accepted}
+use Rattle.served_rings.specs.of_master_side.Due.{EachDue}
+use Rattle.served_rings.specs.of_few_replies.Led.{AreSingle}
+use Rattle.idle_slaves.specs.of_segment_model.Record.{Frame}
+use Rattle.idle_slaves.specs.of_segment_model.Slaves.{Datagram, Slave, frame_after, grams}
+use Rattle.served_rings.specs.of_life_counts.Epochs.{AllFair, Speaker}
+use Rattle.idle_slaves.specs.of_state_model.Accounts.{Pick, Started}
 
 module _ {V M Q R C T : Type 0} (w : Speaker V M Q R C T) where
   -- each mail is fair to the slave, whatever comes into hand

@@ -1,17 +1,17 @@
 -- WHAT THE NUMBER OF HANDLED SERVICES TELLS OF A SLAVE: what isn't counted changes nothing but unfinished transfers and the AL state.
 use Rattle.std.specs.Prelude.{◌≡◌, ◌≤◌, ℕ, suc, Bool, List, take}
-use Rattle.link_mails.specs.Body.{Body}
-use Rattle.life_model.specs.Lives.{Era}
-use Rattle.master_duty.specs.Reply.{Reply}
-use Rattle.master_hand.specs.Spoken.{Asked}
+use Rattle.idle_slaves.specs.of_link_mails.Body.{Body}
+use Rattle.idle_slaves.specs.of_life_model.Lives.{Era}
+use Rattle.served_rings.specs.of_master_duty.Reply.{Reply}
+use Rattle.served_rings.specs.of_master_hand.Spoken.{Asked}
 use Rattle.served_rings.specs.Served.{server_behind}
 use Rattle.served_rings.specs.Speakers.{cleared_whole}
-use Rattle.slave_model.specs.Profile.{Profile}
-use Rattle.slave_model.specs.Server as Slave
-use Rattle.slave_parts.specs.Parts.{Server}
-use Rattle.state_model.specs.Families.{InState}
-use Rattle.state_model.specs.Stated.{Service}
-use Rattle.state_model.specs.Promise.{services_in}
+use Rattle.idle_slaves.specs.of_slave_model.Profile.{Profile}
+use Rattle.idle_slaves.specs.of_slave_model.Server as Slave
+use Rattle.idle_slaves.specs.of_slave_parts.Parts.{Server}
+use Rattle.idle_slaves.specs.of_state_model.Families.{InState}
+use Rattle.idle_slaves.specs.of_state_model.Stated.{Service}
+use Rattle.idle_slaves.specs.of_state_model.Promise.{services_in}
 
 -- A STEP of a server: it is counted, once; or it isn't, and leaves objects, files, IDNs, addresses and the frame number of the next packet as they were
 pub data IsCounted {T F I : Type 0} (before behind : Slave.Server T F I) : Type 0 where

@@ -1,13 +1,13 @@
 -- What a frame that came back brings of a serving's slaves is due.
 use Rattle.std.specs.Prelude.{◌≡◌, ℕ, List, [], ◌∷◌, ◌++◌, length, map}
-use Rattle.frame_view.specs.Seen.{seen}
-use Rattle.life_runs.specs.First.{first_leads, lens_of}
-use Rattle.life_runs.specs.Led.{Exchanged}
+use Rattle.idle_slaves.specs.of_frame_view.Seen.{seen}
+use Rattle.idle_slaves.specs.of_life_runs.First.{first_leads, lens_of}
+use Rattle.idle_slaves.specs.of_life_runs.Led.{Exchanged}
 use Rattle.idle_slaves.specs.of_plan_ring.Dues.{AllDue}
 use Rattle.idle_slaves.specs.of_plan_ring.Round.{AllRound, ring_of}
-use Rattle.segment_plan.specs.declared.plan.Scenario.{Scenario}
-use Rattle.segment_ring.specs.declared.wire.Fate.TheVariants.{Pass}
-use Rattle.served_rings.specs.of_life_runs.Served.{Serves, ServedTurn, IsServedFrame, IsServedLed, all_serve}
+use Rattle.idle_slaves.specs.of_segment_plan.declared.plan.Scenario.{Scenario}
+use Rattle.idle_slaves.specs.of_segment_ring.declared.wire.Fate.TheVariants.{Pass}
+use Rattle.idle_slaves.specs.of_life_runs.Served.{Serves, ServedTurn, IsServedFrame, IsServedLed, all_serve}
 
 -- THE SLAVES OF A PLAN SEND NO MAIL THAT ISN'T DUE, by each frame of a serving that came back
 abbrev pub ServedMailsAreDue : Scenario → Type 0

@@ -1,17 +1,17 @@
 -- A SERVING WHOSE MASTER MAKES NO VISIT IN VAIN where more could go on, and no frame where all is done.
 use Rattle.std.specs.Prelude.{◌≡◌, ℕ, suc, Option, List, [], ◌∷◌, map, ⊤}
 use Rattle.idle_slaves.specs.Eager.{Remembered, AllEager, AllGetNone, AllRemember, GetsNone}
-use Rattle.frame_view.specs.Seen.{seen}
-use Rattle.life_runs.specs.First.{lens_of}
-use Rattle.life_runs.specs.Led.{Exchanged, Leads, Turn, gives_up_at}
-use Rattle.link_mails.specs.Body.{Body}
-use Rattle.master_duty.specs.Reply.{Reply}
-use Rattle.master_hand.specs.Spoken.{Asked}
+use Rattle.idle_slaves.specs.of_frame_view.Seen.{seen}
+use Rattle.idle_slaves.specs.of_life_runs.First.{lens_of}
+use Rattle.idle_slaves.specs.of_life_runs.Led.{Exchanged, Leads, Turn, gives_up_at}
+use Rattle.idle_slaves.specs.of_link_mails.Body.{Body}
+use Rattle.served_rings.specs.of_master_duty.Reply.{Reply}
+use Rattle.served_rings.specs.of_master_hand.Spoken.{Asked}
 use Rattle.idle_slaves.specs.of_plan_ring.Round.{ring_of, ring_after}
-use Rattle.run_frames.specs.Clocks.{Clocked}
-use Rattle.run_frames.specs.Runs.{Progress}
-use Rattle.segment_plan.specs.declared.plan.Scenario.{Scenario}
-use Rattle.served_rings.specs.of_life_runs.Served.{Serves, ServedTurn, served_behind}
+use Rattle.idle_slaves.specs.of_run_frames.Clocks.{Clocked}
+use Rattle.idle_slaves.specs.of_run_frames.Runs.{Progress}
+use Rattle.idle_slaves.specs.of_segment_plan.declared.plan.Scenario.{Scenario}
+use Rattle.idle_slaves.specs.of_life_runs.Served.{Serves, ServedTurn, served_behind}
 use Rattle.served_rings.specs.of_served_places.Toured.{IsServedToured, still_served}
 use Rattle.idle_slaves.specs.WaitEager.{AllRest, AllSilent}
 

@@ -1,20 +1,20 @@
 -- WHAT AN OPEN SLAVE IS TO A MASTER that passes mails on beside services.
 use Rattle.std.specs.Prelude.{◌≡◌, ℕ, Bool, false, Some, None, []}
-use Rattle.slave_model.specs.Moments.{IsFree, NoneLeft}
-use Rattle.exchange_model.specs.Exchange.{Exchange, Speech}
-use Rattle.exchange_model.specs.Rows.{Row, ends_unheard, left}
+use Rattle.idle_slaves.specs.of_slave_model.Moments.{IsFree, NoneLeft}
+use Rattle.idle_slaves.specs.of_exchange_model.Exchange.{Exchange, Speech}
+use Rattle.idle_slaves.specs.of_exchange_model.Rows.{Row, ends_unheard, left}
 use Rattle.idle_slaves.specs.Going.{IsCome}
 use Rattle.idle_slaves.specs.Links.{HasLink}
 use Rattle.idle_slaves.specs.Steps.{StepsAlone}
-use Rattle.life_model.specs.Lives.{Era}
-use Rattle.link_model.specs.Master.{InState}
-use Rattle.few_replies.specs.Heard.{EraPasses}
-use Rattle.segment_model.specs.Ends.{Passing}
-use Rattle.segment_model.specs.Laws.{IsSettled}
-use Rattle.segment_model.specs.Slaves.{Processor, Slave}
+use Rattle.idle_slaves.specs.of_life_model.Lives.{Era}
+use Rattle.idle_slaves.specs.of_link_model.Master.{InState}
+use Rattle.served_rings.specs.of_few_replies.Heard.{EraPasses}
+use Rattle.idle_slaves.specs.of_segment_model.Ends.{Passing}
+use Rattle.idle_slaves.specs.of_segment_model.Laws.{IsSettled}
+use Rattle.idle_slaves.specs.of_segment_model.Slaves.{Processor, Slave}
 use Rattle.seen_slaves.specs.Last.{LastPasses}
-use Rattle.state_model.specs.States.{Phase, Table}
-use Rattle.state_model.specs.Accounts.{Duty, Stage}
+use Rattle.idle_slaves.specs.of_state_model.States.{Phase, Table}
+use Rattle.idle_slaves.specs.of_state_model.Accounts.{Duty, Stage}
 
 -- NOTHING IS LEFT of a slave: it is settled, and its master has no mail and no state service in hand, nothing in doubt and nothing to tell
 pub record HasNone {V M Q R : Type 0} (y : Speech M Q R) (e : Era M Q R) (n : Slave V M) : Type 0 where

@@ -1,17 +1,17 @@
 -- THE NEWEST SERVICE while a mail that is passed on isn't over.
 use Rattle.std.specs.Prelude.{◌≡◌, ℕ, true, Bool, Some, List}
-use Rattle.slave_model.specs.Moments.{HasNothing, IsMailsLast}
-use Rattle.exchange_model.specs.Exchange.{Exchange, IsLawful}
-use Rattle.exchange_model.specs.Rows.{Row}
-use Rattle.life_model.specs.Eras.{EraIs}
-use Rattle.life_model.specs.Lives.{Era, Spot}
-use Rattle.slave_model.specs.Waits.{NeverWaits}
-use Rattle.few_replies.specs.Heard.{EraPasses, LastTold}
-use Rattle.segment_model.specs.Ends.{Passing}
-use Rattle.segment_model.specs.Record.{Frame}
-use Rattle.segment_model.specs.Slaves.{Processor, Registers, Slave}
-use Rattle.state_model.specs.Stated.{Stated, IsStated}
-use Rattle.state_model.specs.States.{Table}
+use Rattle.idle_slaves.specs.of_slave_model.Moments.{HasNothing, IsMailsLast}
+use Rattle.idle_slaves.specs.of_exchange_model.Exchange.{Exchange, IsLawful}
+use Rattle.idle_slaves.specs.of_exchange_model.Rows.{Row}
+use Rattle.idle_slaves.specs.of_life_model.Eras.{EraIs}
+use Rattle.idle_slaves.specs.of_life_model.Lives.{Era, Spot}
+use Rattle.idle_slaves.specs.of_slave_model.Waits.{NeverWaits}
+use Rattle.served_rings.specs.of_few_replies.Heard.{EraPasses, LastTold}
+use Rattle.idle_slaves.specs.of_segment_model.Ends.{Passing}
+use Rattle.idle_slaves.specs.of_segment_model.Record.{Frame}
+use Rattle.idle_slaves.specs.of_segment_model.Slaves.{Processor, Registers, Slave}
+use Rattle.idle_slaves.specs.of_state_model.Stated.{Stated, IsStated}
+use Rattle.idle_slaves.specs.of_state_model.States.{Table}
 
 -- it is by mails
 abbrev pub LastPasses : {M Q R : Type 0} → Era M Q R → Type 0

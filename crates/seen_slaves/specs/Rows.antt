@@ -1,13 +1,13 @@
 -- THE MAIL IN HAND OF A SLAVE OF A SERVING that is passed on.
 use Rattle.std.specs.Prelude.{◌≡◌, ◌≤◌, ℕ}
-use Rattle.frame_view.specs.View.{Lens}
-use Rattle.life_model.specs.Lives.{Stand, new_life}
-use Rattle.life_runs.specs.Led.{Leads, speech_at, is_passed}
-use Rattle.master_hand.specs.Spoken.{is_followed}
-use Rattle.few_replies.specs.Heard.{EraPasses}
-use Rattle.served_rings.specs.of_life_runs.Served.{Serves}
+use Rattle.idle_slaves.specs.of_frame_view.View.{Lens}
+use Rattle.idle_slaves.specs.of_life_model.Lives.{Stand, new_life}
+use Rattle.idle_slaves.specs.of_life_runs.Led.{Leads, speech_at, is_passed}
+use Rattle.served_rings.specs.of_master_hand.Spoken.{is_followed}
+use Rattle.served_rings.specs.of_few_replies.Heard.{EraPasses}
+use Rattle.idle_slaves.specs.of_life_runs.Served.{Serves}
 use Rattle.seen_slaves.specs.Last.{LastPasses}
-use Rattle.slave_model.specs.Moments.{NowAnswered}
+use Rattle.idle_slaves.specs.of_slave_model.Moments.{NowAnswered}
 use Rattle.seen_slaves.specs.Told.{EraTold}
 
 -- a slave before the first frame: it has a station, and nothing happened in its life

@@ -1,15 +1,15 @@
 -- AN OPEN SLAVE WITH NOTHING LEFT, as another sees its mails, its services and its replies.
 use Rattle.std.specs.Prelude.{◌≡◌, ◌⊎◌, Bool, true, None, [], map}
-use Rattle.slave_model.specs.Moments.{NoneLeft, NowAnswered}
-use Rattle.exchange_model.specs.Exchange.{Speech, plain}
-use Rattle.exchange_model.specs.Rows.{Row}
-use Rattle.life_model.specs.Lives.{Era}
-use Rattle.link_model.specs.Master.{InState}
-use Rattle.few_replies.specs.Erased.{OfRow, PlanOne, side_seen}
-use Rattle.segment_model.specs.Laws.{IsSettled}
-use Rattle.segment_model.specs.Slaves.{Slave}
-use Rattle.serving_model.specs.Erasing.{slave_as}
-use Rattle.serving_model.specs.Passing.{ends_told}
+use Rattle.idle_slaves.specs.of_slave_model.Moments.{NoneLeft, NowAnswered}
+use Rattle.idle_slaves.specs.of_exchange_model.Exchange.{Speech, plain}
+use Rattle.idle_slaves.specs.of_exchange_model.Rows.{Row}
+use Rattle.idle_slaves.specs.of_life_model.Lives.{Era}
+use Rattle.idle_slaves.specs.of_link_model.Master.{InState}
+use Rattle.served_rings.specs.of_few_replies.Erased.{OfRow, PlanOne, side_seen}
+use Rattle.idle_slaves.specs.of_segment_model.Laws.{IsSettled}
+use Rattle.idle_slaves.specs.of_segment_model.Slaves.{Slave}
+use Rattle.served_rings.specs.of_serving_model.Erasing.{slave_as}
+use Rattle.served_rings.specs.of_serving_model.Passing.{ends_told}
 
 module _ {N M P Q S R : Type 0} (f : N → M) (g : P → Q) (h : S → R) (z : Speech N P S) (y : Speech M Q R) where
   -- BOTH SPEAK ALIKE OF THE ROW IN HAND: they plan the same of it, and where it ends with its last write it does so for the other too

@@ -1,10 +1,10 @@
 -- HOW FAR A MAIL THAT IS PASSED ON WAS TOLD, by what its master's side holds.
 use Rattle.std.specs.Prelude.{◌≡◌, ◌≢◌, ◌⊎◌, true, Bool, Option, Some, None, List, [], ⊤}
-use Rattle.exchange_model.specs.Exchange.{Speech}
-use Rattle.exchange_model.specs.Rows.{Row}
-use Rattle.life_model.specs.Lives.{Era}
-use Rattle.segment_model.specs.Ends.{Passing}
-use Rattle.segment_model.specs.Seats.{Side}
+use Rattle.idle_slaves.specs.of_exchange_model.Exchange.{Speech}
+use Rattle.idle_slaves.specs.of_exchange_model.Rows.{Row}
+use Rattle.idle_slaves.specs.of_life_model.Lives.{Era}
+use Rattle.idle_slaves.specs.of_segment_model.Ends.{Passing}
+use Rattle.idle_slaves.specs.of_segment_model.Seats.{Side}
 
 -- nothing was told of a row
 abbrev pub NoneTold : {M Q R : Type 0} → Option (Row M Q R) → Type 0

@@ -3,18 +3,18 @@
 
 ghost use Rattle.std.specs.Prelude.{ℕ, Bool, List};
 ghost use Rattle.seen_slaves.specs.Counted.{AreCounted, IsCounted, IsToldByNumber};
-ghost use Rattle.life_model.specs.Lives.{Era};
-ghost use Rattle.link_mails.specs.Body.{Body};
-ghost use Rattle.master_duty.specs.Reply.{Reply};
-ghost use Rattle.master_hand.specs.Spoken.{Asked};
+ghost use Rattle.idle_slaves.specs.of_life_model.Lives.{Era};
+ghost use Rattle.idle_slaves.specs.of_link_mails.Body.{Body};
+ghost use Rattle.served_rings.specs.of_master_duty.Reply.{Reply};
+ghost use Rattle.served_rings.specs.of_master_hand.Spoken.{Asked};
 ghost use Rattle.served_rings.specs.Served.{IsServedEra};
-ghost use Rattle.slave_model.specs.Application.{Parts};
-ghost use Rattle.slave_model.specs.Product.{serve};
-ghost use Rattle.slave_model.specs.Profile.{Profile};
-ghost use Rattle.slave_model.specs.Server as Slave;
-ghost use Rattle.slave_parts.specs.Parts.{Server};
-ghost use Rattle.state_model.specs.Families.{InState};
-ghost use Rattle.state_model.specs.Stated.{Service};
+ghost use Rattle.idle_slaves.specs.of_slave_model.Application.{Parts};
+ghost use Rattle.idle_slaves.specs.of_slave_model.Product.{serve};
+ghost use Rattle.idle_slaves.specs.of_slave_model.Profile.{Profile};
+ghost use Rattle.idle_slaves.specs.of_slave_model.Server as Slave;
+ghost use Rattle.idle_slaves.specs.of_slave_parts.Parts.{Server};
+ghost use Rattle.idle_slaves.specs.of_state_model.Families.{InState};
+ghost use Rattle.idle_slaves.specs.of_state_model.Stated.{Service};
 
 /// A MAIL THAT A SLAVE DOESN'T COUNT LEAVES ITS APPLICATION, whatever mail it is, in whatever AL state and with whatever unfinished transfers; one that it counts is
 /// counted once.

@@ -11,17 +11,22 @@ pub mod served_waits;
 pub mod spent_rows;
 pub mod tagged_waits;
 
-ghost use Rattle.exchange_model.specs.Exchange.{Speech};
-ghost use Rattle.exchange_model.specs.Rows.{Row, left};
+ghost use Rattle.idle_slaves.specs.of_exchange_model.Exchange.{Speech};
+ghost use Rattle.idle_slaves.specs.of_exchange_model.Rows.{Row, left};
 ghost use Rattle.idle_slaves.specs.Going.{IsCome};
 ghost use Rattle.idle_slaves.specs.Links.{HasLink};
-ghost use Rattle.few_replies.specs.Erased.{PlanOne, row_seen, side_seen};
-ghost use Rattle.segment_model.specs.Laws.{IsSettled};
-ghost use Rattle.segment_model.specs.Seats.{Side};
-ghost use Rattle.segment_model.specs.Slaves.{Registers, Slave};
-ghost use Rattle.serving_model.specs.Erasing.{slave_as};
-ghost use Rattle.state_model.specs.States.{Phase, Table};
+ghost use Rattle.served_rings.specs.of_few_replies.Erased.{PlanOne, row_seen, side_seen};
+ghost use Rattle.idle_slaves.specs.of_segment_model.Laws.{IsSettled};
+ghost use Rattle.idle_slaves.specs.of_segment_model.Seats.{Side};
+ghost use Rattle.idle_slaves.specs.of_segment_model.Slaves.{Registers, Slave};
+ghost use Rattle.served_rings.specs.of_serving_model.Erasing.{slave_as};
+ghost use Rattle.idle_slaves.specs.of_state_model.States.{Phase, Table};
 ghost use Rattle.std.specs.Prelude.{◌≡◌, ℕ, List, [], map};
+
+pub use idle_slaves;
+pub use idle_slaves::{frame_view, scenario};
+pub use served_rings;
+pub use served_rings::run_work;
 
 /// THE LINK of an open slave: mails that went between its master and it agree with both, also as another sees them, who has other forms of them.
 pub fn link_seen<N, M, P, Q, S, R, W, V>()

@@ -1,19 +1,19 @@
 //! What comes next of an open slave is due to a master that passes mails on beside services: it replies to nothing, or to what is in hand, a service or such a
 //! mail, with nothing left to tell before it. Definitions and a law, no running code: the function here does nothing, and its contract states the law.
 
-ghost use Rattle.exchange_model.specs.Exchange.{Exchange};
-ghost use Rattle.life_model.specs.Lives.{Era, Spot};
-ghost use Rattle.slave_model.specs.Hears.{HearsFirst};
-ghost use Rattle.few_replies.specs.Led.{IsLed};
+ghost use Rattle.idle_slaves.specs.of_exchange_model.Exchange.{Exchange};
+ghost use Rattle.idle_slaves.specs.of_life_model.Lives.{Era, Spot};
+ghost use Rattle.idle_slaves.specs.of_slave_model.Hears.{HearsFirst};
+ghost use Rattle.served_rings.specs.of_few_replies.Led.{IsLed};
 ghost use Rattle.seen_slaves.specs.Brings.{AllAreFair, SeenBringsDue};
-ghost use Rattle.segment_model.specs.Record.{Frame};
-ghost use Rattle.segment_model.specs.Slaves.{Processor, Registers, Slave};
+ghost use Rattle.idle_slaves.specs.of_segment_model.Record.{Frame};
+ghost use Rattle.idle_slaves.specs.of_segment_model.Slaves.{Processor, Registers, Slave};
 ghost use Rattle.std.specs.Prelude.{◌≡◌, ◌∷◌, ℕ, Bool, Option, List, []};
-ghost use Rattle.life_model.specs.Eras.{planned};
-ghost use Rattle.serving_model.specs.Tagged.{Rowed};
-ghost use Rattle.state_model.specs.States.{Table};
-ghost use Rattle.run_work.specs.of_life_counts.Epochs.{IsRun, IsSpeaker, Speaker, between, seeing, seeing_states};
-ghost use Rattle.state_model.specs.Tasks.{IsTaskPlan};
+ghost use Rattle.idle_slaves.specs.of_life_model.Eras.{planned};
+ghost use Rattle.served_rings.specs.of_serving_model.Tagged.{Rowed};
+ghost use Rattle.idle_slaves.specs.of_state_model.States.{Table};
+ghost use Rattle.served_rings.specs.of_life_counts.Epochs.{IsRun, IsSpeaker, Speaker, between, seeing, seeing_states};
+ghost use Rattle.idle_slaves.specs.of_state_model.Tasks.{IsTaskPlan};
 
 /// EACH MAIL THAT A FRAME MORE BRINGS of an open epoch is due to its master, where the client hears first: of services, and of mails that are passed on, each as
 /// fair as the laws ask.

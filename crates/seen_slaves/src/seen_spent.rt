@@ -2,26 +2,26 @@
 //! a reply. Definitions and laws, no running code: the functions here do nothing, and their contracts state the laws.
 
 ghost use Rattle.std.specs.Prelude.{◌≡◌, ℕ, Bool, true, false, Option, Some, None, List, []};
-ghost use Rattle.slave_model.specs.Moments.{IsFree, NowAnswered, WasHeard};
-ghost use Rattle.exchange_model.specs.Exchange.{Exchange, Speech, IsLawful};
-ghost use Rattle.exchange_model.specs.Rows.{Row, ends_unheard, left};
-ghost use Rattle.life_model.specs.Eras.{EraIs};
-ghost use Rattle.life_model.specs.Lives.{Era, Spot};
-ghost use Rattle.slave_model.specs.Waits.{NeverWaits};
-ghost use Rattle.few_replies.specs.Erased.{OfRow, PlanOne, row_seen, side_seen};
-ghost use Rattle.few_replies.specs.Led.{IsLed};
-ghost use Rattle.few_replies.specs.Heard.{EraPasses};
+ghost use Rattle.idle_slaves.specs.of_slave_model.Moments.{IsFree, NowAnswered, WasHeard};
+ghost use Rattle.idle_slaves.specs.of_exchange_model.Exchange.{Exchange, Speech, IsLawful};
+ghost use Rattle.idle_slaves.specs.of_exchange_model.Rows.{Row, ends_unheard, left};
+ghost use Rattle.idle_slaves.specs.of_life_model.Eras.{EraIs};
+ghost use Rattle.idle_slaves.specs.of_life_model.Lives.{Era, Spot};
+ghost use Rattle.idle_slaves.specs.of_slave_model.Waits.{NeverWaits};
+ghost use Rattle.served_rings.specs.of_few_replies.Erased.{OfRow, PlanOne, row_seen, side_seen};
+ghost use Rattle.served_rings.specs.of_few_replies.Led.{IsLed};
+ghost use Rattle.served_rings.specs.of_few_replies.Heard.{EraPasses};
 ghost use Rattle.seen_slaves.specs.Fits.{FitsSo};
 ghost use Rattle.seen_slaves.specs.Spent.{IsEndTold, NothingSeen, SpeakOne};
-ghost use Rattle.segment_model.specs.Ends.{Passing};
-ghost use Rattle.segment_model.specs.Record.{Frame};
-ghost use Rattle.segment_model.specs.Slaves.{Processor, Registers, Slave};
-ghost use Rattle.serving_model.specs.Tagged.{Rowed};
+ghost use Rattle.idle_slaves.specs.of_segment_model.Ends.{Passing};
+ghost use Rattle.idle_slaves.specs.of_segment_model.Record.{Frame};
+ghost use Rattle.idle_slaves.specs.of_segment_model.Slaves.{Processor, Registers, Slave};
+ghost use Rattle.served_rings.specs.of_serving_model.Tagged.{Rowed};
 ghost use Rattle.seen_slaves.specs.Last.{LastPasses};
-ghost use Rattle.state_model.specs.Stated.{Stated, IsStated};
-ghost use Rattle.state_model.specs.States.{Table};
-ghost use Rattle.run_work.specs.of_life_counts.Epochs.{IsRun, IsSeen, IsSpeaker, Speaker};
-ghost use Rattle.run_work.specs.of_life_counts.Seen.{era_seen};
+ghost use Rattle.idle_slaves.specs.of_state_model.Stated.{Stated, IsStated};
+ghost use Rattle.idle_slaves.specs.of_state_model.States.{Table};
+ghost use Rattle.served_rings.specs.of_life_counts.Epochs.{IsRun, IsSeen, IsSpeaker, Speaker};
+ghost use Rattle.served_rings.specs.of_life_counts.Seen.{era_seen};
 
 /// WHERE NOTHING IS LEFT of a slave as another sees it, its newest service is over for the other.
 pub fn free_seen<N, M, P, Q, S, R, V, A, W>()

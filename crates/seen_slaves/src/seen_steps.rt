@@ -2,19 +2,19 @@
 //! functions here do nothing, and their contracts state the laws.
 
 ghost use Rattle.std.specs.Prelude.{◌≡◌, ℕ, List, Option};
-ghost use Rattle.exchange_model.specs.Exchange.{Exchange, IsLawful};
-ghost use Rattle.life_model.specs.Eras.{EraIs};
-ghost use Rattle.life_model.specs.Lives.{Spot, Era};
+ghost use Rattle.idle_slaves.specs.of_exchange_model.Exchange.{Exchange, IsLawful};
+ghost use Rattle.idle_slaves.specs.of_life_model.Eras.{EraIs};
+ghost use Rattle.idle_slaves.specs.of_life_model.Lives.{Spot, Era};
 ghost use Rattle.seen_slaves.specs.Steps.{IsStanding};
-ghost use Rattle.segment_model.specs.Record.{Frame};
-ghost use Rattle.segment_model.specs.Slaves.{Processor, Registers, Slave};
-ghost use Rattle.serving_model.specs.Erasing.{slave_as};
-ghost use Rattle.serving_model.specs.Tagged.{Rowed, ideal, real};
-ghost use Rattle.serving_model.specs.TaggedStates.{IsStatedServed};
-ghost use Rattle.state_model.specs.Stated.{Stated, IsStated};
-ghost use Rattle.state_model.specs.States.{Table, carry};
+ghost use Rattle.idle_slaves.specs.of_segment_model.Record.{Frame};
+ghost use Rattle.idle_slaves.specs.of_segment_model.Slaves.{Processor, Registers, Slave};
+ghost use Rattle.served_rings.specs.of_serving_model.Erasing.{slave_as};
+ghost use Rattle.served_rings.specs.of_serving_model.Tagged.{Rowed, ideal, real};
+ghost use Rattle.served_rings.specs.of_serving_model.TaggedStates.{IsStatedServed};
+ghost use Rattle.idle_slaves.specs.of_state_model.Stated.{Stated, IsStated};
+ghost use Rattle.idle_slaves.specs.of_state_model.States.{Table, carry};
 ghost use Rattle.idle_slaves.specs.Steps.{StepsAlone};
-ghost use Rattle.state_model.specs.Accounts.{Duty};
+ghost use Rattle.idle_slaves.specs.of_state_model.Accounts.{Duty};
 
 /// OF AN OPEN EPOCH the slave's server stands in the AL state of its registers, which the word that it carries out leaves while no state service is past its drain.
 pub fn stands_law<V, A, M, Q, R>()

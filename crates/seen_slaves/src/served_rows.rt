@@ -2,13 +2,15 @@
 //! laws.
 
 ghost use Rattle.std.specs.Prelude.{◌≡◌, ℕ, None, List, [], All};
-ghost use Rattle.frame_view.specs.View.{Lens};
-ghost use Rattle.life_model.specs.Lives.{Spot};
-ghost use Rattle.life_runs.specs.Led.{Exchanged, Leads, speech_at};
-ghost use Rattle.master_hand.specs.Spoken.{Asked};
-ghost use Rattle.run_frames.specs.Answers.{AllReturned};
+ghost use Rattle.idle_slaves.specs.of_frame_view.View.{Lens};
+ghost use Rattle.idle_slaves.specs.of_life_model.Lives.{Spot};
+ghost use Rattle.idle_slaves.specs.of_life_runs.Led.{Exchanged, Leads, speech_at};
+ghost use Rattle.served_rings.specs.of_master_hand.Spoken.{Asked};
+ghost use Rattle.idle_slaves.specs.of_run_frames.Answers.{AllReturned};
 ghost use Rattle.seen_slaves.specs.Rows.{IsNew, PassesSo, SaidSo, ToldSo};
-ghost use Rattle.served_rings.specs.of_life_runs.Served.{Serves, IsServedLed, all_serve};
+ghost use Rattle.idle_slaves.specs.of_life_runs.Served.{Serves, IsServedLed, all_serve};
+
+use idle_slaves::frame_view;
 
 /// WHILE A MAIL THAT IS PASSED ON ISN'T OVER it is the newest row of its slave's epoch, and the newest service, and no reply of it was heard, or others follow
 /// the last that was: over all frames of a serving, whatever comes back.

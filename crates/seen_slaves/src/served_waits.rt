@@ -3,23 +3,26 @@
 
 ghost use Rattle.std.specs.Prelude.{ℕ, List, Option};
 ghost use Rattle.idle_slaves.specs.Eager.{Remembered};
-ghost use Rattle.life_runs.specs.First.{first_leads, lens_of};
-ghost use Rattle.life_runs.specs.Led.{Exchanged};
-ghost use Rattle.link_mails.specs.Body.{Body};
-ghost use Rattle.master_duty.specs.Reply.{Reply};
-ghost use Rattle.master_hand.specs.Spoken.{Asked};
+ghost use Rattle.idle_slaves.specs.of_life_runs.First.{first_leads, lens_of};
+ghost use Rattle.idle_slaves.specs.of_life_runs.Led.{Exchanged};
+ghost use Rattle.idle_slaves.specs.of_link_mails.Body.{Body};
+ghost use Rattle.served_rings.specs.of_master_duty.Reply.{Reply};
+ghost use Rattle.served_rings.specs.of_master_hand.Spoken.{Asked};
 ghost use Rattle.idle_slaves.specs.of_plan_ring.Lives.{IsKnown};
 ghost use Rattle.idle_slaves.specs.of_plan_ring.Round.{AllRound, ring_of};
-ghost use Rattle.run_frames.specs.Clocks.{Clocked};
-ghost use Rattle.run_frames.specs.Runs.{Progress};
-ghost use Rattle.segment_plan.specs.Bound.{slowest};
-ghost use Rattle.segment_plan.specs.Sound.{IsPlan};
-ghost use Rattle.segment_plan.specs.declared.plan.Scenario.{Scenario};
+ghost use Rattle.idle_slaves.specs.of_run_frames.Clocks.{Clocked};
+ghost use Rattle.idle_slaves.specs.of_run_frames.Runs.{Progress};
+ghost use Rattle.idle_slaves.specs.of_segment_plan.Bound.{slowest};
+ghost use Rattle.idle_slaves.specs.of_segment_plan.Sound.{IsPlan};
+ghost use Rattle.idle_slaves.specs.of_segment_plan.declared.plan.Scenario.{Scenario};
 ghost use Rattle.served_rings.specs.of_served_places.Answered.{ServedAnswers, ServedAsks, ServedWaits};
 ghost use Rattle.served_rings.specs.of_served_places.Toured.{IsServedToured};
-ghost use Rattle.served_rings.specs.of_life_runs.Served.{Serves, all_serve};
+ghost use Rattle.idle_slaves.specs.of_life_runs.Served.{Serves, all_serve};
 ghost use Rattle.seen_slaves.specs.Dues.{ServedMailsAreDue};
 ghost use Rattle.seen_slaves.specs.Eager.{ServedEagerIn};
+
+use idle_slaves::frame_view;
+use served_rings::run_work;
 
 /// SOME SLAVE OF A PLAN'S SERVING WAITS YET behind each frame that came back and gained nothing, with nothing to repair, before which no mail was asked since the
 /// last, with no packet of the host and by which no mail that is passed on came a step on: where its master makes no visit in vain if more could go on, and no

@@ -2,16 +2,16 @@
 //! contracts state the laws.
 
 ghost use Rattle.std.specs.Prelude.{◌≡◌, ◌≢◌, ℕ, Bool, Option, Some, None, List, []};
-ghost use Rattle.slave_model.specs.Moments.{NoneLeft, NowAnswered};
-ghost use Rattle.exchange_model.specs.Exchange.{Speech};
-ghost use Rattle.life_model.specs.Lives.{Stand, Era, Life, Spot, new_life, life_next, life_back, life_lost, gives_up};
-ghost use Rattle.few_replies.specs.Heard.{EraPasses};
-ghost use Rattle.segment_model.specs.Ends.{Passing};
-ghost use Rattle.segment_model.specs.Record.{News};
-ghost use Rattle.segment_model.specs.Slaves.{Datagram, Found};
+ghost use Rattle.idle_slaves.specs.of_slave_model.Moments.{NoneLeft, NowAnswered};
+ghost use Rattle.idle_slaves.specs.of_exchange_model.Exchange.{Speech};
+ghost use Rattle.idle_slaves.specs.of_life_model.Lives.{Stand, Era, Life, Spot, new_life, life_next, life_back, life_lost, gives_up};
+ghost use Rattle.served_rings.specs.of_few_replies.Heard.{EraPasses};
+ghost use Rattle.idle_slaves.specs.of_segment_model.Ends.{Passing};
+ghost use Rattle.idle_slaves.specs.of_segment_model.Record.{News};
+ghost use Rattle.idle_slaves.specs.of_segment_model.Slaves.{Datagram, Found};
 ghost use Rattle.seen_slaves.specs.Last.{LastPasses, NothingAwaited};
 ghost use Rattle.seen_slaves.specs.Told.{EraTold, PlansSome};
-ghost use Rattle.state_model.specs.Accounts.{Pick};
+ghost use Rattle.idle_slaves.specs.of_state_model.Accounts.{Pick};
 
 /// WHILE A MAIL THAT IS PASSED ON ISN'T OVER the newest service of its epoch is by mails: at every frame of a life.
 pub fn last_rows<M, Q, R>()

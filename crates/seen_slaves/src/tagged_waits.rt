@@ -1,15 +1,17 @@
 //! A client that never waits in vain and hears first, beside mails that are passed on, and from whatever server. Laws, no running code: the functions here do
 //! nothing, and their contracts state the laws.
 
-ghost use Rattle.exchange_model.specs.Exchange.{Exchange};
+ghost use Rattle.idle_slaves.specs.of_exchange_model.Exchange.{Exchange};
 ghost use Rattle.served_rings.specs.of_few_replies.Calm.{calm_tagged};
-ghost use Rattle.slave_model.specs.Hears.{HearsFirst};
-ghost use Rattle.slave_model.specs.Waits.{NeverWaits};
-ghost use Rattle.serving_model.specs.Tagged.{IsServed, tagged};
-ghost use Rattle.slave_model.specs.Profile.{Profile, IsProfile};
-ghost use Rattle.slave_parts.specs.Parts.{parts};
-ghost use Rattle.slave_parts.specs.Served.{product_whole};
+ghost use Rattle.idle_slaves.specs.of_slave_model.Hears.{HearsFirst};
+ghost use Rattle.idle_slaves.specs.of_slave_model.Waits.{NeverWaits};
+ghost use Rattle.served_rings.specs.of_serving_model.Tagged.{IsServed, tagged};
+ghost use Rattle.idle_slaves.specs.of_slave_model.Profile.{Profile, IsProfile};
+ghost use Rattle.idle_slaves.specs.of_slave_parts.Parts.{parts};
+ghost use Rattle.idle_slaves.specs.of_slave_parts.Served.{product_whole};
 ghost use Rattle.std.specs.Prelude.{Bool};
+
+use idle_slaves::slave_parts;
 
 /// A CLIENT THAT NEVER WAITS IN VAIN never does where mails are passed on beside its services: such a mail is told at once, whatever was heard.
 pub fn tagged_never<V, M, Q, R, C>()

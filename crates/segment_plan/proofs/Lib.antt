@@ -1,0 +1,1 @@
+pub use Rattle.object_dictionary.proofs as of_object_dictionary

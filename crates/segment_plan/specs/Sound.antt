@@ -4,7 +4,7 @@ use Rattle.std.specs.List.{list_any}
 use Rattle.std.specs.Str.{bytes_eq}
 use Rattle.arrayvec.specs.ArrayVec.{ArrayVec}
 use Rattle.file_store.specs.of_block_pool.Region.{blocks_for}
-use Rattle.eoe.specs.Address.{is_block}
+use Rattle.idn_table.specs.of_eoe.Address.{is_block}
 use Rattle.file_store.specs.declared.file.FileSpec.{FileSpec}
 use Rattle.object_dictionary.specs.declared.entry.EntrySpec.{EntrySpec}
 use Rattle.object_dictionary.specs.declared.service.SdoService.{SdoService}

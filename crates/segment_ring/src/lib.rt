@@ -6,5 +6,6 @@ mod ring;
 mod schedule;
 mod wire;
 
+pub use datagrams;
 pub use ring::Ring;
 pub use wire::{Fate, Slave, Wire};

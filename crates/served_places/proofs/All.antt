@@ -3,38 +3,38 @@ use Rattle.std.proofs.Common.{◌≡◌, ◌≤◌, ℕ, suc, Bool, true, false,
 use Rattle.std.specs.Prelude.{◌&&◌, if◌then◌else◌, not, All}
 use Rattle.std.proofs.lemmas.Bool.{le-leb}
 use Rattle.std.proofs.lemmas.List.Elements.{All-nil, All-head, All-tail, All-push}
-use Rattle.life_runs.proofs.Lives.{next_life}
-use Rattle.life_runs.specs.Lives.{LifeKept, StandsKept}
-use Rattle.frame_view.proofs.Frames.{own_behind, own_none}
-use Rattle.frame_view.proofs.Twice.{still_stands}
-use Rattle.frame_view.specs.of_exchange_model.Exchange.{Speech, plain}
-use Rattle.frame_view.specs.of_life_model.Lives.{Era, Life, Spot, Stand, era_back, life_back, life_lost, passes}
-use Rattle.frame_view.specs.of_life_model.Own.{own}
-use Rattle.frame_view.specs.of_segment_model.Ends.{Passing, passing_after}
-use Rattle.frame_view.specs.of_segment_model.Record.{News, all_told, is_for, mails_heard}
-use Rattle.frame_view.specs.of_segment_model.Returned.{Returns}
-use Rattle.frame_view.specs.of_segment_model.Slaves.{Datagram, Found, grams}
-use Rattle.frame_view.specs.of_state_model.Stated.{Service}
-use Rattle.frame_view.specs.Frames.{FrameFor, Share}
-use Rattle.run_frames.specs.of_life_runs.of_datagrams.Datagram as Raw
-use Rattle.run_frames.specs.of_life_runs.of_datagrams.Frame.{IsFrame, chained}
-use Rattle.run_frames.specs.of_life_runs.of_frame_view.Seen.{datagrams_seen, seen}
-use Rattle.run_frames.specs.of_life_runs.of_frame_view.View.{Lens, datagram_seen}
-use Rattle.run_frames.specs.of_life_runs.of_frame_view.Shares.{came_at, given_where}
-use Rattle.run_frames.specs.of_life_runs.of_link_mails.Body.{Body}
-use Rattle.run_frames.specs.of_life_runs.of_master_duty.Reply.{Reply}
-use Rattle.run_frames.specs.of_life_runs.of_master_hand.Spoken.{Asked, acknowledged, emission, is_followed, is_passed, passed}
-use Rattle.run_frames.specs.of_life_runs.of_master_side.Passing.{IsKept, news_back, news_lost, passing_behind}
-use Rattle.run_frames.specs.of_life_runs.of_segment_plan.declared.service.Service as Plan
-use Rattle.run_frames.specs.of_life_runs.of_segment_ring.declared.wire.Fate.{Fate}
-use Rattle.run_frames.specs.of_life_runs.of_segment_ring.declared.wire.Fate.TheVariants.{Pass, Lost}
+use Rattle.run_frames.proofs.of_life_runs.Lives.{next_life}
+use Rattle.run_frames.specs.of_life_runs.Lives.{LifeKept, StandsKept}
+use Rattle.run_frames.proofs.of_frame_view.Frames.{own_behind, own_none}
+use Rattle.run_frames.proofs.of_frame_view.Twice.{still_stands}
+use Rattle.few_replies.specs.of_exchange_model.Exchange.{Speech, plain}
+use Rattle.few_replies.specs.of_life_model.Lives.{Era, Life, Spot, Stand, era_back, life_back, life_lost, passes}
+use Rattle.few_replies.specs.of_life_model.Own.{own}
+use Rattle.few_replies.specs.of_segment_model.Ends.{Passing, passing_after}
+use Rattle.few_replies.specs.of_segment_model.Record.{News, all_told, is_for, mails_heard}
+use Rattle.few_replies.specs.of_segment_model.Returned.{Returns}
+use Rattle.few_replies.specs.of_segment_model.Slaves.{Datagram, Found, grams}
+use Rattle.few_replies.specs.of_state_model.Stated.{Service}
+use Rattle.run_frames.specs.of_frame_view.Frames.{FrameFor, Share}
+use Rattle.run_frames.specs.of_datagrams.Datagram as Raw
+use Rattle.run_frames.specs.of_datagrams.Frame.{IsFrame, chained}
+use Rattle.run_frames.specs.of_frame_view.Seen.{datagrams_seen, seen}
+use Rattle.run_frames.specs.of_frame_view.View.{Lens, datagram_seen}
+use Rattle.run_frames.specs.of_frame_view.Shares.{came_at, given_where}
+use Rattle.few_replies.specs.of_link_mails.Body.{Body}
+use Rattle.run_frames.specs.of_master_duty.Reply.{Reply}
+use Rattle.run_frames.specs.of_master_hand.Spoken.{Asked, acknowledged, emission, is_followed, is_passed, passed}
+use Rattle.run_frames.specs.of_master_side.Passing.{IsKept, news_back, news_lost, passing_behind}
+use Rattle.run_frames.specs.of_segment_plan.declared.service.Service as Plan
+use Rattle.run_frames.specs.of_segment_ring.declared.wire.Fate.{Fate}
+use Rattle.run_frames.specs.of_segment_ring.declared.wire.Fate.TheVariants.{Pass, Lost}
 use Rattle.run_frames.specs.of_life_runs.Led.{Exchanged, speech_at}
-use Rattle.frame_view.proofs.Octets.{seen_chained, seen_is}
-use Rattle.life_runs.proofs.of_master_tour.Backs.{seen_aims}
-use Rattle.life_runs.specs.of_master_tour.Brings.{accepted_at}
-use Rattle.serving_model.specs.Passing.{ends_told}
-use Rattle.life_runs.specs.Served.{Keyed, Serves, ServedTurn, ServedComes, IsServedTurn, accepted_by, gives_it, served_behind, served_life}
-use Rattle.life_runs.specs.Told.{Passed, replies_in, told_on}
+use Rattle.run_frames.proofs.of_frame_view.Octets.{seen_chained, seen_is}
+use Rattle.run_frames.proofs.of_master_tour.Backs.{seen_aims}
+use Rattle.run_frames.specs.of_master_tour.Brings.{accepted_at}
+use Rattle.few_replies.specs.of_serving_model.Passing.{ends_told}
+use Rattle.run_frames.specs.of_life_runs.Served.{Keyed, Serves, ServedTurn, ServedComes, IsServedTurn, accepted_by, gives_it, served_behind, served_life}
+use Rattle.run_frames.specs.of_life_runs.Told.{Passed, replies_in, told_on}
 use Rattle.served_places.specs.Rows.{IsHeld, StandsTold, ToldAll}
 use Rattle.served_places.proofs.Behind.{reopens_keeps}
 use Rattle.served_places.proofs.Next.{next_open, next_passing}

@@ -1,28 +1,28 @@
 -- Behind a frame the rows of each life stay.
 use Rattle.std.proofs.Common.{◌≡◌, ℕ, Bool, true, false, Option, Some, None, List, [], ◌∷◌, ◌++◌, map, refl, sym, ◌∙◌, subst, append-nil}
 use Rattle.std.specs.Prelude.{◌&&◌, ◌==◌, if◌then◌else◌}
-use Rattle.frame_view.specs.of_exchange_model.Exchange.{Speech}
-use Rattle.frame_view.specs.of_life_model.Lives.{Era, Life, Opening, Spot, Stand, clears, era_back, is_shown, last_step, life_back, life_lost, opening_back, opens, opens_state, passes, reopening, reopens, reopens_at, returns_to_init, shows_clear, steps_on}
-use Rattle.frame_view.specs.of_life_model.Own.{own}
-use Rattle.frame_view.specs.of_link_model.Frames.{all_accepted}
-use Rattle.frame_view.specs.of_segment_model.Ends.{Passing, passing_after}
-use Rattle.frame_view.specs.of_segment_model.Record.{News, all_told}
-use Rattle.frame_view.specs.of_segment_model.Seats.{newest, rows_of}
-use Rattle.frame_view.specs.of_segment_model.Slaves.{Datagram, Found, grams}
-use Rattle.frame_view.specs.of_state_model.Accounts as Accounts
-use Rattle.frame_view.specs.of_state_model.Accounts.{Duty}
-use Rattle.run_frames.specs.of_life_runs.of_frame_view.View.{Lens}
-use Rattle.run_frames.specs.of_life_runs.of_frame_view.Seen.{seen}
-use Rattle.run_frames.specs.of_life_runs.of_frame_view.Shares.{AllBoth, came_at, given_where}
-use Rattle.run_frames.specs.of_life_runs.of_link_mails.Body.{Body}
-use Rattle.run_frames.specs.of_life_runs.of_master_duty.Reply.{Reply}
-use Rattle.run_frames.specs.of_life_runs.of_master_hand.Spoken.{Asked, acknowledged, is_followed, is_passed}
-use Rattle.run_frames.specs.of_life_runs.of_master_side.Passing.{news_back, news_lost}
-use Rattle.run_frames.specs.of_life_runs.of_segment_ring.declared.wire.Fate.{Fate}
-use Rattle.run_frames.specs.of_life_runs.of_segment_ring.declared.wire.Fate.TheVariants.{Pass, Lost}
+use Rattle.few_replies.specs.of_exchange_model.Exchange.{Speech}
+use Rattle.few_replies.specs.of_life_model.Lives.{Era, Life, Opening, Spot, Stand, clears, era_back, is_shown, last_step, life_back, life_lost, opening_back, opens, opens_state, passes, reopening, reopens, reopens_at, returns_to_init, shows_clear, steps_on}
+use Rattle.few_replies.specs.of_life_model.Own.{own}
+use Rattle.few_replies.specs.of_link_model.Frames.{all_accepted}
+use Rattle.few_replies.specs.of_segment_model.Ends.{Passing, passing_after}
+use Rattle.few_replies.specs.of_segment_model.Record.{News, all_told}
+use Rattle.few_replies.specs.of_segment_model.Seats.{newest, rows_of}
+use Rattle.few_replies.specs.of_segment_model.Slaves.{Datagram, Found, grams}
+use Rattle.few_replies.specs.of_state_model.Accounts as Accounts
+use Rattle.few_replies.specs.of_state_model.Accounts.{Duty}
+use Rattle.run_frames.specs.of_frame_view.View.{Lens}
+use Rattle.run_frames.specs.of_frame_view.Seen.{seen}
+use Rattle.run_frames.specs.of_frame_view.Shares.{AllBoth, came_at, given_where}
+use Rattle.few_replies.specs.of_link_mails.Body.{Body}
+use Rattle.run_frames.specs.of_master_duty.Reply.{Reply}
+use Rattle.run_frames.specs.of_master_hand.Spoken.{Asked, acknowledged, is_followed, is_passed}
+use Rattle.run_frames.specs.of_master_side.Passing.{news_back, news_lost}
+use Rattle.run_frames.specs.of_segment_ring.declared.wire.Fate.{Fate}
+use Rattle.run_frames.specs.of_segment_ring.declared.wire.Fate.TheVariants.{Pass, Lost}
 use Rattle.run_frames.specs.of_life_runs.Led.{Exchanged, speech_at}
-use Rattle.life_runs.proofs.of_master_tour.Unpassed.{unpassed_back, unpassed_lost}
-use Rattle.life_runs.specs.Served.{ServedTurn, gives_it, served_behind, served_life}
+use Rattle.run_frames.proofs.of_master_tour.Unpassed.{unpassed_back, unpassed_lost}
+use Rattle.run_frames.specs.of_life_runs.Served.{ServedTurn, gives_it, served_behind, served_life}
 use Rattle.served_places.specs.Rows.{Stays, eras_rows, life_rows, passed_rows}
 use Rattle.served_places.proofs.Stay.{all_append, all_itself, all_same, eras_append, lives_stay, newest_heard}
 

@@ -2,10 +2,10 @@
 use Rattle.std.proofs.Common.{ℕ, zero, suc, Bool, List, [], ◌∷◌, ◌++◌, length, map}
 use Rattle.std.specs.Prelude.{All}
 use Rattle.std.proofs.lemmas.List.Elements.{All-nil, All-cons, All-head, All-tail}
-use Rattle.run_frames.specs.of_life_runs.of_datagrams.Datagram as Raw
-use Rattle.run_frames.specs.of_life_runs.of_frame_view.View.{Lens}
+use Rattle.run_frames.specs.of_datagrams.Datagram as Raw
+use Rattle.run_frames.specs.of_frame_view.View.{Lens}
 use Rattle.run_frames.specs.of_life_runs.Led.{Exchanged, gives_up_at}
-use Rattle.life_runs.specs.Served.{Keyed, Serves, ServedTurn, IsServedTurn, AllServedTurn, IsServedLed, asked_at, served_behind}
+use Rattle.run_frames.specs.of_life_runs.Served.{Keyed, Serves, ServedTurn, IsServedTurn, AllServedTurn, IsServedLed, asked_at, served_behind}
 
 module _ (lens : ℕ → Lens) (recover retry : ℕ) (P : Serves → Type 0) (asks : (w : Serves) (k : Keyed) → P w → P (record w { asked = w.asked ++ k ∷ []; waits = w.waits ++ k ∷ [] }))
     (on : (gives : Bool) (made : ℕ) (ds : List Raw.Datagram) (f : Exchanged) (w : Serves) (v : ServedTurn) → IsServedTurn lens made ds w v → P w → P (served_behind lens recover retry gives made f v)) where

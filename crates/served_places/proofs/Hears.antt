@@ -4,29 +4,29 @@ use Rattle.std.proofs.Common.{◌≡◌, ℕ, Bool, true, false, Option, Some, N
 use Rattle.std.specs.Prelude.{◌&&◌, filter, option_map}
 use Rattle.std.proofs.lemmas.List.{map-append}
 use Rattle.std.proofs.lemmas.List.Elements.{filter-append}
-use Rattle.exchange_model.proofs.Words.{plain-append}
-use Rattle.frame_view.specs.of_exchange_model.Exchange.{Speech, plain}
-use Rattle.frame_view.specs.of_exchange_model.Rows.{Row, row_heard}
-use Rattle.frame_view.specs.of_life_model.Lives.{Era, Life, Opening, Spot, Stand, clears, era_back, era_lost, life_back, life_lost, passes, reopens}
-use Rattle.frame_view.specs.of_life_model.Own.{own}
-use Rattle.frame_view.specs.of_link_model.Frames.{all_accepted}
-use Rattle.frame_view.specs.of_segment_model.Ends.{Passing}
-use Rattle.frame_view.specs.of_segment_model.Record.{News}
-use Rattle.frame_view.specs.of_segment_model.Seats.{newest}
-use Rattle.frame_view.specs.of_segment_model.Slaves.{Datagram, Found, grams}
-use Rattle.run_frames.specs.of_life_runs.of_frame_view.Seen.{seen}
-use Rattle.run_frames.specs.of_life_runs.of_frame_view.View.{Lens}
-use Rattle.run_frames.specs.of_life_runs.of_frame_view.Shares.{AllBoth, came_at, given_where}
-use Rattle.run_frames.specs.of_life_runs.of_link_mails.Body.{Body}
-use Rattle.run_frames.specs.of_life_runs.of_master_duty.Reply.{Reply}
-use Rattle.run_frames.specs.of_life_runs.of_master_hand.Spoken.{Asked, acknowledged, emission, is_followed, is_passed}
-use Rattle.run_frames.specs.of_life_runs.of_master_side.Passing.{news_back, news_lost}
-use Rattle.run_frames.specs.of_life_runs.of_segment_ring.declared.wire.Fate.{Fate}
-use Rattle.run_frames.specs.of_life_runs.of_segment_ring.declared.wire.Fate.TheVariants.{Pass, Lost}
+use Rattle.few_replies.proofs.of_exchange_model.Words.{plain-append}
+use Rattle.few_replies.specs.of_exchange_model.Exchange.{Speech, plain}
+use Rattle.few_replies.specs.of_exchange_model.Rows.{Row, row_heard}
+use Rattle.few_replies.specs.of_life_model.Lives.{Era, Life, Opening, Spot, Stand, clears, era_back, era_lost, life_back, life_lost, passes, reopens}
+use Rattle.few_replies.specs.of_life_model.Own.{own}
+use Rattle.few_replies.specs.of_link_model.Frames.{all_accepted}
+use Rattle.few_replies.specs.of_segment_model.Ends.{Passing}
+use Rattle.few_replies.specs.of_segment_model.Record.{News}
+use Rattle.few_replies.specs.of_segment_model.Seats.{newest}
+use Rattle.few_replies.specs.of_segment_model.Slaves.{Datagram, Found, grams}
+use Rattle.run_frames.specs.of_frame_view.Seen.{seen}
+use Rattle.run_frames.specs.of_frame_view.View.{Lens}
+use Rattle.run_frames.specs.of_frame_view.Shares.{AllBoth, came_at, given_where}
+use Rattle.few_replies.specs.of_link_mails.Body.{Body}
+use Rattle.run_frames.specs.of_master_duty.Reply.{Reply}
+use Rattle.run_frames.specs.of_master_hand.Spoken.{Asked, acknowledged, emission, is_followed, is_passed}
+use Rattle.run_frames.specs.of_master_side.Passing.{news_back, news_lost}
+use Rattle.run_frames.specs.of_segment_ring.declared.wire.Fate.{Fate}
+use Rattle.run_frames.specs.of_segment_ring.declared.wire.Fate.TheVariants.{Pass, Lost}
 use Rattle.run_frames.specs.of_life_runs.Led.{Exchanged, speech_at}
-use Rattle.life_runs.specs.of_master_tour.Brings.{accepted_at}
-use Rattle.life_runs.specs.Served.{ServedTurn, accepted_by, served_behind, served_life}
-use Rattle.life_runs.specs.Told.{Passed, TellsOwn}
+use Rattle.run_frames.specs.of_master_tour.Brings.{accepted_at}
+use Rattle.run_frames.specs.of_life_runs.Served.{ServedTurn, accepted_by, served_behind, served_life}
+use Rattle.run_frames.specs.of_life_runs.Told.{Passed, TellsOwn}
 use Rattle.served_places.specs.Rows.{HearsNoMore, eras_passings, eras_rows, is_passed_row, last_more, life_rows, now_passing, passed_rows, passings, replies_of, told_besides}
 use Rattle.served_places.proofs.Behind.{SameRows, given_same, lost_same, opening_keeps, opening_same, reopens_keeps}
 use Rattle.served_places.proofs.Stay.{Listed, StaysOver, both_append, overs, passings_append, same_over}

@@ -2,23 +2,23 @@
 use Rattle.std.proofs.Common.{◌≡◌, ℕ, Bool, true, false, Option, Some, None, List, [], ◌∷◌, ◌++◌, refl, ap, sym, ◌∙◌, subst}
 use Rattle.std.specs.Prelude.{◌&&◌, if◌then◌else◌, All}
 use Rattle.std.proofs.lemmas.List.Elements.{All-nil, All-cons, All-weaker}
-use Rattle.frame_view.specs.of_life_model.Lives.{Life, life_lost, life_next}
-use Rattle.frame_view.specs.of_state_model.Stated.{Service}
-use Rattle.run_frames.specs.of_life_runs.of_datagrams.Datagram as Raw
-use Rattle.run_frames.specs.of_life_runs.of_frame_view.View.{Lens}
-use Rattle.run_frames.specs.of_life_runs.of_frame_view.Seen.{seen}
-use Rattle.run_frames.specs.of_life_runs.of_frame_view.Shares.{came_at, given_where}
-use Rattle.run_frames.specs.of_life_runs.of_link_mails.Body.{Body}
-use Rattle.run_frames.specs.of_life_runs.of_master_duty.Reply.{Reply}
-use Rattle.run_frames.specs.of_life_runs.of_master_hand.Spoken.{Asked, acknowledged, is_followed, is_passed, passed}
-use Rattle.run_frames.specs.of_life_runs.of_master_side.Passing.{news_back, news_lost}
-use Rattle.run_frames.specs.of_life_runs.of_segment_plan.declared.service.Service as Plan
-use Rattle.run_frames.specs.of_life_runs.of_segment_ring.declared.wire.Fate.{Fate}
-use Rattle.run_frames.specs.of_life_runs.of_segment_ring.declared.wire.Fate.TheVariants.{Pass, Lost}
+use Rattle.few_replies.specs.of_life_model.Lives.{Life, life_lost, life_next}
+use Rattle.few_replies.specs.of_state_model.Stated.{Service}
+use Rattle.run_frames.specs.of_datagrams.Datagram as Raw
+use Rattle.run_frames.specs.of_frame_view.View.{Lens}
+use Rattle.run_frames.specs.of_frame_view.Seen.{seen}
+use Rattle.run_frames.specs.of_frame_view.Shares.{came_at, given_where}
+use Rattle.few_replies.specs.of_link_mails.Body.{Body}
+use Rattle.run_frames.specs.of_master_duty.Reply.{Reply}
+use Rattle.run_frames.specs.of_master_hand.Spoken.{Asked, acknowledged, is_followed, is_passed, passed}
+use Rattle.run_frames.specs.of_master_side.Passing.{news_back, news_lost}
+use Rattle.run_frames.specs.of_segment_plan.declared.service.Service as Plan
+use Rattle.run_frames.specs.of_segment_ring.declared.wire.Fate.{Fate}
+use Rattle.run_frames.specs.of_segment_ring.declared.wire.Fate.TheVariants.{Pass, Lost}
 use Rattle.run_frames.specs.of_life_runs.Led.{Exchanged, Leads, Took, speech_at}
-use Rattle.life_runs.specs.Served.{Keyed, Serves, ServedTurn, ServedComes, IsServedTurn, IsServedLed, accepted_by, all_serve, gives_it, served_life}
-use Rattle.life_runs.specs.Told.{Passed, replies_in, told_on}
-use Rattle.life_runs.proofs.Tells.{HasPassed, back_has, lost_has, mail_next, none_next}
+use Rattle.run_frames.specs.of_life_runs.Served.{Keyed, Serves, ServedTurn, ServedComes, IsServedTurn, IsServedLed, accepted_by, all_serve, gives_it, served_life}
+use Rattle.run_frames.specs.of_life_runs.Told.{Passed, replies_in, told_on}
+use Rattle.run_frames.proofs.of_life_runs.Tells.{HasPassed, back_has, lost_has, mail_next, none_next}
 use Rattle.served_places.specs.Rows.{IsHeld}
 use Rattle.served_places.proofs.Each.{each}
 

@@ -1,16 +1,16 @@
 -- WHAT A FRAME TELLS OF A SLAVE OF WHICH IT HAS AT MOST ONE DATAGRAM: the mails that its halves accept, and at most one read of mailbox 1.
 use Rattle.std.proofs.Common.{◌≡◌, ◌≤◌, ℕ, ◌==◌, Bool, true, false, Option, Some, None, List, [], ◌∷◌, ◌++◌, length, map, refl, sym, ap, ◌∙◌, subst, append-nil, arith}
 use Rattle.std.specs.Prelude.{if◌then◌else◌, ⊤}
-use Rattle.frame_view.specs.of_life_model.Own.{own}
-use Rattle.frame_view.specs.of_link_mails.Body.{Body}
-use Rattle.frame_view.specs.of_link_model.Frames.{Ask, Gram, all_accepted, halves_accept, halves_answered}
-use Rattle.frame_view.specs.of_link_model.Link.{Halves}
-use Rattle.frame_view.specs.of_link_model.Mails.{LinkMail, is_repeat, news}
-use Rattle.frame_view.specs.of_link_model.Segment.{RingFate}
-use Rattle.frame_view.specs.of_segment_model.Record.{Kept, News, all_told, back_news, found_news, frame_news, gram_news, is_for, last_heard, mails_heard, without_empty}
-use Rattle.frame_view.specs.of_segment_model.Slaves.{Datagram, Found, grams}
+use Rattle.few_replies.specs.of_life_model.Own.{own}
+use Rattle.few_replies.specs.of_link_mails.Body.{Body}
+use Rattle.few_replies.specs.of_link_model.Frames.{Ask, Gram, all_accepted, halves_accept, halves_answered}
+use Rattle.few_replies.specs.of_link_model.Link.{Halves}
+use Rattle.few_replies.specs.of_link_model.Mails.{LinkMail, is_repeat, news}
+use Rattle.few_replies.specs.of_link_model.Segment.{RingFate}
+use Rattle.few_replies.specs.of_segment_model.Record.{Kept, News, all_told, back_news, found_news, frame_news, gram_news, is_for, last_heard, mails_heard, without_empty}
+use Rattle.few_replies.specs.of_segment_model.Slaves.{Datagram, Found, grams}
 use Rattle.run_frames.specs.of_master_side.Passing.{news_back}
-use Rattle.life_runs.proofs.of_master_tour.Unders.{SameAim}
+use Rattle.run_frames.proofs.of_master_tour.Unders.{SameAim}
 use Rattle.few_replies.proofs.Passings.{counted_same}
 
 abbrev Grams : Type 0

@@ -4,22 +4,22 @@ use Rattle.std.specs.Prelude.{◌&&◌, nat_lt, if◌then◌else◌, filter, con
 use Rattle.std.proofs.lemmas.Bool.Decides.{nat_tests}
 use Rattle.std.proofs.lemmas.List.{map-append}
 use Rattle.std.proofs.lemmas.List.Elements.{filter-append}
-use Rattle.frame_view.specs.of_exchange_model.Exchange.{Speech, plain}
-use Rattle.frame_view.specs.of_exchange_model.Rows.{Row, begun}
-use Rattle.frame_view.specs.of_life_model.Lives.{Life, Stand, era_next, granted, life_next, passing_begins}
-use Rattle.frame_view.specs.of_segment_model.Ends.{Passing}
-use Rattle.frame_view.specs.of_segment_model.Seats.{is_over, newest, next_mail, rows_of, side_begins, side_next}
-use Rattle.frame_view.specs.of_state_model.Stated.{Service}
-use Rattle.frame_view.specs.of_state_model.Accounts.{Account, Duty, Pick, account_begins, account_next, is_free, mails_begin, mails_choice, starts}
-use Rattle.run_frames.specs.of_life_runs.of_datagrams.Datagram as Raw
-use Rattle.run_frames.specs.of_life_runs.of_frame_view.View.{Lens}
-use Rattle.run_frames.specs.of_life_runs.of_frame_view.Shares.{AllBoth}
-use Rattle.run_frames.specs.of_life_runs.of_link_mails.Body.{Body}
-use Rattle.run_frames.specs.of_life_runs.of_master_duty.Reply.{Reply}
-use Rattle.run_frames.specs.of_life_runs.of_master_hand.Spoken.{Asked, acknowledged, emission, is_followed, is_passed}
-use Rattle.run_frames.specs.of_life_runs.of_master_side.Passing.{passing_behind}
+use Rattle.few_replies.specs.of_exchange_model.Exchange.{Speech, plain}
+use Rattle.few_replies.specs.of_exchange_model.Rows.{Row, begun}
+use Rattle.few_replies.specs.of_life_model.Lives.{Life, Stand, era_next, granted, life_next, passing_begins}
+use Rattle.few_replies.specs.of_segment_model.Ends.{Passing}
+use Rattle.few_replies.specs.of_segment_model.Seats.{is_over, newest, next_mail, rows_of, side_begins, side_next}
+use Rattle.few_replies.specs.of_state_model.Stated.{Service}
+use Rattle.few_replies.specs.of_state_model.Accounts.{Account, Duty, Pick, account_begins, account_next, is_free, mails_begin, mails_choice, starts}
+use Rattle.run_frames.specs.of_datagrams.Datagram as Raw
+use Rattle.run_frames.specs.of_frame_view.View.{Lens}
+use Rattle.run_frames.specs.of_frame_view.Shares.{AllBoth}
+use Rattle.few_replies.specs.of_link_mails.Body.{Body}
+use Rattle.run_frames.specs.of_master_duty.Reply.{Reply}
+use Rattle.run_frames.specs.of_master_hand.Spoken.{Asked, acknowledged, emission, is_followed, is_passed}
+use Rattle.run_frames.specs.of_master_side.Passing.{passing_behind}
 use Rattle.run_frames.specs.of_life_runs.Led.{Took, speech_at}
-use Rattle.life_runs.specs.Served.{Serves, ServedTurn, IsServedTurn}
+use Rattle.run_frames.specs.of_life_runs.Served.{Serves, ServedTurn, IsServedTurn}
 use Rattle.served_places.specs.Rows.{Stays, eras_passings, eras_rows, is_passed_row, life_rows, now_passing, passed_rows, passings, replies_of, row_begun}
 use Rattle.served_places.proofs.Stay.{Keeps, StaysOver, both_append, holds_passings, keeps_heard, keeps_itself, keeps_stay, lives_more, overs, same_over, side_holds_keeps, side_passings}
 

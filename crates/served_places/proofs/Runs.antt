@@ -1,8 +1,8 @@
 -- The frames of a serving that are visits of one tour count, frame by frame.
 use Rattle.std.proofs.Common.{◌≡◌, ℕ, Option, None, List, length, map, refl, sym, subst}
 use Rattle.std.specs.Prelude.{nat_lt}
-use Rattle.frame_view.specs.Seen.{seen, datagrams_seen}
-use Rattle.frame_view.specs.View.{Lens}
+use Rattle.run_frames.specs.of_frame_view.Seen.{seen, datagrams_seen}
+use Rattle.run_frames.specs.of_frame_view.View.{Lens}
 use Rattle.run_frames.specs.of_life_runs.Led.{Exchanged, speech_at, is_passed, gives_up_at}
 use Rattle.run_frames.specs.of_master_hand.Spoken.{acknowledged, is_followed}
 use Rattle.run_frames.specs.Answers.{AllReturned}
@@ -15,8 +15,8 @@ use Rattle.run_frames.proofs.Leading.{SeenIs, led_view}
 use Rattle.run_frames.proofs.Toured.{front_returned, last_returned}
 use Rattle.run_frames.proofs.Touring.{AgainOf}
 use Rattle.run_frames.proofs.Visiting.{visit_again, visit_carries, visit_rounds}
-use Rattle.segment_ring.specs.declared.wire.Fate.TheVariants.{Pass, Lost}
-use Rattle.life_runs.specs.Served.{Serves, ServedTurn, IsServedFrame}
+use Rattle.run_frames.specs.of_segment_ring.declared.wire.Fate.TheVariants.{Pass, Lost}
+use Rattle.run_frames.specs.of_life_runs.Served.{Serves, ServedTurn, IsServedFrame}
 use Rattle.served_places.specs.Answered.{ServedAsks, ServedAnswers, ServedWaits}
 use Rattle.served_places.specs.Toured.{IsServedToured, back_under, first_served, lost_under, serves_on, served_back, served_lost}
 use Rattle.served_places.proofs.Slaves.{Slave, all_bring, all_led_back, all_led_lost, all_under, leads_asked, leads_in}

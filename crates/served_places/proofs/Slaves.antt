@@ -1,14 +1,14 @@
 -- A frame of a serving, for the slaves as it is counted.
 use Rattle.std.proofs.Common.{◌≡◌, ℕ, zero, suc, ◌&&◌, Bool, false, List, [], ◌∷◌, length, map, refl, sym, ap, ◌∙◌, subst}
-use Rattle.datagrams.specs.Datagram as Raw
-use Rattle.frame_view.specs.Seen.{seen, datagrams_seen}
-use Rattle.frame_view.specs.View.{Lens}
-use Rattle.frame_view.specs.Shares.{came_at}
-use Rattle.life_model.specs.Lives.{life_back, life_lost}
+use Rattle.run_frames.specs.of_datagrams.Datagram as Raw
+use Rattle.run_frames.specs.of_frame_view.Seen.{seen, datagrams_seen}
+use Rattle.run_frames.specs.of_frame_view.View.{Lens}
+use Rattle.run_frames.specs.of_frame_view.Shares.{came_at}
+use Rattle.few_replies.specs.of_life_model.Lives.{life_back, life_lost}
 use Rattle.run_frames.specs.of_life_runs.First.{first_leads, leads_from}
 use Rattle.run_frames.specs.of_life_runs.Led.{Exchanged, Leads, speech_at, is_passed}
-use Rattle.link_mails.specs.Body.{Body}
-use Rattle.master_duty.specs.Reply.{Reply}
+use Rattle.few_replies.specs.of_link_mails.Body.{Body}
+use Rattle.run_frames.specs.of_master_duty.Reply.{Reply}
 use Rattle.run_frames.specs.of_master_hand.Spoken.{Asked, acknowledged, is_followed}
 use Rattle.run_frames.specs.of_master_side.Passing.{news_back, news_lost}
 use Rattle.run_frames.specs.Answers.{AllAsk, AllAnswer}
@@ -20,14 +20,14 @@ use Rattle.run_frames.specs.Led.{AreLed, first_clocked}
 use Rattle.run_frames.proofs.Answering.{one_brings}
 use Rattle.run_frames.proofs.Leading.{SeenIs, given_same, one_under}
 use Rattle.run_frames.proofs.Tallying.{first_of_plan}
-use Rattle.segment_model.specs.Returned.{Returns}
-use Rattle.segment_plan.specs.Bound.{slowest}
-use Rattle.segment_plan.specs.Sound.{IsPlan}
-use Rattle.segment_plan.specs.declared.plan.Scenario.{Scenario}
-use Rattle.segment_plan.specs.declared.service.Service as Plan
-use Rattle.segment_plan.specs.declared.slave.SlaveSpec.{SlaveSpec}
-use Rattle.segment_ring.specs.declared.wire.Fate.TheVariants.{Pass, Lost}
-use Rattle.life_runs.specs.Served.{Keyed, Serves, ServedTurn, AllServedTurn, all_serve, asked_at, served_behind, served_life}
+use Rattle.few_replies.specs.of_segment_model.Returned.{Returns}
+use Rattle.run_frames.specs.of_segment_plan.Bound.{slowest}
+use Rattle.run_frames.specs.of_segment_plan.Sound.{IsPlan}
+use Rattle.run_frames.specs.of_segment_plan.declared.plan.Scenario.{Scenario}
+use Rattle.run_frames.specs.of_segment_plan.declared.service.Service as Plan
+use Rattle.run_frames.specs.of_segment_plan.declared.slave.SlaveSpec.{SlaveSpec}
+use Rattle.run_frames.specs.of_segment_ring.declared.wire.Fate.TheVariants.{Pass, Lost}
+use Rattle.run_frames.specs.of_life_runs.Served.{Keyed, Serves, ServedTurn, AllServedTurn, all_serve, asked_at, served_behind, served_life}
 use Rattle.served_places.specs.Toured.{back_under, first_served, lost_under}
 
 abbrev pub Slave : Type 0

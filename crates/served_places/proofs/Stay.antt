@@ -2,15 +2,15 @@
 use Rattle.std.proofs.Common.{◌≡◌, ℕ, Bool, true, false, Option, Some, None, List, [], ◌∷◌, ◌++◌, refl, sym, ap, ◌∙◌, subst, append_assoc, append-nil, cond}
 use Rattle.std.specs.Prelude.{filter, map, option_map}
 use Rattle.std.proofs.lemmas.List.Elements.{filter-append}
-use Rattle.frame_view.specs.of_exchange_model.Exchange.{Speech, plain}
-use Rattle.frame_view.specs.of_exchange_model.Rows.{Row, row_heard, row_told}
-use Rattle.frame_view.specs.of_life_model.Lives.{Era, Life}
-use Rattle.frame_view.specs.of_segment_model.Ends.{Passing}
-use Rattle.frame_view.specs.of_segment_model.Seats.{Side, newest, rows_of, side_holds}
-use Rattle.run_frames.specs.of_life_runs.of_frame_view.Shares.{AllBoth}
-use Rattle.run_frames.specs.of_life_runs.of_link_mails.Body.{Body}
-use Rattle.run_frames.specs.of_life_runs.of_master_duty.Reply.{Reply}
-use Rattle.run_frames.specs.of_life_runs.of_master_hand.Spoken.{Asked, emission, is_passed}
+use Rattle.few_replies.specs.of_exchange_model.Exchange.{Speech, plain}
+use Rattle.few_replies.specs.of_exchange_model.Rows.{Row, row_heard, row_told}
+use Rattle.few_replies.specs.of_life_model.Lives.{Era, Life}
+use Rattle.few_replies.specs.of_segment_model.Ends.{Passing}
+use Rattle.few_replies.specs.of_segment_model.Seats.{Side, newest, rows_of, side_holds}
+use Rattle.run_frames.specs.of_frame_view.Shares.{AllBoth}
+use Rattle.few_replies.specs.of_link_mails.Body.{Body}
+use Rattle.run_frames.specs.of_master_duty.Reply.{Reply}
+use Rattle.run_frames.specs.of_master_hand.Spoken.{Asked, emission, is_passed}
 use Rattle.served_places.specs.Rows.{Stays, era_passings, eras_passings, eras_rows, is_passed_row, life_rows, now_passing, passed_rows, passings, replies_of}
 
 -- a list of rows

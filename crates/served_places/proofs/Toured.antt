@@ -1,13 +1,13 @@
 -- The frames of a tour, with mails that are asked between them, are a serving.
 use Rattle.std.proofs.Common.{◌≡◌, ℕ, suc, Option, List, [], ◌∷◌, ◌++◌, length, length-append, refl, arith}
-use Rattle.frame_view.specs.View.{Lens}
+use Rattle.run_frames.specs.of_frame_view.View.{Lens}
 use Rattle.run_frames.specs.of_life_runs.Led.{Exchanged}
-use Rattle.link_mails.specs.Body.{Body}
-use Rattle.master_duty.specs.Reply.{Reply}
+use Rattle.few_replies.specs.of_link_mails.Body.{Body}
+use Rattle.run_frames.specs.of_master_duty.Reply.{Reply}
 use Rattle.run_frames.specs.of_master_hand.Spoken.{Asked}
 use Rattle.run_frames.specs.Clocks.{Clocked}
 use Rattle.run_frames.specs.Runs.{Progress}
-use Rattle.life_runs.specs.Served.{Serves, IsServedLed}
+use Rattle.run_frames.specs.of_life_runs.Served.{Serves, IsServedLed}
 use Rattle.served_places.specs.Toured.{IsServedToured}
 
 pub one_more : (fs : List Exchanged) (f : Exchanged) (n : ℕ) → n ≡ length fs → suc n ≡ length (fs ++ f ∷ [])

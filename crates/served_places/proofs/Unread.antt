@@ -2,33 +2,33 @@
 use Rattle.std.proofs.Common.{◌≡◌, ◌≤◌, ℕ, Bool, true, false, Option, Some, None, List, [], ◌∷◌, ◌++◌, length, map, refl, sym, ap, ◌∙◌, subst, arith}
 use Rattle.std.specs.Prelude.{if◌then◌else◌}
 use Rattle.std.proofs.lemmas.Bool.{le-leb}
-use Rattle.frame_view.proofs.Frames.{own_none}
-use Rattle.frame_view.proofs.Octets.{seen_chained, seen_is}
-use Rattle.frame_view.specs.Frames.{FrameFor}
-use Rattle.frame_view.specs.of_exchange_model.Exchange.{Speech}
-use Rattle.frame_view.specs.of_life_model.Lives.{Era, Life, Spot, Stand, era_back, life_back, passes}
-use Rattle.frame_view.specs.of_life_model.Own.{own}
-use Rattle.frame_view.specs.of_link_model.Frames.{all_accepted}
-use Rattle.frame_view.specs.of_segment_model.Ends.{Passing}
-use Rattle.frame_view.specs.of_segment_model.Record.{Kept, News, all_told, frame_news, is_for, last_told, mail_told, without_empty}
-use Rattle.frame_view.specs.of_link_model.Segment.{RingFate}
-use Rattle.frame_view.specs.of_segment_model.Returned.{Returns}
-use Rattle.frame_view.specs.of_segment_model.Slaves.{Datagram, grams}
-use Rattle.run_frames.specs.of_life_runs.of_datagrams.Datagram as Raw
-use Rattle.run_frames.specs.of_life_runs.of_datagrams.Frame.{IsFrame, chained}
-use Rattle.run_frames.specs.of_life_runs.of_frame_view.Seen.{datagrams_seen, seen}
-use Rattle.run_frames.specs.of_life_runs.of_frame_view.View.{Lens}
-use Rattle.run_frames.specs.of_life_runs.of_frame_view.Shares.{came_at}
-use Rattle.run_frames.specs.of_life_runs.of_link_mails.Body.{Body}
-use Rattle.run_frames.specs.of_life_runs.of_master_duty.Reply.{Reply}
-use Rattle.run_frames.specs.of_life_runs.of_master_hand.Spoken.{Asked, acknowledged, is_followed, is_passed}
-use Rattle.run_frames.specs.of_life_runs.of_master_side.Passing.{news_back}
-use Rattle.run_frames.specs.of_life_runs.of_segment_ring.declared.wire.Fate.TheVariants.{Pass}
+use Rattle.run_frames.proofs.of_frame_view.Frames.{own_none}
+use Rattle.run_frames.proofs.of_frame_view.Octets.{seen_chained, seen_is}
+use Rattle.run_frames.specs.of_frame_view.Frames.{FrameFor}
+use Rattle.few_replies.specs.of_exchange_model.Exchange.{Speech}
+use Rattle.few_replies.specs.of_life_model.Lives.{Era, Life, Spot, Stand, era_back, life_back, passes}
+use Rattle.few_replies.specs.of_life_model.Own.{own}
+use Rattle.few_replies.specs.of_link_model.Frames.{all_accepted}
+use Rattle.few_replies.specs.of_segment_model.Ends.{Passing}
+use Rattle.few_replies.specs.of_segment_model.Record.{Kept, News, all_told, frame_news, is_for, last_told, mail_told, without_empty}
+use Rattle.few_replies.specs.of_link_model.Segment.{RingFate}
+use Rattle.few_replies.specs.of_segment_model.Returned.{Returns}
+use Rattle.few_replies.specs.of_segment_model.Slaves.{Datagram, grams}
+use Rattle.run_frames.specs.of_datagrams.Datagram as Raw
+use Rattle.run_frames.specs.of_datagrams.Frame.{IsFrame, chained}
+use Rattle.run_frames.specs.of_frame_view.Seen.{datagrams_seen, seen}
+use Rattle.run_frames.specs.of_frame_view.View.{Lens}
+use Rattle.run_frames.specs.of_frame_view.Shares.{came_at}
+use Rattle.few_replies.specs.of_link_mails.Body.{Body}
+use Rattle.run_frames.specs.of_master_duty.Reply.{Reply}
+use Rattle.run_frames.specs.of_master_hand.Spoken.{Asked, acknowledged, is_followed, is_passed}
+use Rattle.run_frames.specs.of_master_side.Passing.{news_back}
+use Rattle.run_frames.specs.of_segment_ring.declared.wire.Fate.TheVariants.{Pass}
 use Rattle.run_frames.specs.of_life_runs.Led.{Exchanged, speech_at}
-use Rattle.life_runs.proofs.of_master_tour.Backs.{seen_aims}
-use Rattle.life_runs.proofs.of_master_tour.Unders.{SameAim}
-use Rattle.life_runs.specs.of_master_tour.Brings.{accepted_at}
-use Rattle.life_runs.specs.Served.{Serves, ServedTurn, IsServedTurn, accepted_by, served_life}
+use Rattle.run_frames.proofs.of_master_tour.Backs.{seen_aims}
+use Rattle.run_frames.proofs.of_master_tour.Unders.{SameAim}
+use Rattle.run_frames.specs.of_master_tour.Brings.{accepted_at}
+use Rattle.run_frames.specs.of_life_runs.Served.{Serves, ServedTurn, IsServedTurn, accepted_by, served_life}
 use Rattle.served_places.proofs.All.{same_many}
 use Rattle.served_places.proofs.Behind.{reopens_keeps}
 use Rattle.served_places.proofs.News.{none_news}

@@ -2,15 +2,15 @@
 use Rattle.std.proofs.Common.{◌≤◌, ℕ, zero, suc, Bool, true, false, Option, List, [], ◌∷◌, ◌++◌, map, length, length-append, ap, arith}
 use Rattle.std.specs.Prelude.{All, if◌then◌else◌}
 use Rattle.std.proofs.lemmas.List.Elements.{All-nil, All-cons, All-head, All-tail}
-use Rattle.run_frames.specs.of_life_runs.of_datagrams.Datagram as Raw
-use Rattle.run_frames.specs.of_life_runs.of_frame_view.View.{Lens}
-use Rattle.run_frames.specs.of_life_runs.of_frame_view.of_state_model.Stated.{Service}
-use Rattle.run_frames.specs.of_life_runs.of_master_hand.Spoken.{Asked}
-use Rattle.run_frames.specs.of_life_runs.of_segment_plan.declared.service.Service as Plan
+use Rattle.run_frames.specs.of_datagrams.Datagram as Raw
+use Rattle.run_frames.specs.of_frame_view.View.{Lens}
+use Rattle.few_replies.specs.of_state_model.Stated.{Service}
+use Rattle.run_frames.specs.of_master_hand.Spoken.{Asked}
+use Rattle.run_frames.specs.of_segment_plan.declared.service.Service as Plan
 use Rattle.run_frames.specs.of_life_runs.Led.{Exchanged, Leads, gives_up_at}
 use Rattle.served_places.specs.Places.{MayWait}
-use Rattle.life_runs.specs.Served.{Keyed, Serves, ServedTurn, ServedComes, AllServedTurn, IsServedLed, MayAsk, all_serve, asked_at, gives_it, new_serves, served_behind}
-use Rattle.life_runs.specs.Told.{Passed}
+use Rattle.run_frames.specs.of_life_runs.Served.{Keyed, Serves, ServedTurn, ServedComes, AllServedTurn, IsServedLed, MayAsk, all_serve, asked_at, gives_it, new_serves, served_behind}
+use Rattle.run_frames.specs.of_life_runs.Told.{Passed}
 
 -- no more wait before a frame
 fewer : (room : ℕ) (script : List Plan.Service) (waits left : List Keyed) (hand behind : Option Passed) (n m : ℕ) (b : Option (Service Asked)) → ServedComes room script waits hand n b m left behind → length left ≤ length waits

@@ -1,16 +1,16 @@
 -- What the frames of such a serving ask and what its slaves answer, frame by frame, as the count of its frames asks for.
 use Rattle.std.specs.Prelude.{◌≡◌, ℕ, suc, Option, List, map, ⊤}
-use Rattle.frame_view.specs.Seen.{seen}
-use Rattle.frame_view.specs.View.{Lens}
+use Rattle.run_frames.specs.of_frame_view.Seen.{seen}
+use Rattle.run_frames.specs.of_frame_view.View.{Lens}
 use Rattle.run_frames.specs.of_life_runs.Led.{Exchanged}
-use Rattle.link_mails.specs.Body.{Body}
-use Rattle.master_duty.specs.Reply.{Reply}
+use Rattle.few_replies.specs.of_link_mails.Body.{Body}
+use Rattle.run_frames.specs.of_master_duty.Reply.{Reply}
 use Rattle.run_frames.specs.of_master_hand.Spoken.{Asked}
 use Rattle.run_frames.specs.Answers.{AllAsk, AllAnswer}
 use Rattle.run_frames.specs.Clocks.{Clocked}
 use Rattle.run_frames.specs.Runs.{Progress}
 use Rattle.run_frames.specs.Waits.{SomeWaits}
-use Rattle.life_runs.specs.Served.{Serves, ServedTurn}
+use Rattle.run_frames.specs.of_life_runs.Served.{Serves, ServedTurn}
 use Rattle.served_places.specs.Toured.{IsServedToured, served_back, still_served, waits_served}
 
 module _ {lens : ℕ → Lens} {recover retry slowest : ℕ} {first : List Serves} where

@@ -1,7 +1,7 @@
 -- WHERE THE SLAVES OF A SERVING ARE, and how many mails wait for each.
 use Rattle.std.specs.Prelude.{◌≤◌, length}
-use Rattle.run_frames.specs.of_life_runs.of_frame_view.of_life_model.Lives.{Spot}
-use Rattle.life_runs.specs.Served.{Serves}
+use Rattle.few_replies.specs.of_life_model.Lives.{Spot}
+use Rattle.run_frames.specs.of_life_runs.Served.{Serves}
 
 -- the station and the place of a slave, and the state that it is brought up to
 abbrev pub spot_at : Serves → Spot

@@ -1,19 +1,19 @@
 -- THE ROWS OF THE MAILS THAT ARE PASSED ON to a slave, in the order in which they came into its hand, all along its life.
 use Rattle.std.specs.Prelude.{◌≡◌, ◌⊎◌, ℕ, Bool, true, Option, Some, None, List, [], ◌∷◌, ◌++◌, filter, map, if◌then◌else◌, All}
-use Rattle.frame_view.specs.of_exchange_model.Exchange.{plain}
-use Rattle.frame_view.specs.of_exchange_model.Rows.{Row, begun}
-use Rattle.frame_view.specs.of_life_model.Lives.{Era, Life, Stand}
-use Rattle.frame_view.specs.of_segment_model.Ends.{Passing}
-use Rattle.frame_view.specs.of_segment_model.Seats.{rows_of}
-use Rattle.frame_view.specs.of_state_model.Stated.{Service}
-use Rattle.run_frames.specs.of_life_runs.of_frame_view.View.{Lens}
-use Rattle.run_frames.specs.of_life_runs.of_link_mails.Body.{Body}
+use Rattle.few_replies.specs.of_exchange_model.Exchange.{plain}
+use Rattle.few_replies.specs.of_exchange_model.Rows.{Row, begun}
+use Rattle.few_replies.specs.of_life_model.Lives.{Era, Life, Stand}
+use Rattle.few_replies.specs.of_segment_model.Ends.{Passing}
+use Rattle.few_replies.specs.of_segment_model.Seats.{rows_of}
+use Rattle.few_replies.specs.of_state_model.Stated.{Service}
+use Rattle.run_frames.specs.of_frame_view.View.{Lens}
+use Rattle.few_replies.specs.of_link_mails.Body.{Body}
 use Rattle.run_frames.specs.of_life_runs.Led.{Exchanged}
-use Rattle.run_frames.specs.of_life_runs.of_master_duty.Reply.{Reply}
-use Rattle.run_frames.specs.of_life_runs.of_master_hand.Spoken.{Asked, emission, is_followed, is_passed}
-use Rattle.serving_model.specs.Passing.{ends_told}
-use Rattle.life_runs.specs.Served.{Serves, ServedTurn, accepted_by}
-use Rattle.life_runs.specs.Told.{Passed, replies_in}
+use Rattle.run_frames.specs.of_master_duty.Reply.{Reply}
+use Rattle.run_frames.specs.of_master_hand.Spoken.{Asked, emission, is_followed, is_passed}
+use Rattle.few_replies.specs.of_serving_model.Passing.{ends_told}
+use Rattle.run_frames.specs.of_life_runs.Served.{Serves, ServedTurn, accepted_by}
+use Rattle.run_frames.specs.of_life_runs.Told.{Passed, replies_in}
 
 -- the rows of its services by mails, over these epochs
 abbrev pub eras_rows : List (Era Body Asked Reply) → List (Row Body Asked Reply)

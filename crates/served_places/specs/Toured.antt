@@ -1,11 +1,11 @@
 -- A SERVING WHOSE FRAMES ARE VISITS OF ONE TOUR, with its slaves as their frames are counted.
 use Rattle.std.specs.Prelude.{◌≡◌, ◌≤◌, ◌<◌, ℕ, suc, nat_lt, Bool, false, Option, None, List, [], ◌∷◌, ◌++◌, map, length}
-use Rattle.frame_view.specs.Seen.{seen}
-use Rattle.frame_view.specs.View.{Lens}
-use Rattle.frame_view.specs.Shares.{came_at}
+use Rattle.run_frames.specs.of_frame_view.Seen.{seen}
+use Rattle.run_frames.specs.of_frame_view.View.{Lens}
+use Rattle.run_frames.specs.of_frame_view.Shares.{came_at}
 use Rattle.run_frames.specs.of_life_runs.Led.{Exchanged, speech_at, is_passed, gives_up_at, missed_behind}
-use Rattle.link_mails.specs.Body.{Body}
-use Rattle.master_duty.specs.Reply.{Reply}
+use Rattle.few_replies.specs.of_link_mails.Body.{Body}
+use Rattle.run_frames.specs.of_master_duty.Reply.{Reply}
 use Rattle.run_frames.specs.of_master_hand.Spoken.{Asked, acknowledged, is_followed}
 use Rattle.run_frames.specs.of_master_side.Passing.{news_back, news_lost}
 use Rattle.run_frames.specs.Clocks.{Clocked}
@@ -14,9 +14,9 @@ use Rattle.run_frames.specs.Orders.{opened_on, last_of}
 use Rattle.run_frames.specs.Runs.{Progress, many, nothing_sent}
 use Rattle.run_frames.specs.Tours.{IsVisited, again_behind, last_lost}
 use Rattle.run_frames.specs.Waits.{Waits, all_anew, waits_behind}
-use Rattle.segment_model.specs.Slaves.{Datagram}
-use Rattle.segment_ring.specs.declared.wire.Fate.TheVariants.{Pass, Lost}
-use Rattle.life_runs.specs.Served.{Keyed, Serves, ServedTurn, IsServedFrame, MayAsk, asked_at, served_behind}
+use Rattle.few_replies.specs.of_segment_model.Slaves.{Datagram}
+use Rattle.run_frames.specs.of_segment_ring.declared.wire.Fate.TheVariants.{Pass, Lost}
+use Rattle.run_frames.specs.of_life_runs.Served.{Keyed, Serves, ServedTurn, IsServedFrame, MayAsk, asked_at, served_behind}
 
 -- a slave before a frame, with its share of that, which came back so, and with what that tells of a mail that is passed on
 abbrev pub back_under : List (Datagram Body) → ServedTurn → Under Body Asked Reply

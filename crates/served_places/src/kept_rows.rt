@@ -2,22 +2,22 @@
 //! contracts state the laws.
 
 ghost use Rattle.std.specs.Prelude.{◌≡◌, ◌≤◌, ◌++◌, ℕ, Bool, List, Some, None, All};
-ghost use Rattle.life_runs.specs.Lives.{LifeKept};
+ghost use Rattle.run_frames.specs.of_life_runs.Lives.{LifeKept};
 ghost use Rattle.served_places.specs.Rows.{HearsNoMore, IsHeld, Stays, ToldAll, last_more, passed_rows, passings, replies_of, row_begun, told_besides};
-ghost use Rattle.run_frames.specs.of_life_runs.of_datagrams.Datagram as Raw;
-ghost use Rattle.run_frames.specs.of_life_runs.of_datagrams.Frame.{IsFrame, chained};
-ghost use Rattle.run_frames.specs.of_life_runs.of_frame_view.Seen.{seen};
-ghost use Rattle.run_frames.specs.of_life_runs.of_frame_view.View.{Lens};
-ghost use Rattle.run_frames.specs.of_life_runs.of_frame_view.Shares.{AllBoth};
-ghost use Rattle.run_frames.specs.of_life_runs.of_master_hand.Spoken.{Asked, is_passed};
-ghost use Rattle.run_frames.specs.of_life_runs.of_master_side.Passing.{passing_behind};
-ghost use Rattle.run_frames.specs.of_life_runs.of_segment_ring.declared.wire.Fate.TheVariants.{Pass};
+ghost use Rattle.run_frames.specs.of_datagrams.Datagram as Raw;
+ghost use Rattle.run_frames.specs.of_datagrams.Frame.{IsFrame, chained};
+ghost use Rattle.run_frames.specs.of_frame_view.Seen.{seen};
+ghost use Rattle.run_frames.specs.of_frame_view.View.{Lens};
+ghost use Rattle.run_frames.specs.of_frame_view.Shares.{AllBoth};
+ghost use Rattle.run_frames.specs.of_master_hand.Spoken.{Asked, is_passed};
+ghost use Rattle.run_frames.specs.of_master_side.Passing.{passing_behind};
+ghost use Rattle.run_frames.specs.of_segment_ring.declared.wire.Fate.TheVariants.{Pass};
 ghost use Rattle.run_frames.specs.of_life_runs.Led.{Exchanged, Leads};
-ghost use Rattle.frame_view.specs.of_segment_model.Returned.{Returns};
-ghost use Rattle.frame_view.specs.of_state_model.Stated.{Service};
-ghost use Rattle.life_runs.specs.Served.{Serves, ServedTurn, IsServedLed, IsServedTurn, accepted_by, all_serve, new_serves, served_behind};
-ghost use Rattle.life_runs.specs.Told.{Passed, TellsOwn};
-ghost use Rattle.frame_view.specs.of_life_model.Lives.{Stand};
+ghost use Rattle.few_replies.specs.of_segment_model.Returned.{Returns};
+ghost use Rattle.few_replies.specs.of_state_model.Stated.{Service};
+ghost use Rattle.run_frames.specs.of_life_runs.Served.{Serves, ServedTurn, IsServedLed, IsServedTurn, accepted_by, all_serve, new_serves, served_behind};
+ghost use Rattle.run_frames.specs.of_life_runs.Told.{Passed, TellsOwn};
+ghost use Rattle.few_replies.specs.of_life_model.Lives.{Stand};
 
 /// A ROW OF A MAIL THAT WAS PASSED ON STAYS in its place among them, over all epochs of its slave's life: its service, and the frame before which it came into
 /// hand; more may be heard in it. Before a frame there is one more where such a mail comes into hand, behind the others, and behind it there is none more.

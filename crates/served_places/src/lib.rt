@@ -3,13 +3,15 @@
 #![tactic(auto)]
 
 ghost use Rattle.run_frames.specs.of_life_runs.Led.{Exchanged, Leads};
-ghost use Rattle.run_frames.specs.of_life_runs.of_frame_view.View.{Lens};
+ghost use Rattle.run_frames.specs.of_frame_view.View.{Lens};
 ghost use Rattle.served_places.specs.Places.{MayWait, spot_at};
-ghost use Rattle.life_runs.specs.Served.{Serves, IsServedLed, all_serve};
+ghost use Rattle.run_frames.specs.of_life_runs.Served.{Serves, IsServedLed, all_serve};
 ghost use Rattle.std.specs.Prelude.{◌≡◌, ℕ, List, map, All};
 
 pub mod kept_rows;
 pub mod served_tours;
+
+pub use run_frames::datagrams;
 
 /// EACH SLAVE STAYS AT ITS PLACE over all frames of a serving, whatever is asked of it.
 pub fn places_law()

@@ -1,22 +1,24 @@
 //! A serving whose frames are visits of one tour. Definitions and a law, no running code: the function here does nothing, and its contract states the law.
 
 ghost use Rattle.std.specs.Prelude.{◌≡◌, ◌≤◌, ◌<◌, ◌+◌, ◌*◌, ℕ, Option, List, length, map};
-ghost use Rattle.frame_view.specs.View.{Lens};
+ghost use Rattle.run_frames.specs.of_frame_view.View.{Lens};
 ghost use Rattle.run_frames.specs.of_life_runs.First.{lens_of, first_leads};
 ghost use Rattle.run_frames.specs.of_life_runs.Led.{Exchanged, speech_at, is_passed};
-ghost use Rattle.link_mails.specs.Body.{Body};
-ghost use Rattle.master_duty.specs.Reply.{Reply};
+ghost use Rattle.few_replies.specs.of_link_mails.Body.{Body};
+ghost use Rattle.run_frames.specs.of_master_duty.Reply.{Reply};
 ghost use Rattle.run_frames.specs.of_master_hand.Spoken.{Asked, acknowledged, is_followed};
 ghost use Rattle.run_frames.specs.Answers.{AllReturned};
 ghost use Rattle.run_frames.specs.Clocks.{Clocked};
 ghost use Rattle.run_frames.specs.Fates.{gained_in};
 ghost use Rattle.run_frames.specs.Runs.{Progress, IsRun};
-ghost use Rattle.segment_plan.specs.Bound.{slowest};
-ghost use Rattle.segment_plan.specs.Sound.{IsPlan};
-ghost use Rattle.segment_plan.specs.declared.plan.Scenario.{Scenario};
-ghost use Rattle.life_runs.specs.Served.{Serves, IsServedLed, all_serve};
+ghost use Rattle.run_frames.specs.of_segment_plan.Bound.{slowest};
+ghost use Rattle.run_frames.specs.of_segment_plan.Sound.{IsPlan};
+ghost use Rattle.run_frames.specs.of_segment_plan.declared.plan.Scenario.{Scenario};
+ghost use Rattle.run_frames.specs.of_life_runs.Served.{Serves, IsServedLed, all_serve};
 ghost use Rattle.served_places.specs.Answered.{ServedAsks, ServedAnswers, ServedWaits};
 ghost use Rattle.served_places.specs.Toured.{IsServedToured, first_served};
+
+use run_frames::frame_view;
 
 /// SUCH FRAMES ARE A SERVING, and each is counted once.
 pub fn served_tours()

@@ -1,37 +1,37 @@
 -- ALL SLAVES OF A SERVING by a frame.
 use Rattle.std.proofs.Common.{◌≡◌, ℕ, suc, ◌&&◌, Bool, true, false, List, [], ◌∷◌, map, refl, ap₂, sym, ◌∙◌, subst, if◌then◌else◌}
 use Rattle.std.specs.Prelude.{All}
-use Rattle.datagrams.specs.Datagram as Raw
-use Rattle.slave_node.specs.Passing.{datagrams_after}
-use Rattle.frame_view.specs.View.{Lens}
+use Rattle.served_places.specs.of_datagrams.Datagram as Raw
+use Rattle.run_work.specs.of_slave_node.Passing.{datagrams_after}
+use Rattle.run_work.specs.of_frame_view.View.{Lens}
 use Rattle.served_rings.specs.Lives.{news_of}
 use Rattle.served_rings.proofs.Stood as Stood
 use Rattle.served_rings.specs.StoodLives.{AllStoodMembers, IsFirst, StoodMember, others}
 use Rattle.served_rings.specs.LedRings.{Counters, AllTold, all_counters}
-use Rattle.life_model.specs.Lives.{gives_up}
-use Rattle.life_runs.specs.First.{lens_of}
-use Rattle.life_runs.specs.Led.{Exchanged}
-use Rattle.link_mails.specs.Body.{Body}
+use Rattle.served_places.specs.of_life_model.Lives.{gives_up}
+use Rattle.served_places.specs.of_life_runs.First.{lens_of}
+use Rattle.served_places.specs.of_life_runs.Led.{Exchanged}
+use Rattle.served_places.specs.of_link_mails.Body.{Body}
 use Rattle.run_work.specs.of_master_hand.Spoken.{Asked, is_followed, is_passed}
-use Rattle.plan_ring.specs.Plan.{FitsPlan, step}
-use Rattle.plan_ring.specs.Round.{WentRound}
-use Rattle.plan_ring.proofs.Known.{AllBoot, Boots}
-use Rattle.segment_model.specs.Record.{Frame}
-use Rattle.segment_plan.specs.declared.plan.Scenario.{Scenario}
-use Rattle.segment_plan.specs.declared.service.Service as Plan
-use Rattle.segment_plan.specs.declared.slave.SlaveSpec.{SlaveSpec}
-use Rattle.segment_ring.specs.Ring.{RingState}
-use Rattle.segment_ring.specs.Schedule.{fate_at}
-use Rattle.segment_ring.specs.declared.wire.Fate.{Fate}
-use Rattle.segment_ring.specs.declared.wire.Fate.TheVariants.{Pass, Lost}
-use Rattle.plan_ring.specs.Real.{running_as}
-use Rattle.life_runs.specs.Served.{Serves, ServedTurn, AllServedTurn, served_behind}
-use Rattle.plan_ring.specs.of_slave_lives.Rings.{is_met_at, met, turned}
-use Rattle.plan_ring.specs.of_slave_server.Serving.{Serving}
-use Rattle.plan_ring.specs.of_slave_server.Spec.{profile_of}
-use Rattle.slave_node.specs.Node.{Node}
-use Rattle.plan_ring.specs.of_whole_ring.Members.{AllLived}
-use Rattle.plan_ring.specs.of_whole_ring.Turning.{AllTurn, Turn, behind_frame, frame_at, given_up}
+use Rattle.run_work.specs.of_plan_ring.Plan.{FitsPlan, step}
+use Rattle.run_work.specs.of_plan_ring.Round.{WentRound}
+use Rattle.run_work.proofs.of_plan_ring.Known.{AllBoot, Boots}
+use Rattle.served_places.specs.of_segment_model.Record.{Frame}
+use Rattle.run_work.specs.of_segment_plan.declared.plan.Scenario.{Scenario}
+use Rattle.run_work.specs.of_segment_plan.declared.service.Service as Plan
+use Rattle.run_work.specs.of_segment_plan.declared.slave.SlaveSpec.{SlaveSpec}
+use Rattle.served_places.specs.of_segment_ring.Ring.{RingState}
+use Rattle.served_places.specs.of_segment_ring.Schedule.{fate_at}
+use Rattle.served_places.specs.of_segment_ring.declared.wire.Fate.{Fate}
+use Rattle.served_places.specs.of_segment_ring.declared.wire.Fate.TheVariants.{Pass, Lost}
+use Rattle.run_work.specs.of_plan_ring.Real.{running_as}
+use Rattle.served_places.specs.of_life_runs.Served.{Serves, ServedTurn, AllServedTurn, served_behind}
+use Rattle.run_work.specs.of_slave_lives.Rings.{is_met_at, met, turned}
+use Rattle.run_work.specs.of_slave_server.Serving.{Serving}
+use Rattle.run_work.specs.of_slave_server.Spec.{profile_of}
+use Rattle.run_work.specs.of_slave_node.Node.{Node}
+use Rattle.run_work.specs.of_whole_ring.Members.{AllLived}
+use Rattle.run_work.specs.of_whole_ring.Turning.{AllTurn, Turn, behind_frame, frame_at, given_up}
 use Rattle.served_rings.specs.Rings.{AllServedAt, ServedMember, counters_of, served_members}
 use Rattle.served_rings.proofs.One as One
 use Rattle.served_rings.proofs.Reopened.{AllReopen}

@@ -1,9 +1,9 @@
 -- WITH ANY MAILS AMONG THEM services are one exchange that keeps its laws.
 use Rattle.std.proofs.Common.{◌≡◌, ◌⊎◌, inl, inr, ◌&&◌, Bool, true, false, List, refl}
-use Rattle.exchange_model.specs.Exchange.{Exchange, IsLawful, Before, Behind, after}
-use Rattle.few_replies.specs.Calm.{asked_fair, calm_tagged}
-use Rattle.serving_model.specs.Tagged.{IsServed, Asked, Rowed, ideal, tagged}
-use Rattle.serving_model.proofs.TaggedLaw.{tagged_lawful}
+use Rattle.served_places.specs.of_exchange_model.Exchange.{Exchange, IsLawful, Before, Behind, after}
+use Rattle.run_work.specs.of_few_replies.Calm.{asked_fair, calm_tagged}
+use Rattle.served_places.specs.of_serving_model.Tagged.{IsServed, Asked, Rowed, ideal, tagged}
+use Rattle.run_work.proofs.of_serving_model.TaggedLaw.{tagged_lawful}
 
 -- AN EXCHANGE OF FEWER SERVERS AND SERVICES keeps the laws, where all mails of a service leave one of its servers
 module _ {V A M Q R : Type 0} (x : Exchange V A M Q R) (law : IsLawful x) (ready : V → Bool) (valid : Q → Bool) (servers : (v : V) → ready v ≡ true → x.ready v ≡ true) (services : (q : Q) → valid q ≡ true → x.speech.valid q ≡ true)

@@ -2,37 +2,37 @@
 -- state service came behind it, just all its own replies were heard.
 use Rattle.std.proofs.Common.{◌≡◌, inl, inr, ℕ, suc, ◌≤◌, Bool, true, false, Option, Some, None, List, [], ◌∷◌, ◌++◌, take, drop, length, refl, ap, ap₂, sym, ◌∙◌, subst, append_assoc, append-nil, arith, length-append}
 use Rattle.std.proofs.lemmas.List.{append_cancel_right, take-append-drop, take-append-le}
-use Rattle.exchange_model.specs.Exchange.{Exchange, IsLawful, after, given, plain}
-use Rattle.exchange_model.specs.Prefix.{IsPrefixOf}
-use Rattle.exchange_model.specs.Rows.{Row, Settled, heard_all, services, told_all}
-use Rattle.exchange_model.proofs.Lists.{append_cancel, filter-append, prefix_nil}
-use Rattle.exchange_model.proofs.Nows.{heard_begins}
-use Rattle.exchange_model.proofs.Settles.{heard_all-append, settled_front, settled_heard}
-use Rattle.exchange_model.proofs.Words.{after-append}
-use Rattle.life_model.proofs.Eras.{frames_push, of_one, session_of}
-use Rattle.life_model.specs.Eras.{EraIs, OpenEra, era_frames, planned}
-use Rattle.life_model.specs.Lives.{Spot, Era}
-use Rattle.life_model.specs.Own.{own_frame}
-use Rattle.served_places.specs.of_few_replies.Led.{IsLed, frame_in, news_in, turn_next}
-use Rattle.segment_model.proofs.Answers.{Open, OpenNow, news_each-push}
-use Rattle.segment_model.proofs.News.{mails_heard-append}
-use Rattle.segment_model.specs.Ends.{Outcome}
-use Rattle.segment_model.specs.Record.{Frame, Kept, heard, joined, kept_after, mails_heard, news_each, news_from, nothing_kept}
-use Rattle.segment_model.specs.Seats.{Seat, Side}
-use Rattle.segment_model.specs.Slaves.{Processor, Registers, Slave}
-use Rattle.state_model.proofs.Acts.{acts_append}
-use Rattle.state_model.proofs.StatedLaw.{stated_law}
-use Rattle.state_model.specs.Stated.{Act, Counting, IsStated, Service, Stated, acts, with_states}
-use Rattle.state_model.specs.Promises.{IsTable}
-use Rattle.state_model.specs.States.{Table}
-use Rattle.state_model.proofs.Ghosts as Ghosts
-use Rattle.state_model.proofs.Ghosts.{counting, start_of, starts_append, starts_of}
-use Rattle.state_model.proofs.Newest.{Holds}
-use Rattle.state_model.proofs.Sessions.{of_slaves}
-use Rattle.state_model.proofs.Stately.{state_over}
-use Rattle.state_model.specs.Accounts.{Account, Started}
-use Rattle.state_model.specs.Promise.{mails_in, services_in}
-use Rattle.state_model.specs.Tasks.{IsTaskPlan}
+use Rattle.served_places.specs.of_exchange_model.Exchange.{Exchange, IsLawful, after, given, plain}
+use Rattle.served_places.specs.of_exchange_model.Prefix.{IsPrefixOf}
+use Rattle.served_places.specs.of_exchange_model.Rows.{Row, Settled, heard_all, services, told_all}
+use Rattle.served_places.proofs.of_exchange_model.Lists.{append_cancel, filter-append, prefix_nil}
+use Rattle.served_places.proofs.of_exchange_model.Nows.{heard_begins}
+use Rattle.served_places.proofs.of_exchange_model.Settles.{heard_all-append, settled_front, settled_heard}
+use Rattle.served_places.proofs.of_exchange_model.Words.{after-append}
+use Rattle.served_places.proofs.of_life_model.Eras.{frames_push, of_one, session_of}
+use Rattle.served_places.specs.of_life_model.Eras.{EraIs, OpenEra, era_frames, planned}
+use Rattle.served_places.specs.of_life_model.Lives.{Spot, Era}
+use Rattle.served_places.specs.of_life_model.Own.{own_frame}
+use Rattle.run_work.specs.of_few_replies.Led.{IsLed, frame_in, news_in, turn_next}
+use Rattle.served_places.proofs.of_segment_model.Answers.{Open, OpenNow, news_each-push}
+use Rattle.served_places.proofs.of_segment_model.News.{mails_heard-append}
+use Rattle.served_places.specs.of_segment_model.Ends.{Outcome}
+use Rattle.served_places.specs.of_segment_model.Record.{Frame, Kept, heard, joined, kept_after, mails_heard, news_each, news_from, nothing_kept}
+use Rattle.served_places.specs.of_segment_model.Seats.{Seat, Side}
+use Rattle.served_places.specs.of_segment_model.Slaves.{Processor, Registers, Slave}
+use Rattle.served_places.proofs.of_state_model.Acts.{acts_append}
+use Rattle.served_places.proofs.of_state_model.StatedLaw.{stated_law}
+use Rattle.served_places.specs.of_state_model.Stated.{Act, Counting, IsStated, Service, Stated, acts, with_states}
+use Rattle.served_places.specs.of_state_model.Promises.{IsTable}
+use Rattle.served_places.specs.of_state_model.States.{Table}
+use Rattle.served_places.proofs.of_state_model.Ghosts as Ghosts
+use Rattle.served_places.proofs.of_state_model.Ghosts.{counting, start_of, starts_append, starts_of}
+use Rattle.served_places.proofs.of_state_model.Newest.{Holds}
+use Rattle.served_places.proofs.of_state_model.Sessions.{of_slaves}
+use Rattle.served_places.proofs.of_state_model.Stately.{state_over}
+use Rattle.served_places.specs.of_state_model.Accounts.{Account, Started}
+use Rattle.served_places.specs.of_state_model.Promise.{mails_in, services_in}
+use Rattle.served_places.specs.of_state_model.Tasks.{IsTaskPlan}
 use Rattle.run_work.proofs.of_life_counts.Steps.{started_services}
 use Rattle.served_rings.proofs.Newest.{snoc_same}
 use Rattle.served_rings.proofs.Sessions.{led_later, led_session}

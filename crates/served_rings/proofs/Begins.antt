@@ -2,37 +2,37 @@
 use Rattle.std.proofs.Common.{◌≡◌, ◌≤◌, ℕ, suc, ◌&&◌, Bool, true, List, [], ◌∷◌, map, length, refl, ap, ap₂, sym, ◌∙◌, arith}
 use Rattle.std.specs.Prelude.{None, All}
 use Rattle.std.proofs.lemmas.List.Elements.{All-head, All-tail}
-use Rattle.slave_parts.specs.FoeServed.{has_its_room}
-use Rattle.frame_view.specs.View.{Lens}
+use Rattle.run_work.specs.of_slave_parts.FoeServed.{has_its_room}
+use Rattle.run_work.specs.of_frame_view.View.{Lens}
 use Rattle.served_rings.proofs.Stood as Stood
 use Rattle.served_rings.specs.StoodLives.{AllStoodMembers, IsFirst, StoodMember, others}
-use Rattle.life_runs.specs.First.{first_leads, leads_from, lens_of, script_for, spot_of}
-use Rattle.life_runs.specs.Led.{new_leads}
+use Rattle.served_places.specs.of_life_runs.First.{first_leads, leads_from, lens_of, script_for, spot_of}
+use Rattle.served_places.specs.of_life_runs.Led.{new_leads}
 use Rattle.run_work.specs.of_master_hand.Spoken.{Asked, sdo, file, drive, net, passed, is_followed, is_passed}
-use Rattle.plan_ring.specs.Lives.{IsKnown}
-use Rattle.plan_ring.specs.Plan.{AllMacs, FitsPlan, members_of, new_member, new_members, step}
-use Rattle.plan_ring.proofs.Asked.{alike}
-use Rattle.plan_ring.proofs.Known.{macs_in}
+use Rattle.run_work.specs.of_plan_ring.Lives.{IsKnown}
+use Rattle.run_work.specs.of_plan_ring.Plan.{AllMacs, FitsPlan, members_of, new_member, new_members, step}
+use Rattle.run_work.proofs.of_plan_ring.Asked.{alike}
+use Rattle.run_work.proofs.of_plan_ring.Known.{macs_in}
 use Rattle.served_rings.specs.Speakers.{spoken, spoken_states}
-use Rattle.segment_plan.specs.Sound as Plan
-use Rattle.segment_plan.specs.Sound.{IsSlave}
-use Rattle.segment_plan.specs.declared.plan.Scenario.{Scenario}
-use Rattle.segment_plan.specs.declared.service.Service as Row
-use Rattle.segment_plan.specs.declared.slave.SlaveSpec.{SlaveSpec}
+use Rattle.run_work.specs.of_segment_plan.Sound as Plan
+use Rattle.run_work.specs.of_segment_plan.Sound.{IsSlave}
+use Rattle.run_work.specs.of_segment_plan.declared.plan.Scenario.{Scenario}
+use Rattle.run_work.specs.of_segment_plan.declared.service.Service as Row
+use Rattle.run_work.specs.of_segment_plan.declared.slave.SlaveSpec.{SlaveSpec}
 use Rattle.served_rings.specs.Serves.{serves}
-use Rattle.life_runs.specs.Served.{Serves, all_serve, new_serves}
-use Rattle.plan_ring.specs.Rooms.{IsSound}
-use Rattle.plan_ring.specs.of_slave_lives.Lived.{IsBehind}
-use Rattle.slave_model.specs.Profile.{Profile, IsProfile}
-use Rattle.slave_model.specs.Application.{station_files, station_valid}
-use Rattle.slave_parts.specs.Parts.{parts}
-use Rattle.plan_ring.specs.of_slave_server.Serving.{Serving, cleared}
-use Rattle.plan_ring.specs.of_slave_server.Spec.{node_of, profile_of, server_of}
-use Rattle.slave_node.specs.Node.{Node}
-use Rattle.state_model.specs.Stated.{IsStated}
-use Rattle.plan_ring.specs.of_whole_ring.Whole.{IsWhole}
-use Rattle.plan_ring.proofs.of_whole_ring.WholeTurning as Turning
-use Rattle.plan_ring.specs.of_whole_ring.Members.{MemberIs, AllLived, AreDistinct, IsElsewhere, IsRing, first_ring}
+use Rattle.served_places.specs.of_life_runs.Served.{Serves, all_serve, new_serves}
+use Rattle.run_work.specs.of_plan_ring.Rooms.{IsSound}
+use Rattle.run_work.specs.of_slave_lives.Lived.{IsBehind}
+use Rattle.run_work.specs.of_slave_model.Profile.{Profile, IsProfile}
+use Rattle.run_work.specs.of_slave_model.Application.{station_files, station_valid}
+use Rattle.run_work.specs.of_slave_parts.Parts.{parts}
+use Rattle.run_work.specs.of_slave_server.Serving.{Serving, cleared}
+use Rattle.run_work.specs.of_slave_server.Spec.{node_of, profile_of, server_of}
+use Rattle.run_work.specs.of_slave_node.Node.{Node}
+use Rattle.served_places.specs.of_state_model.Stated.{IsStated}
+use Rattle.run_work.specs.of_whole_ring.Whole.{IsWhole}
+use Rattle.run_work.proofs.of_whole_ring.WholeTurning as Turning
+use Rattle.run_work.specs.of_whole_ring.Members.{MemberIs, AllLived, AreDistinct, IsElsewhere, IsRing, first_ring}
 use Rattle.served_rings.specs.Rings.{AllServedAt, AreStoodLived, ServedMember, counters_of, served_member, served_members}
 
 -- the laws that this stands on

@@ -1,13 +1,13 @@
 -- No answer of CoE is an emission as the slave tells them apart: a message that isn't an emergency is no emergency in its octets, spelled or not.
 use Rattle.std.proofs.Common.{◌≡◌, ℕ, ◌==◌, ◌&&◌, nat_le, nat_lt, Bool, true, false, List, length, take, drop, Result, Ok, Err, refl, sym, subst, if◌then◌else◌}
 use Rattle.std.specs.List.{slice_index}
-use Rattle.ec_fields.specs.Fields.{number_at}
-use Rattle.coe_codec.specs.Fields.{service_in, specifier_in, flag_in, opcode_in}
-use Rattle.coe_codec.specs.declared.message.Coe.TheVariants.{Emergency, Expedited, First, Upload, DownloadAnswer, ExpeditedAnswer, FirstAnswer, Segment, SegmentAnswer, UploadSegment, UploadSegmentAnswer, ListRequest, ObjectRequest, EntryRequest, Information, InformationError}
-use Rattle.coe_codec.specs.declared.message.CoeFault.TheVariants.{Short, Service, Command, Size}
-use Rattle.coe_codec.specs.Reading.{expedited_part, first_fits, segment_fits, segment_part, abort_in, is_information, download_read, upload_answer_read, request_read, answer_read, information_read, coe_read}
-use Rattle.protocol_models.specs.CoeMails.{Coe, CoeFault, is_emission}
-use Rattle.protocol_models.specs.CoeOctets.{heard}
+use Rattle.run_work.specs.of_ec_fields.Fields.{number_at}
+use Rattle.served_places.specs.of_coe_codec.Fields.{service_in, specifier_in, flag_in, opcode_in}
+use Rattle.served_places.specs.of_coe_codec.declared.message.Coe.TheVariants.{Emergency, Expedited, First, Upload, DownloadAnswer, ExpeditedAnswer, FirstAnswer, Segment, SegmentAnswer, UploadSegment, UploadSegmentAnswer, ListRequest, ObjectRequest, EntryRequest, Information, InformationError}
+use Rattle.served_places.specs.of_coe_codec.declared.message.CoeFault.TheVariants.{Short, Service, Command, Size}
+use Rattle.served_places.specs.of_coe_codec.Reading.{expedited_part, first_fits, segment_fits, segment_part, abort_in, is_information, download_read, upload_answer_read, request_read, answer_read, information_read, coe_read}
+use Rattle.run_work.specs.of_protocol_models.CoeMails.{Coe, CoeFault, is_emission}
+use Rattle.run_work.specs.of_protocol_models.CoeOctets.{heard}
 
 -- what reads as no emergency
 abbrev Calm : List ℕ → Result Coe CoeFault → Type 0

@@ -1,12 +1,12 @@
 -- WHAT A FRAME TELLS as it comes back is what it told as it was sent.
 use Rattle.std.proofs.Common.{◌≡◌, inl, inr, ℕ, ◌==◌, ◌&&◌, Bool, true, false, not, List, [], ◌∷◌, ◌++◌, map, refl, ap, ap₂, sym, ◌∙◌, if◌then◌else◌}
-use Rattle.life_model.specs.Own.{own, IsSeen, AreSeen}
-use Rattle.life_model.proofs.Owns.{own-told}
-use Rattle.link_model.specs.Frames.{Ask, gram_meets}
-use Rattle.link_model.proofs.Own.{station-gram_meets, ask-gram_meets}
-use Rattle.served_places.specs.of_few_replies.Led.{counted_news}
-use Rattle.segment_model.specs.Record.{News, is_for, is_read, mail_told, last_told, all_told, told_behind, did_read, without_empty}
-use Rattle.segment_model.specs.Slaves.{Slave, Datagram, Ring, grams, slave_meets, datagram_meets, frame_after, all_back}
+use Rattle.served_places.specs.of_life_model.Own.{own, IsSeen, AreSeen}
+use Rattle.served_places.proofs.of_life_model.Owns.{own-told}
+use Rattle.served_places.specs.of_link_model.Frames.{Ask, gram_meets}
+use Rattle.served_places.proofs.of_link_model.Own.{station-gram_meets, ask-gram_meets}
+use Rattle.run_work.specs.of_few_replies.Led.{counted_news}
+use Rattle.served_places.specs.of_segment_model.Record.{News, is_for, is_read, mail_told, last_told, all_told, told_behind, did_read, without_empty}
+use Rattle.served_places.specs.of_segment_model.Slaves.{Slave, Datagram, Ring, grams, slave_meets, datagram_meets, frame_after, all_back}
 
 -- these frames tell a station the same mails, with the same counter of the last
 abbrev TellsSame : {M : Type 0} → ℕ → ℕ → List (Datagram M) → List (Datagram M) → Type 0

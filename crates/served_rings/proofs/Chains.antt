@@ -1,15 +1,15 @@
 -- EPOCH BY EPOCH: a life that its master leads, seen with what is meant by its mails.
 use Rattle.std.proofs.Common.{◌≡◌, ℕ, Bool, Option, List, [], ◌∷◌, ◌++◌, map, length, refl, ap, ap₂, sym, ◌∙◌, subst}
 use Rattle.std.proofs.lemmas.List.{map-append}
-use Rattle.exchange_model.specs.Exchange.{Exchange}
-use Rattle.life_model.specs.Eras.{WasOpen, planned}
-use Rattle.life_model.specs.Lives.{Spot, Era, Life, new_era}
-use Rattle.served_places.specs.of_few_replies.Led.{IsLed}
-use Rattle.segment_model.specs.Record.{Frame}
-use Rattle.segment_model.specs.Slaves.{Registers, Processor, Slave}
-use Rattle.serving_model.specs.Tagged.{Tagged, Asked, Rowed, real, ideal}
-use Rattle.state_model.specs.States.{Table}
-use Rattle.state_model.specs.Tasks.{IsTaskPlan}
+use Rattle.served_places.specs.of_exchange_model.Exchange.{Exchange}
+use Rattle.served_places.specs.of_life_model.Eras.{WasOpen, planned}
+use Rattle.served_places.specs.of_life_model.Lives.{Spot, Era, Life, new_era}
+use Rattle.run_work.specs.of_few_replies.Led.{IsLed}
+use Rattle.served_places.specs.of_segment_model.Record.{Frame}
+use Rattle.served_places.specs.of_segment_model.Slaves.{Registers, Processor, Slave}
+use Rattle.served_places.specs.of_serving_model.Tagged.{Tagged, Asked, Rowed, real, ideal}
+use Rattle.served_places.specs.of_state_model.States.{Table}
+use Rattle.served_places.specs.of_state_model.Tasks.{IsTaskPlan}
 use Rattle.run_work.specs.of_life_counts.Epochs.{Speaker, AllFair, IsSeen, between, seeing, seeing_states, era_named}
 use Rattle.run_work.specs.of_life_counts.Worked.{AllWorked, IsNewest}
 use Rattle.served_rings.specs.SeenLed.{ErasFair, IsFairLife, IsSeenLife, WasLed, AllLed, IsNewestLed, IsLedLife}

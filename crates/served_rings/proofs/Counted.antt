@@ -1,19 +1,19 @@
 -- FRAME BY FRAME the record's counters of an open slave are those of its epoch.
 use Rattle.std.proofs.Common.{◌≡◌, ℕ, zero, suc, ◌-◌, ◌%◌, ◌==◌, ◌<◌, ◌&&◌, Bool, true, false, not, List, [], ◌∷◌, ◌++◌, map, length, take, drop, refl, ap, ap₂, sym, ◌∙◌, subst, arith, append-nil, length-append, if◌then◌else◌}
 use Rattle.std.specs.Prelude.{replicate}
-use Rattle.life_model.specs.Eras.{era_frames}
-use Rattle.life_model.specs.Lives.{Spot}
-use Rattle.life_model.specs.Own.{own, own_frame, blank, AreSeen}
-use Rattle.life_model.proofs.Eras.{frames_push}
-use Rattle.life_model.proofs.Owns.{own-news}
-use Rattle.link_mails.specs.Body.{Body}
-use Rattle.link_model.specs.Segment.{RingFate}
-use Rattle.master_side.specs.Passing.{news_back, news_lost}
-use Rattle.master_side.specs.Counts as Record
-use Rattle.served_places.specs.of_few_replies.Led.{EraTurn, counts_behind, counted_news, frame_in, has_step, news_in}
-use Rattle.segment_model.specs.Record.{Frame, News, Kept, all_told, back_news, did_read, frame_news, heard_behind, kept_after, kept_all, nothing_kept, told_behind, without_empty}
-use Rattle.segment_model.specs.Slaves.{Slave, grams, ring_back}
-use Rattle.segment_model.proofs.Answers.{kept_all-push}
+use Rattle.served_places.specs.of_life_model.Eras.{era_frames}
+use Rattle.served_places.specs.of_life_model.Lives.{Spot}
+use Rattle.served_places.specs.of_life_model.Own.{own, own_frame, blank, AreSeen}
+use Rattle.served_places.proofs.of_life_model.Eras.{frames_push}
+use Rattle.served_places.proofs.of_life_model.Owns.{own-news}
+use Rattle.served_places.specs.of_link_mails.Body.{Body}
+use Rattle.served_places.specs.of_link_model.Segment.{RingFate}
+use Rattle.run_work.specs.of_master_side.Passing.{news_back, news_lost}
+use Rattle.run_work.specs.of_master_side.Counts as Record
+use Rattle.run_work.specs.of_few_replies.Led.{EraTurn, counts_behind, counted_news, frame_in, has_step, news_in}
+use Rattle.served_places.specs.of_segment_model.Record.{Frame, News, Kept, all_told, back_news, did_read, frame_news, heard_behind, kept_after, kept_all, nothing_kept, told_behind, without_empty}
+use Rattle.served_places.specs.of_segment_model.Slaves.{Slave, grams, ring_back}
+use Rattle.served_places.proofs.of_segment_model.Answers.{kept_all-push}
 use Rattle.served_rings.specs.Counters.{IsCounted}
 use Rattle.served_rings.proofs.Carried.{did_own, told_came, told_counted}
 

@@ -1,38 +1,38 @@
 -- WHAT A SLAVE OF A SERVING SENT OF ITSELF in an epoch: at rest all that its rows emit was heard in them.
 use Rattle.std.proofs.Common.{◌≡◌, ℕ, suc, Bool, true, false, not, cond, Option, List, [], ◌∷◌, ◌++◌, length, map, refl, ap, sym, ◌∙◌, Ok, Err, if◌then◌else◌}
-use Rattle.exchange_model.specs.Exchange.{Exchange, emitted}
-use Rattle.exchange_model.specs.Rows.{emits_all}
+use Rattle.served_places.specs.of_exchange_model.Exchange.{Exchange, emitted}
+use Rattle.served_places.specs.of_exchange_model.Rows.{emits_all}
 use Rattle.run_work.proofs.of_life_counts.Eras.{era_knows}
 use Rattle.run_work.proofs.of_life_counts.Eras as Eras
 use Rattle.run_work.proofs.of_life_counts.TaggedWhole.{seeing_lawful, seeing_stated}
 use Rattle.run_work.specs.of_life_counts.Epochs.{IsSpeaker, IsSeen, between, seeing, seeing_states}
 use Rattle.run_work.specs.of_life_counts.Foreseen.{AllRight, IsRightAt}
 use Rattle.run_work.specs.of_life_counts.Seen.{service_seen}
-use Rattle.life_model.specs.Eras.{era_frames}
-use Rattle.life_model.specs.Lives.{Spot, Era}
-use Rattle.link_mails.specs.Body.{Body}
-use Rattle.master_duty.specs.Reply.{Reply}
+use Rattle.served_places.specs.of_life_model.Eras.{era_frames}
+use Rattle.served_places.specs.of_life_model.Lives.{Spot, Era}
+use Rattle.served_places.specs.of_link_mails.Body.{Body}
+use Rattle.run_work.specs.of_master_duty.Reply.{Reply}
 use Rattle.run_work.specs.of_master_hand.Spoken.{Asked, emission}
 use Rattle.run_work.specs.Sessions.{Meant, OwnService, Wanted, named_wanted}
-use Rattle.segment_model.specs.Ends.{Outcome}
-use Rattle.segment_model.specs.Record.{Frame, heard}
-use Rattle.segment_model.specs.Slaves.{Registers, Slave}
+use Rattle.served_places.specs.of_segment_model.Ends.{Outcome}
+use Rattle.served_places.specs.of_segment_model.Record.{Frame, heard}
+use Rattle.served_places.specs.of_segment_model.Slaves.{Registers, Slave}
 use Rattle.served_rings.proofs.HeardSeen.{emitted_untag, heard_as}
 use Rattle.served_rings.proofs.Mails.{AllNamed, acts_named, is_mail, mailer}
 use Rattle.served_rings.proofs.SeenRests.{frames}
 use Rattle.served_rings.specs.Served.{emitted_behind}
 use Rattle.served_rings.specs.Speakers.{naming_of, seer_of, spoken, table_of, whole_states}
-use Rattle.serving_model.proofs.TaggedLaw.{untag-append}
-use Rattle.serving_model.specs.Tagged as Tagged
-use Rattle.serving_model.specs.Tagged.{asked_emits, asked_exec, is_own, no_reply, own_gift, untag}
-use Rattle.slave_model.specs.Profile.{Profile, Protocol}
-use Rattle.slave_model.specs.Server as SlaveReply
-use Rattle.slave_parts.specs.Parts.{Server, parts}
-use Rattle.slave_parts.specs.Served.{product_whole}
-use Rattle.state_model.proofs.Acts.{mails_acts, mails_append}
-use Rattle.state_model.specs.Families.{InState}
-use Rattle.state_model.specs.Stated.{Act, Counting, Service, acts, mails, service_valid, with_states}
-use Rattle.state_model.specs.Promises.{state_behind}
+use Rattle.run_work.proofs.of_serving_model.TaggedLaw.{untag-append}
+use Rattle.served_places.specs.of_serving_model.Tagged as Tagged
+use Rattle.served_places.specs.of_serving_model.Tagged.{asked_emits, asked_exec, is_own, no_reply, own_gift, untag}
+use Rattle.run_work.specs.of_slave_model.Profile.{Profile, Protocol}
+use Rattle.run_work.specs.of_slave_model.Server as SlaveReply
+use Rattle.run_work.specs.of_slave_parts.Parts.{Server, parts}
+use Rattle.run_work.specs.of_slave_parts.Served.{product_whole}
+use Rattle.served_places.proofs.of_state_model.Acts.{mails_acts, mails_append}
+use Rattle.served_places.specs.of_state_model.Families.{InState}
+use Rattle.served_places.specs.of_state_model.Stated.{Act, Counting, Service, acts, mails, service_valid, with_states}
+use Rattle.served_places.specs.of_state_model.Promises.{state_behind}
 
 -- where none of these replies, all are sent of themselves
 all_emitted : {M : Type 0} (e : M → Bool) (ms : List M) → no_reply e ms ≡ true → emitted e ms ≡ ms

@@ -1,17 +1,17 @@
 -- WHERE EACH SERVICE HAS ITS OUTCOME its master has its answer: that of the application behind those before it.
 use Rattle.std.proofs.Common.{◌≡◌, ◌<◌, ℕ, suc, ◌==◌, Bool, true, false, Option, None, Some, option_map, List, [], ◌∷◌, ◌++◌, refl, ap, sym, ◌∙◌, subst, if◌then◌else◌}
 use Rattle.std.specs.Prelude.{⊤}
-use Rattle.exchange_model.specs.Exchange.{Exchange, Speech, plain}
-use Rattle.exchange_model.specs.Rows.{Row}
-use Rattle.link_model.specs.Mails.{first_of}
-use Rattle.segment_model.specs.Ends.{Outcome, mails_end, state_ends}
-use Rattle.segment_model.specs.Laws.{AllAnswered, IsAnswered, as_outcome}
-use Rattle.segment_model.specs.Record.{Frame, News, first_end, mails_heard, news_from, or_later}
-use Rattle.state_model.specs.Stated.{Service, Stated, service_exec, service_reply}
-use Rattle.state_model.specs.Promises.{answer_of, state_behind}
-use Rattle.state_model.specs.States.{Table}
-use Rattle.state_model.specs.Accounts.{Change, Started}
-use Rattle.state_model.specs.Promise.{AllDone, AllEnded, AllFound, AllReplied, IsReply, changes_in, mail_of, mails_started, outcome_of, rows_started, services_in, state_found, state_of, states_started}
+use Rattle.served_places.specs.of_exchange_model.Exchange.{Exchange, Speech, plain}
+use Rattle.served_places.specs.of_exchange_model.Rows.{Row}
+use Rattle.served_places.specs.of_link_model.Mails.{first_of}
+use Rattle.served_places.specs.of_segment_model.Ends.{Outcome, mails_end, state_ends}
+use Rattle.served_places.specs.of_segment_model.Laws.{AllAnswered, IsAnswered, as_outcome}
+use Rattle.served_places.specs.of_segment_model.Record.{Frame, News, first_end, mails_heard, news_from, or_later}
+use Rattle.served_places.specs.of_state_model.Stated.{Service, Stated, service_exec, service_reply}
+use Rattle.served_places.specs.of_state_model.Promises.{answer_of, state_behind}
+use Rattle.served_places.specs.of_state_model.States.{Table}
+use Rattle.served_places.specs.of_state_model.Accounts.{Change, Started}
+use Rattle.served_places.specs.of_state_model.Promise.{AllDone, AllEnded, AllFound, AllReplied, IsReply, changes_in, mail_of, mails_started, outcome_of, rows_started, services_in, state_found, state_of, states_started}
 
 -- ---- the outcome of a state service tells that it was carried out
 same_reply : {R : Type 0} (r o : Outcome R) → Some r ≡ Some o → IsReply r → IsReply o

@@ -1,11 +1,11 @@
 -- Which mails go on but the last: the parts of an information and the fragments of an element.
 use Rattle.std.proofs.Common.{◌≡◌, inl, inr, ℕ, zero, suc, ◌<◌, not, Bool, true, false, List, [], ◌∷◌, map, drop, length, refl, ap, ◌∙◌, arith, length-drop, le-leb, if◌then◌else◌}
 use Rattle.std.proofs.lemmas.Bool.{cases_lt, lt-leb}
-use Rattle.protocol_models.specs.CoeMails.{CoeMail, mail, Information}
-use Rattle.protocol_models.specs.CoeServer.{information_parts}
-use Rattle.serving_model.specs.Passing.{ends_told}
-use Rattle.protocol_models.specs.Elements.{Target}
-use Rattle.protocol_models.specs.SoeMails as Soe
+use Rattle.run_work.specs.of_protocol_models.CoeMails.{CoeMail, mail, Information}
+use Rattle.run_work.specs.of_protocol_models.CoeServer.{information_parts}
+use Rattle.served_places.specs.of_serving_model.Passing.{ends_told}
+use Rattle.run_work.specs.of_protocol_models.Elements.{Target}
+use Rattle.run_work.specs.of_protocol_models.SoeMails as Soe
 
 -- one more in front
 pub goes_on : {M : Type 0} (more : M → Bool) (m : M) (ms : List M) → more m ≡ true → ends_told more ms ≡ true → ends_told more (m ∷ ms) ≡ true

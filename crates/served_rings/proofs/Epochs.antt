@@ -1,36 +1,36 @@
 -- AN EPOCH THAT ITS MASTER LED AND ITS NODE LIVED: what its slave carried out of it.
 use Rattle.std.proofs.Common.{◌≡◌, ℕ, Bool, true, List, map, length, take, ap, sym, ◌∙◌, subst, arith}
 use Rattle.std.proofs.lemmas.List.{length-map, take-map}
-use Rattle.exchange_model.specs.Rows.{heard_all}
-use Rattle.frame_view.specs.View.{Lens}
+use Rattle.served_places.specs.of_exchange_model.Rows.{heard_all}
+use Rattle.run_work.specs.of_frame_view.View.{Lens}
 use Rattle.served_rings.specs.Led.{LedEra}
 use Rattle.run_work.specs.of_life_counts.Seen.{service_seen}
-use Rattle.life_model.specs.Eras.{era_frames}
-use Rattle.life_model.specs.Lives.{Spot, Era}
-use Rattle.link_mails.specs.Body.{Body}
-use Rattle.master_duty.specs.Reply.{Reply}
+use Rattle.served_places.specs.of_life_model.Eras.{era_frames}
+use Rattle.served_places.specs.of_life_model.Lives.{Spot, Era}
+use Rattle.served_places.specs.of_link_mails.Body.{Body}
+use Rattle.run_work.specs.of_master_duty.Reply.{Reply}
 use Rattle.run_work.specs.of_master_hand.Spoken.{Asked, is_followed, is_passed}
-use Rattle.served_places.specs.of_few_replies.Clearing.{Forgets}
+use Rattle.run_work.specs.of_few_replies.Clearing.{Forgets}
 use Rattle.served_rings.specs.Speakers.{cleared_whole, seer_of, speaker, table_of, whole_states}
 use Rattle.run_work.specs.Sessions.{named_wanted}
-use Rattle.segment_model.specs.Record.{Frame, heard}
-use Rattle.segment_model.specs.Seats.{rows_of}
-use Rattle.segment_model.specs.Slaves.{Slave}
+use Rattle.served_places.specs.of_segment_model.Record.{Frame, heard}
+use Rattle.served_places.specs.of_segment_model.Seats.{rows_of}
+use Rattle.served_places.specs.of_segment_model.Slaves.{Slave}
 use Rattle.served_rings.specs.Serves.{serves}
-use Rattle.serving_model.specs.Tagged.{ideal}
-use Rattle.plan_ring.specs.of_slave_lives.Lived as Lived
-use Rattle.plan_ring.specs.of_slave_lives.Lived.{IsBehind, node_seen}
-use Rattle.slave_model.specs.Profile.{Profile}
-use Rattle.slave_parts.specs.Parts.{Server, parts}
-use Rattle.slave_parts.specs.Served.{product_whole}
-use Rattle.plan_ring.specs.of_slave_server.Serving.{Serving}
-use Rattle.slave_node.specs.Node.{Node}
-use Rattle.state_model.specs.Families.{InState}
+use Rattle.served_places.specs.of_serving_model.Tagged.{ideal}
+use Rattle.run_work.specs.of_slave_lives.Lived as Lived
+use Rattle.run_work.specs.of_slave_lives.Lived.{IsBehind, node_seen}
+use Rattle.run_work.specs.of_slave_model.Profile.{Profile}
+use Rattle.run_work.specs.of_slave_parts.Parts.{Server, parts}
+use Rattle.run_work.specs.of_slave_parts.Served.{product_whole}
+use Rattle.run_work.specs.of_slave_server.Serving.{Serving}
+use Rattle.run_work.specs.of_slave_node.Node.{Node}
+use Rattle.served_places.specs.of_state_model.Families.{InState}
 use Rattle.run_work.specs.of_life_counts.Epochs.{IsSpeaker, IsSeen}
-use Rattle.state_model.specs.Promise.{services_in}
+use Rattle.served_places.specs.of_state_model.Promise.{services_in}
 use Rattle.served_rings.specs.Served.{IsServedEra, NothingLeft, RestsIf, WasServed, server_behind}
 use Rattle.served_rings.proofs.Mails.{AllNamed, behind_named, is_mail, mailer, mailer_speaks, named_take, services_named, start_named}
-use Rattle.plan_ring.proofs.Settled.{settled_seen}
+use Rattle.run_work.proofs.of_plan_ring.Settled.{settled_seen}
 use Rattle.served_rings.proofs.Newest.{exec_is}
 use Rattle.served_rings.proofs.Replied.{emissions_so, replies_so}
 use Rattle.served_rings.proofs.Rested.{left_so}

@@ -1,28 +1,28 @@
 -- ALL MAILS THAT CAME INTO HAND of a slave are fair, where those are that were asked of it.
 use Rattle.std.proofs.Common.{◌≡◌, ℕ, true, false, Option, Some, List, [], ◌∷◌, ◌++◌, All, Ok, ap, sym, ◌∙◌, subst}
 use Rattle.std.proofs.lemmas.List.Elements.{All-head, All-tail}
-use Rattle.life_model.specs.Script.{eras_started, life_started}
-use Rattle.exchange_model.specs.Lifted.{EachOf}
-use Rattle.frame_view.specs.View.{Lens}
-use Rattle.life_model.specs.Lives.{Era}
-use Rattle.life_runs.specs.Led.{Comes}
-use Rattle.link_mails.specs.Body.{Body}
-use Rattle.master_duty.specs.Reply.{Reply}
+use Rattle.served_places.specs.of_life_model.Script.{eras_started, life_started}
+use Rattle.served_places.specs.of_exchange_model.Lifted.{EachOf}
+use Rattle.run_work.specs.of_frame_view.View.{Lens}
+use Rattle.served_places.specs.of_life_model.Lives.{Era}
+use Rattle.served_places.specs.of_life_runs.Led.{Comes}
+use Rattle.served_places.specs.of_link_mails.Body.{Body}
+use Rattle.run_work.specs.of_master_duty.Reply.{Reply}
 use Rattle.run_work.specs.of_master_hand.Spoken.{Asked, passed, net, is_passed}
-use Rattle.run_work.specs.of_master_hand.of_protocol_models.EoeClient as EoeClient
+use Rattle.run_work.specs.of_protocol_models.EoeClient as EoeClient
 use Rattle.served_rings.specs.SeenLed.{ErasFair, IsFairLife}
-use Rattle.segment_plan.specs.declared.service.Service as Plan
+use Rattle.run_work.specs.of_segment_plan.declared.service.Service as Plan
 use Rattle.run_work.specs.Fair.{AsksFair}
-use Rattle.life_runs.specs.Came.{ServedCame, AreAmong, HasServed}
-use Rattle.life_runs.specs.Served.{Keyed, Serves}
+use Rattle.served_places.specs.of_life_runs.Came.{ServedCame, AreAmong, HasServed}
+use Rattle.served_places.specs.of_life_runs.Served.{Keyed, Serves}
 use Rattle.run_work.proofs.Counted.{passes, none_passes}
-use Rattle.few_replies.specs.Packets.{is_fair}
-use Rattle.slave_model.specs.Profile.{Profile}
-use Rattle.state_model.specs.Stated.{Service}
+use Rattle.run_work.specs.of_few_replies.Packets.{is_fair}
+use Rattle.run_work.specs.of_slave_model.Profile.{Profile}
+use Rattle.served_places.specs.of_state_model.Stated.{Service}
 use Rattle.run_work.specs.of_life_counts.Epochs.{AllFair}
 use Rattle.run_work.specs.of_life_counts.Spoken.{IsPassed}
-use Rattle.state_model.specs.Accounts.{Started}
-use Rattle.state_model.specs.Promise.{services_in}
+use Rattle.served_places.specs.of_state_model.Accounts.{Started}
+use Rattle.served_places.specs.of_state_model.Promise.{services_in}
 use Rattle.served_rings.specs.Speakers.{naming_of, speaker}
 
 module _ {X : Type 0} (P : X → Type 0) where

@@ -2,24 +2,24 @@
 use Rattle.std.proofs.Common.{◌≡◌, Bool, true, false, List, [], ◌∷◌, ◌++◌, refl, ap, sym, ◌∙◌}
 use Rattle.served_rings.specs.Counters.{IsCounted}
 use Rattle.served_rings.proofs.Counted.{news_came, counted_back, news_gone, counted_lost}
-use Rattle.frame_view.specs.Seen.{seen, datagrams_seen}
+use Rattle.run_work.specs.of_frame_view.Seen.{seen, datagrams_seen}
 use Rattle.served_rings.specs.Led.{LedEra, LedFrame, steps_at, turn_of}
 use Rattle.served_rings.proofs.LedLives as Lives
 use Rattle.served_rings.proofs.Singles.{all_own}
-use Rattle.life_model.specs.Lives.{Spot, Era}
-use Rattle.life_model.specs.Own.{own, own_fate}
-use Rattle.link_mails.specs.Body.{Body}
-use Rattle.link_model.specs.Segment.{RingFate}
-use Rattle.master_side.specs.Counts as Record
-use Rattle.served_places.specs.of_few_replies.Led.{counts_behind, has_step, news_in}
-use Rattle.segment_model.specs.Record.{Frame, Kept, kept_after}
-use Rattle.segment_model.specs.Slaves.{ring_back}
-use Rattle.segment_ring.specs.Ring.{is_in_pace}
-use Rattle.segment_ring.specs.declared.wire.Fate.{Fate}
-use Rattle.segment_ring.specs.declared.wire.Fate.TheVariants.{Pass, Lost}
-use Rattle.plan_ring.specs.of_slave_lives.Lived.{Behind, IsBehind, RingFrame, fate_of, frame_of, node_seen, octets_back, returned}
-use Rattle.plan_ring.specs.of_slave_lives.Rings.{fate_seen}
-use Rattle.state_model.specs.Accounts.{Pick}
+use Rattle.served_places.specs.of_life_model.Lives.{Spot, Era}
+use Rattle.served_places.specs.of_life_model.Own.{own, own_fate}
+use Rattle.served_places.specs.of_link_mails.Body.{Body}
+use Rattle.served_places.specs.of_link_model.Segment.{RingFate}
+use Rattle.run_work.specs.of_master_side.Counts as Record
+use Rattle.run_work.specs.of_few_replies.Led.{counts_behind, has_step, news_in}
+use Rattle.served_places.specs.of_segment_model.Record.{Frame, Kept, kept_after}
+use Rattle.served_places.specs.of_segment_model.Slaves.{ring_back}
+use Rattle.served_places.specs.of_segment_ring.Ring.{is_in_pace}
+use Rattle.served_places.specs.of_segment_ring.declared.wire.Fate.{Fate}
+use Rattle.served_places.specs.of_segment_ring.declared.wire.Fate.TheVariants.{Pass, Lost}
+use Rattle.run_work.specs.of_slave_lives.Lived.{Behind, IsBehind, RingFrame, fate_of, frame_of, node_seen, octets_back, returned}
+use Rattle.run_work.specs.of_slave_lives.Rings.{fate_seen}
+use Rattle.served_places.specs.of_state_model.Accounts.{Pick}
 use Rattle.served_rings.specs.Lives.{recorded_as, news_as}
 
 steps_has : (b : Bool) → has_step (steps_at b) ≡ b

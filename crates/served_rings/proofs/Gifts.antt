@@ -1,38 +1,38 @@
 -- What the servers of a slave give for a mail: answers, which are no emissions, and behind them emissions.
 use Rattle.std.proofs.Common.{◌≡◌, ℕ, zero, suc, ◌+◌, ◌-◌, ◌*◌, ◌/◌, ◌%◌, ◌==◌, ◌||◌, not, cond, nat_le, nat_lt, Bool, true, false, List, [], ◌∷◌, ◌++◌, map, take, drop, length, Option, Some, None, Result, Ok, Err, refl, ap, sym, ◌∙◌, subst, append-nil, if◌then◌else◌}
-use Rattle.mailbox_mail.specs.declared.mail.MailFault.TheVariants.{UnknownKind}
-use Rattle.mailbox_mail.specs.declared.mail.Kind.{Kind}
-use Rattle.link_mails.specs.Body.{Body}
-use Rattle.coe_codec.specs.Fields.{service_in}
-use Rattle.coe_codec.specs.Writing.{coe_text}
-use Rattle.eoe.specs.declared.message.Fragment.{Fragment}
-use Rattle.eoe.specs.Message.{eoe_text}
-use Rattle.eoe.specs.Cutting.{fragments_of}
-use Rattle.eoe.specs.Joining.{taken}
-use Rattle.eoe.specs.declared.joining.Joined.{Joined}
-use Rattle.eoe.specs.declared.joining.Joined.TheVariants.{More, Whole, Dropped}
-use Rattle.exchange_model.specs.Exchange.{plain, emitted}
-use Rattle.exchange_model.specs.Lifted.{EachOf}
-use Rattle.exchange_model.specs.Refusing.{gated}
-use Rattle.protocol_models.specs.CoeMails as Coe
-use Rattle.protocol_models.specs.CoeMails.{CoeMail, mail, unread, failed, fragment, other, Abort, DownloadAnswer, SegmentAnswer, ExpeditedAnswer, FirstAnswer, UploadSegmentAnswer, Information, InformationError}
-use Rattle.protocol_models.specs.CoeOctets as CoeOctets
-use Rattle.protocol_models.specs.Tables.{Target, nowhere, Ask, list, object, entry, Tables}
-use Rattle.protocol_models.specs.CoeServer as Server
-use Rattle.protocol_models.specs.CoeServer.{Transfer, idle, downloading, uploading, Outcome, ended, goes_on, abort, download_answer, same, stored, takes_whole, begins, takes_first, takes_segment, is_expedited, opened, takes_upload_segment, parts_of, information_parts, informed, unknown_command, takes_unread, coe_takes, coe_outcome, Emission, emergency, packet, issued}
-use Rattle.protocol_models.specs.FoeMails as Foe
-use Rattle.protocol_models.specs.FoeOctets as FoeOctets
-use Rattle.protocol_models.specs.SoeMails as Soe
-use Rattle.protocol_models.specs.SoeOctets as SoeOctets
-use Rattle.protocol_models.specs.EoeMails as Eoe
-use Rattle.protocol_models.specs.EoeServer as EoeServer
-use Rattle.protocol_models.specs.Network.{Network, Station}
-use Rattle.protocol_models.specs.EoeOctets as EoeOctets
-use Rattle.slave_model.specs.Profile.{Protocol, Profile, serves}
-use Rattle.slave_model.specs.Application.{Core, Parts, station_tables, network}
-use Rattle.slave_model.specs.Server.{Server as SlaveServer, Seat, seat, failure, told_by, heard_by, refused_gives, soe_quiet, eoe_quiet}
-use Rattle.slave_model.specs.Product.{emission, served, side, refusal, protocol_of, serve_by, serve_other, serve}
-use Rattle.slave_model.proofs.Stations.{fragment_told}
+use Rattle.run_work.specs.of_mailbox_mail.declared.mail.MailFault.TheVariants.{UnknownKind}
+use Rattle.run_work.specs.of_mailbox_mail.declared.mail.Kind.{Kind}
+use Rattle.served_places.specs.of_link_mails.Body.{Body}
+use Rattle.served_places.specs.of_coe_codec.Fields.{service_in}
+use Rattle.served_places.specs.of_coe_codec.Writing.{coe_text}
+use Rattle.run_work.specs.of_eoe.declared.message.Fragment.{Fragment}
+use Rattle.run_work.specs.of_eoe.Message.{eoe_text}
+use Rattle.run_work.specs.of_eoe.Cutting.{fragments_of}
+use Rattle.run_work.specs.of_eoe.Joining.{taken}
+use Rattle.run_work.specs.of_eoe.declared.joining.Joined.{Joined}
+use Rattle.run_work.specs.of_eoe.declared.joining.Joined.TheVariants.{More, Whole, Dropped}
+use Rattle.served_places.specs.of_exchange_model.Exchange.{plain, emitted}
+use Rattle.served_places.specs.of_exchange_model.Lifted.{EachOf}
+use Rattle.served_places.specs.of_exchange_model.Refusing.{gated}
+use Rattle.run_work.specs.of_protocol_models.CoeMails as Coe
+use Rattle.run_work.specs.of_protocol_models.CoeMails.{CoeMail, mail, unread, failed, fragment, other, Abort, DownloadAnswer, SegmentAnswer, ExpeditedAnswer, FirstAnswer, UploadSegmentAnswer, Information, InformationError}
+use Rattle.run_work.specs.of_protocol_models.CoeOctets as CoeOctets
+use Rattle.run_work.specs.of_protocol_models.Tables.{Target, nowhere, Ask, list, object, entry, Tables}
+use Rattle.run_work.specs.of_protocol_models.CoeServer as Server
+use Rattle.run_work.specs.of_protocol_models.CoeServer.{Transfer, idle, downloading, uploading, Outcome, ended, goes_on, abort, download_answer, same, stored, takes_whole, begins, takes_first, takes_segment, is_expedited, opened, takes_upload_segment, parts_of, information_parts, informed, unknown_command, takes_unread, coe_takes, coe_outcome, Emission, emergency, packet, issued}
+use Rattle.run_work.specs.of_protocol_models.FoeMails as Foe
+use Rattle.run_work.specs.of_protocol_models.FoeOctets as FoeOctets
+use Rattle.run_work.specs.of_protocol_models.SoeMails as Soe
+use Rattle.run_work.specs.of_protocol_models.SoeOctets as SoeOctets
+use Rattle.run_work.specs.of_protocol_models.EoeMails as Eoe
+use Rattle.run_work.specs.of_protocol_models.EoeServer as EoeServer
+use Rattle.run_work.specs.of_protocol_models.Network.{Network, Station}
+use Rattle.run_work.specs.of_protocol_models.EoeOctets as EoeOctets
+use Rattle.run_work.specs.of_slave_model.Profile.{Protocol, Profile, serves}
+use Rattle.run_work.specs.of_slave_model.Application.{Core, Parts, station_tables, network}
+use Rattle.run_work.specs.of_slave_model.Server.{Server as SlaveServer, Seat, seat, failure, told_by, heard_by, refused_gives, soe_quiet, eoe_quiet}
+use Rattle.run_work.specs.of_slave_model.Product.{emission, served, side, refusal, protocol_of, serve_by, serve_other, serve}
+use Rattle.run_work.proofs.of_slave_model.Stations.{fragment_told}
 use Rattle.served_rings.proofs.Calms.{calm_read}
 
 -- REPLIES, and behind them emissions

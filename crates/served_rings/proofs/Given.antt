@@ -2,26 +2,26 @@
 use Rattle.std.proofs.Common.{◌≡◌, ℕ, zero, suc, Bool, true, false, Option, Some, None, List, [], ◌∷◌, ◌++◌, map, refl, ap, sym, ◌∙◌, subst, append-nil, append_assoc, cond, if◌then◌else◌}
 use Rattle.std.specs.Prelude.{filter, slice_get}
 use Rattle.std.proofs.lemmas.List.Elements.{filter-append}
-use Rattle.exchange_model.specs.Rows.{Row}
-use Rattle.exchange_model.proofs.Lists.{append_none}
-use Rattle.life_model.specs.Lives.{Era, Life, Stand}
-use Rattle.link_mails.specs.Body.{Body}
-use Rattle.master_duty.specs.Reply.{Reply}
+use Rattle.served_places.specs.of_exchange_model.Rows.{Row}
+use Rattle.served_places.proofs.of_exchange_model.Lists.{append_none}
+use Rattle.served_places.specs.of_life_model.Lives.{Era, Life, Stand}
+use Rattle.served_places.specs.of_link_mails.Body.{Body}
+use Rattle.run_work.specs.of_master_duty.Reply.{Reply}
 use Rattle.run_work.specs.of_master_hand.Spoken.{Asked, drive, file, is_passed, net, passed, sdo}
-use Rattle.segment_model.specs.Ends.{Passing}
-use Rattle.segment_model.specs.Seats.{newest, rows_of}
+use Rattle.served_places.specs.of_segment_model.Ends.{Passing}
+use Rattle.served_places.specs.of_segment_model.Seats.{newest, rows_of}
 use Rattle.served_places.specs.Rows.{era_passings, eras_passings, eras_rows, is_passed_row, now_passing, passed_rows, passings}
 use Rattle.served_rings.specs.Given.{AllGiven, Given, IsGiven, given, given_eras, given_in, given_newest, given_one}
 use Rattle.served_rings.specs.Served.{AllHeard, AreServedEras, IsHeardOne, IsServedEra, IsServedLife, IsServedNewest, NothingCame, passing_before}
 use Rattle.served_rings.specs.Speakers.{spoken, table_of}
-use Rattle.slave_model.specs.Profile.{Profile}
-use Rattle.slave_parts.specs.Parts.{Server}
-use Rattle.plan_ring.specs.of_slave_server.Serving.{Serving}
-use Rattle.slave_node.specs.Node.{Node}
-use Rattle.state_model.specs.Families.{InState}
-use Rattle.state_model.specs.Stated.{Service}
-use Rattle.state_model.specs.Promises.{state_behind}
-use Rattle.state_model.specs.Promise.{services_in}
+use Rattle.run_work.specs.of_slave_model.Profile.{Profile}
+use Rattle.run_work.specs.of_slave_parts.Parts.{Server}
+use Rattle.run_work.specs.of_slave_server.Serving.{Serving}
+use Rattle.run_work.specs.of_slave_node.Node.{Node}
+use Rattle.served_places.specs.of_state_model.Families.{InState}
+use Rattle.served_places.specs.of_state_model.Stated.{Service}
+use Rattle.served_places.specs.of_state_model.Promises.{state_behind}
+use Rattle.served_places.specs.of_state_model.Promise.{services_in}
 
 abbrev RowHere : Type 0
 RowHere = Row Body Asked Reply

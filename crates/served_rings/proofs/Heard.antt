@@ -3,50 +3,50 @@ use Rattle.std.proofs.Common.{◌≡◌, ◌⊎◌, inl, inr, ◌&&◌, ℕ, suc
 use Rattle.std.specs.Prelude.{nat_lt}
 use Rattle.std.proofs.lemmas.Bool.Decides.{nat_tests}
 use Rattle.std.proofs.lemmas.List.{map-append}
-use Rattle.exchange_model.specs.Exchange.{plain}
-use Rattle.exchange_model.specs.Rows.{Row, row_heard}
-use Rattle.exchange_model.proofs.Lists.{append_cancel}
-use Rattle.exchange_model.proofs.Words.{plain-append}
-use Rattle.frame_view.specs.View.{Lens}
+use Rattle.served_places.specs.of_exchange_model.Exchange.{plain}
+use Rattle.served_places.specs.of_exchange_model.Rows.{Row, row_heard}
+use Rattle.served_places.proofs.of_exchange_model.Lists.{append_cancel}
+use Rattle.served_places.proofs.of_exchange_model.Words.{plain-append}
+use Rattle.run_work.specs.of_frame_view.View.{Lens}
 use Rattle.run_work.specs.of_life_counts.Seen.{service_seen}
-use Rattle.life_model.specs.Eras.{planned}
-use Rattle.life_model.specs.Lives.{Spot, Era, era_after, granted, passes, passing_begins}
-use Rattle.life_model.specs.Own.{own}
-use Rattle.link_model.specs.Frames.{all_accepted}
-use Rattle.link_model.specs.Segment.{RingFate}
-use Rattle.link_mails.specs.Body.{Body}
-use Rattle.mailbox_mail.specs.declared.mail.Mail.{Mail}
-use Rattle.master_duty.specs.Reply.{Reply}
+use Rattle.served_places.specs.of_life_model.Eras.{planned}
+use Rattle.served_places.specs.of_life_model.Lives.{Spot, Era, era_after, granted, passes, passing_begins}
+use Rattle.served_places.specs.of_life_model.Own.{own}
+use Rattle.served_places.specs.of_link_model.Frames.{all_accepted}
+use Rattle.served_places.specs.of_link_model.Segment.{RingFate}
+use Rattle.served_places.specs.of_link_mails.Body.{Body}
+use Rattle.run_work.specs.of_mailbox_mail.declared.mail.Mail.{Mail}
+use Rattle.run_work.specs.of_master_duty.Reply.{Reply}
 use Rattle.run_work.specs.of_master_hand.Spoken as Spoken
 use Rattle.run_work.specs.of_master_hand.Spoken.{Asked, emission, is_followed, is_passed, passed}
-use Rattle.served_places.specs.of_few_replies.Client.{ByContents}
-use Rattle.served_places.specs.of_few_replies.Erased.{OfRow, PlanOne, row_seen}
-use Rattle.served_places.specs.of_few_replies.Led.{IsLed, EraTurn, MayTurn, counts_behind, frame_in, news_in, turn_after, turn_next}
+use Rattle.run_work.specs.of_few_replies.Client.{ByContents}
+use Rattle.run_work.specs.of_few_replies.Erased.{OfRow, PlanOne, row_seen}
+use Rattle.run_work.specs.of_few_replies.Led.{IsLed, EraTurn, MayTurn, counts_behind, frame_in, news_in, turn_after, turn_next}
 use Rattle.served_places.proofs.of_few_replies.Clients.{plain_untag}
 use Rattle.served_rings.specs.Speakers.{naming_of, processor_of, seer_of, speaker, spoken, spoken_states, table_of, whole_states}
 use Rattle.run_work.specs.Sessions.{OwnService, Wanted, named_wanted}
-use Rattle.segment_model.specs.Ends.{Passing}
-use Rattle.segment_model.specs.Record.{Frame, News}
-use Rattle.segment_model.specs.Seats.{newest, rows_of}
-use Rattle.segment_model.specs.Slaves.{Registers, Slave, grams}
+use Rattle.served_places.specs.of_segment_model.Ends.{Passing}
+use Rattle.served_places.specs.of_segment_model.Record.{Frame, News}
+use Rattle.served_places.specs.of_segment_model.Seats.{newest, rows_of}
+use Rattle.served_places.specs.of_segment_model.Slaves.{Registers, Slave, grams}
 use Rattle.served_rings.specs.Serves.{serves}
-use Rattle.serving_model.specs.Tagged as Tagged
-use Rattle.serving_model.specs.Tagged.{Tagged, untag}
-use Rattle.plan_ring.specs.of_slave_lives.Lived as Lived
-use Rattle.slave_model.specs.Profile.{Profile, Protocol}
-use Rattle.slave_model.specs.Server as SlaveReply
-use Rattle.slave_parts.specs.Parts.{Server, parts}
-use Rattle.slave_parts.specs.Served.{product_whole}
-use Rattle.state_model.specs.Families.{InState}
-use Rattle.state_model.specs.Stated.{Service}
-use Rattle.state_model.specs.Promises.{state_behind}
+use Rattle.served_places.specs.of_serving_model.Tagged as Tagged
+use Rattle.served_places.specs.of_serving_model.Tagged.{Tagged, untag}
+use Rattle.run_work.specs.of_slave_lives.Lived as Lived
+use Rattle.run_work.specs.of_slave_model.Profile.{Profile, Protocol}
+use Rattle.run_work.specs.of_slave_model.Server as SlaveReply
+use Rattle.run_work.specs.of_slave_parts.Parts.{Server, parts}
+use Rattle.run_work.specs.of_slave_parts.Served.{product_whole}
+use Rattle.served_places.specs.of_state_model.Families.{InState}
+use Rattle.served_places.specs.of_state_model.Stated.{Service}
+use Rattle.served_places.specs.of_state_model.Promises.{state_behind}
 use Rattle.run_work.specs.of_life_counts.Epochs.{IsSpeaker, IsSeen, seeing}
 use Rattle.run_work.specs.of_life_counts.Foreseen as Foreseen
 use Rattle.run_work.proofs.of_life_counts.TaggedWhole.{epoch_seen}
-use Rattle.state_model.proofs.Completed.{started_back}
-use Rattle.state_model.specs.Accounts.{Account, Pick, Started}
-use Rattle.state_model.specs.Promise.{mails_in, services_in}
-use Rattle.state_model.specs.Tasks.{IsTaskPlan}
+use Rattle.served_places.proofs.of_state_model.Completed.{started_back}
+use Rattle.served_places.specs.of_state_model.Accounts.{Account, Pick, Started}
+use Rattle.served_places.specs.of_state_model.Promise.{mails_in, services_in}
+use Rattle.served_places.specs.of_state_model.Tasks.{IsTaskPlan}
 use Rattle.served_rings.specs.Served.{AllHeard, IsHeardOf, IsHeardOne, passing_before, replies_to, server_behind}
 use Rattle.served_rings.proofs.Mails.{AllNamed, IsNamedMail, all_mails, behind_named, mailer, mailer_runs, mailer_speaks, named_front, named_mail, named_mails, services_named, start_named}
 use Rattle.served_rings.proofs.Newest as Newest

@@ -1,12 +1,12 @@
 -- WHAT FRAMES TELL TO BE HEARD without what is meant by their mails, and what is sent of itself among it.
 use Rattle.std.proofs.Common.{◌≡◌, ℕ, Bool, true, false, cond, List, [], ◌∷◌, ◌++◌, map, refl, ap, ap₂, sym, ◌∙◌}
 use Rattle.std.proofs.lemmas.List.{map-append}
-use Rattle.exchange_model.specs.Exchange.{emitted}
+use Rattle.served_places.specs.of_exchange_model.Exchange.{emitted}
 use Rattle.served_places.proofs.of_few_replies.Naturals.{each_of}
-use Rattle.served_places.specs.of_few_replies.Client.{ByContents}
-use Rattle.served_places.specs.of_few_replies.Erased.{all_news_as, frame_as, news_as}
-use Rattle.segment_model.specs.Record.{Frame, News, heard, joined, mails_heard, news_each, nothing_kept}
-use Rattle.serving_model.specs.Tagged.{Tagged, is_own, untag}
+use Rattle.run_work.specs.of_few_replies.Client.{ByContents}
+use Rattle.run_work.specs.of_few_replies.Erased.{all_news_as, frame_as, news_as}
+use Rattle.served_places.specs.of_segment_model.Record.{Frame, News, heard, joined, mails_heard, news_each, nothing_kept}
+use Rattle.served_places.specs.of_serving_model.Tagged.{Tagged, is_own, untag}
 
 module _ {N M : Type 0} (f : N → M) where
   joined_as : (nss : List (List (News N))) → joined (map (λ ns. all_news_as f ns) nss) ≡ all_news_as f (joined nss)

@@ -1,31 +1,31 @@
 -- ALL THAT WAS HEARD by the frames of an epoch was heard in its rows: before a service by mails came into hand the slave took nothing, and so it gave nothing.
 use Rattle.std.proofs.Common.{◌≡◌, ℕ, zero, suc, ◌==◌, ◌&&◌, Bool, true, false, Option, None, Some, option_map, List, [], ◌∷◌, ◌++◌, length, refl, ap, sym, ◌∙◌, subst, append_assoc, append-nil, if◌then◌else◌}
-use Rattle.exchange_model.proofs.Lists.{append_none}
-use Rattle.exchange_model.proofs.Settles.{heard_all_last}
-use Rattle.exchange_model.specs.Exchange.{Exchange, given}
-use Rattle.exchange_model.specs.Rows.{Row, begun, heard_all, row_heard, row_told}
+use Rattle.served_places.proofs.of_exchange_model.Lists.{append_none}
+use Rattle.served_places.proofs.of_exchange_model.Settles.{heard_all_last}
+use Rattle.served_places.specs.of_exchange_model.Exchange.{Exchange, given}
+use Rattle.served_places.specs.of_exchange_model.Rows.{Row, begun, heard_all, row_heard, row_told}
 use Rattle.run_work.proofs.of_life_counts.Turns.{heard_push}
-use Rattle.life_model.specs.Eras.{EraIs, era_frames, planned}
-use Rattle.life_model.specs.Lives.{Spot, Era}
-use Rattle.link_model.proofs.Law.{accepted_of_offered, new_agrees, taken_of_held}
-use Rattle.link_model.specs.Frames.{Ask, Gram, all_accepted, halves_lost, halves_without}
-use Rattle.link_model.specs.Link.{Halves}
-use Rattle.link_model.specs.Mails.{LinkMail}
-use Rattle.link_model.specs.Segment.{RingFate}
-use Rattle.link_model.specs.Slave.{node_look, node_offers, node_take, node_takes}
-use Rattle.segment_model.proofs.Answers.{kept_all-push, kept_of}
-use Rattle.segment_model.proofs.Links.{served_gives}
-use Rattle.segment_model.proofs.News.{heard_frame, kept_back}
-use Rattle.segment_model.proofs.Openings.{opening_heard, opening_kept}
-use Rattle.segment_model.proofs.Sounds.{SeatAgrees, frame_agrees, next_agrees, step_agrees}
-use Rattle.segment_model.specs.Record.{Frame, heard, heard_behind, nothing_kept}
-use Rattle.segment_model.specs.Seats.{Choice, IsFrame, IsOpening, Planned, Seat, Side, is_over, link_of, new_seats, newest, next_mail, ring_of, rows_of, seat_back, seat_next, seat_steps, seat_steps_at, seats_after, seats_next, seats_step, side_back, side_begins, side_holds, side_lost, side_next, side_takes_up, sides_of}
-use Rattle.segment_model.specs.Slaves.{Datagram, Processor, Registers, Slave, grams, ring_back, serving, slave_after, slave_steps, state_told}
+use Rattle.served_places.specs.of_life_model.Eras.{EraIs, era_frames, planned}
+use Rattle.served_places.specs.of_life_model.Lives.{Spot, Era}
+use Rattle.served_places.proofs.of_link_model.Law.{accepted_of_offered, new_agrees, taken_of_held}
+use Rattle.served_places.specs.of_link_model.Frames.{Ask, Gram, all_accepted, halves_lost, halves_without}
+use Rattle.served_places.specs.of_link_model.Link.{Halves}
+use Rattle.served_places.specs.of_link_model.Mails.{LinkMail}
+use Rattle.served_places.specs.of_link_model.Segment.{RingFate}
+use Rattle.served_places.specs.of_link_model.Slave.{node_look, node_offers, node_take, node_takes}
+use Rattle.served_places.proofs.of_segment_model.Answers.{kept_all-push, kept_of}
+use Rattle.served_places.proofs.of_segment_model.Links.{served_gives}
+use Rattle.served_places.proofs.of_segment_model.News.{heard_frame, kept_back}
+use Rattle.served_places.proofs.of_segment_model.Openings.{opening_heard, opening_kept}
+use Rattle.served_places.proofs.of_segment_model.Sounds.{SeatAgrees, frame_agrees, next_agrees, step_agrees}
+use Rattle.served_places.specs.of_segment_model.Record.{Frame, heard, heard_behind, nothing_kept}
+use Rattle.served_places.specs.of_segment_model.Seats.{Choice, IsFrame, IsOpening, Planned, Seat, Side, is_over, link_of, new_seats, newest, next_mail, ring_of, rows_of, seat_back, seat_next, seat_steps, seat_steps_at, seats_after, seats_next, seats_step, side_back, side_begins, side_holds, side_lost, side_next, side_takes_up, sides_of}
+use Rattle.served_places.specs.of_segment_model.Slaves.{Datagram, Processor, Registers, Slave, grams, ring_back, serving, slave_after, slave_steps, state_told}
 use Rattle.served_rings.proofs.SideHeard.{next_heard, next_inn}
-use Rattle.state_model.specs.Stated.{Stated}
-use Rattle.state_model.specs.States.{Table}
-use Rattle.state_model.proofs.Moves.{server_after}
-use Rattle.state_model.specs.Tasks.{MayRun, TaskSession, TaskTurn, happens, mails_choices, new_tasks, run}
+use Rattle.served_places.specs.of_state_model.Stated.{Stated}
+use Rattle.served_places.specs.of_state_model.States.{Table}
+use Rattle.served_places.proofs.of_state_model.Moves.{server_after}
+use Rattle.served_places.specs.of_state_model.Tasks.{MayRun, TaskSession, TaskTurn, happens, mails_choices, new_tasks, run}
 
 -- ---- what is heard in the rows of a side
 module _ {V A M Q R : Type 0} (x : Exchange V A M Q R) where

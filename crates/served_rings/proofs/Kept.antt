@@ -3,27 +3,27 @@ use Rattle.std.proofs.Common.{◌≡◌, ℕ, suc, ◌+◌, Bool, true, List, []
 use Rattle.std.specs.Prelude.{Option, None}
 use Rattle.served_rings.specs.Counters.{IsCounted}
 use Rattle.served_rings.proofs.Counted.{counted_first}
-use Rattle.frame_view.specs.Seen.{seen}
-use Rattle.frames_seen.specs.Slaves.{registers_seen}
+use Rattle.run_work.specs.of_frame_view.Seen.{seen}
+use Rattle.run_work.specs.of_frames_seen.Slaves.{registers_seen}
 use Rattle.served_rings.specs.Led.{LedEra, LedFrame, turn_of}
 use Rattle.served_rings.proofs.LedLives as Lives
-use Rattle.life_model.specs.Eras.{Clearing}
-use Rattle.life_model.specs.Lives.{Spot, Era, Opening, Stand, new_era}
-use Rattle.life_model.specs.Own.{own}
-use Rattle.link_mails.specs.Body.{Body}
-use Rattle.master_side.specs.Counts as Record
-use Rattle.master_side.specs.Counts.{counts_on, kept_on}
-use Rattle.served_places.specs.of_few_replies.Led.{counts_behind, turn_after}
-use Rattle.segment_model.specs.Record.{Frame, News, Kept, kept_after, nothing_kept}
-use Rattle.plan_ring.specs.of_slave_lives.Ends.{YetFrame, no_pick}
-use Rattle.plan_ring.specs.of_slave_lives.Lived.{Behind, RingFrame, LivesEra, OpenFrame, OpensEra, frame_of, node_behind, opened_era}
-use Rattle.plan_ring.specs.of_slave_lives.Opening.{Plan}
+use Rattle.served_places.specs.of_life_model.Eras.{Clearing}
+use Rattle.served_places.specs.of_life_model.Lives.{Spot, Era, Opening, Stand, new_era}
+use Rattle.served_places.specs.of_life_model.Own.{own}
+use Rattle.served_places.specs.of_link_mails.Body.{Body}
+use Rattle.run_work.specs.of_master_side.Counts as Record
+use Rattle.run_work.specs.of_master_side.Counts.{counts_on, kept_on}
+use Rattle.run_work.specs.of_few_replies.Led.{counts_behind, turn_after}
+use Rattle.served_places.specs.of_segment_model.Record.{Frame, News, Kept, kept_after, nothing_kept}
+use Rattle.run_work.specs.of_slave_lives.Ends.{YetFrame, no_pick}
+use Rattle.run_work.specs.of_slave_lives.Lived.{Behind, RingFrame, LivesEra, OpenFrame, OpensEra, frame_of, node_behind, opened_era}
+use Rattle.run_work.specs.of_slave_lives.Opening.{Plan}
 use Rattle.run_work.proofs.of_slave_lives.Quiets.{asks_none}
-use Rattle.slave_node.specs.Node.{Node}
-use Rattle.state_model.specs.Accounts.{Pick}
-use Rattle.plan_ring.specs.of_whole_ring.Turns.{era_before, era_behind}
-use Rattle.plan_ring.specs.of_whole_ring.Whole.{IsWhole, Living, Passing}
-use Rattle.plan_ring.proofs.of_whole_ring.Keeps.{Keeps}
+use Rattle.run_work.specs.of_slave_node.Node.{Node}
+use Rattle.served_places.specs.of_state_model.Accounts.{Pick}
+use Rattle.run_work.specs.of_whole_ring.Turns.{era_before, era_behind}
+use Rattle.run_work.specs.of_whole_ring.Whole.{IsWhole, Living, Passing}
+use Rattle.run_work.proofs.of_whole_ring.Keeps.{Keeps}
 use Rattle.served_rings.specs.Lives.{LedKept, LedYet, LedLeft, AllLeds, news_as, recorded_as}
 use Rattle.served_rings.proofs.Frames.{tells}
 

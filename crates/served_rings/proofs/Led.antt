@@ -1,21 +1,21 @@
 -- AN EPOCH THAT ITS MASTER LED AND ITS NODE LIVED is one of those of which a life of its speaker is made.
 use Rattle.std.proofs.Common.{◌≡◌, ℕ, ◌&&◌, Bool, true, List, refl, ap, ap₂, ◌∙◌}
-use Rattle.frame_view.specs.View.{Lens}
+use Rattle.run_work.specs.of_frame_view.View.{Lens}
 use Rattle.served_rings.specs.Led.{LedEra}
-use Rattle.life_model.specs.Lives.{Spot, Era}
-use Rattle.link_mails.specs.Body.{Body}
-use Rattle.master_duty.specs.Reply.{Reply}
+use Rattle.served_places.specs.of_life_model.Lives.{Spot, Era}
+use Rattle.served_places.specs.of_link_mails.Body.{Body}
+use Rattle.run_work.specs.of_master_duty.Reply.{Reply}
 use Rattle.run_work.specs.of_master_hand.Spoken.{Asked, is_followed, is_passed}
 use Rattle.served_rings.specs.Speakers.{speaker, spoken, spoken_states, table_of, processor_of, seer_of}
 use Rattle.served_rings.specs.SeenLed.{WasLed}
-use Rattle.segment_model.specs.Record.{Frame}
-use Rattle.few_replies.specs.Packets.{is_calm}
-use Rattle.plan_ring.specs.of_slave_lives.Lived.{node_seen}
-use Rattle.slave_model.specs.Profile.{Profile}
-use Rattle.slave_parts.specs.Parts.{Server}
-use Rattle.plan_ring.specs.of_slave_server.Serving.{Serving}
-use Rattle.slave_node.specs.Node.{Node}
-use Rattle.state_model.specs.Families.{InState}
+use Rattle.served_places.specs.of_segment_model.Record.{Frame}
+use Rattle.run_work.specs.of_few_replies.Packets.{is_calm}
+use Rattle.run_work.specs.of_slave_lives.Lived.{node_seen}
+use Rattle.run_work.specs.of_slave_model.Profile.{Profile}
+use Rattle.run_work.specs.of_slave_parts.Parts.{Server}
+use Rattle.run_work.specs.of_slave_server.Serving.{Serving}
+use Rattle.run_work.specs.of_slave_node.Node.{Node}
+use Rattle.served_places.specs.of_state_model.Families.{InState}
 use Rattle.served_rings.specs.Serves.{serves}
 
 -- `at` is the server that it began with, up to the AL state that is told

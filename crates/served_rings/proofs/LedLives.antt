@@ -1,28 +1,28 @@
 -- AN OPEN SLAVE'S EPOCH begins, and goes on by each frame of its ring, as its master leads it.
 use Rattle.std.proofs.Common.{◌≡◌, ℕ, suc, Bool, true, false, List, [], ◌∷◌, ◌++◌, map, length, refl, ap, ap₂, sym, ◌∙◌, subst, arith, length-append}
 use Rattle.std.specs.Prelude.{Option, None}
-use Rattle.frame_view.specs.Seen.{seen, datagrams_seen}
-use Rattle.frames_seen.specs.Slaves.{registers_seen}
-use Rattle.life_model.specs.Eras.{EraIs, era_frames}
-use Rattle.life_model.specs.Lives.{Spot, Era, era_next, era_after}
-use Rattle.life_model.specs.Own.{own, own_fate, own_frame}
-use Rattle.link_mails.specs.Body.{Body}
-use Rattle.served_places.specs.of_few_replies.Led.{IsLed, MayTurn, EraTurn, frame_in, news_in, turn_after, counts_behind, counted_news}
-use Rattle.segment_model.specs.Record.{Frame, News, Kept, all_told, back_news, frame_news, kept_all, nothing_kept, without_empty}
-use Rattle.segment_model.specs.Slaves.{Datagram, grams, ring_after, ring_back, ring_steps}
-use Rattle.segment_ring.specs.Ring.{is_in_pace}
-use Rattle.plan_ring.specs.of_slave_lives.Ends.{IsAnswered, no_pick}
-use Rattle.plan_ring.specs.of_slave_lives.Lived.{Behind, IsBehind, RingFrame, OpensEra, fate_of, is_reached, node_behind, node_seen, frame_of, octets_back, opened_era, returned, table_of}
-use Rattle.plan_ring.specs.of_slave_lives.Opening.{Plan}
+use Rattle.run_work.specs.of_frame_view.Seen.{seen, datagrams_seen}
+use Rattle.run_work.specs.of_frames_seen.Slaves.{registers_seen}
+use Rattle.served_places.specs.of_life_model.Eras.{EraIs, era_frames}
+use Rattle.served_places.specs.of_life_model.Lives.{Spot, Era, era_next, era_after}
+use Rattle.served_places.specs.of_life_model.Own.{own, own_fate, own_frame}
+use Rattle.served_places.specs.of_link_mails.Body.{Body}
+use Rattle.run_work.specs.of_few_replies.Led.{IsLed, MayTurn, EraTurn, frame_in, news_in, turn_after, counts_behind, counted_news}
+use Rattle.served_places.specs.of_segment_model.Record.{Frame, News, Kept, all_told, back_news, frame_news, kept_all, nothing_kept, without_empty}
+use Rattle.served_places.specs.of_segment_model.Slaves.{Datagram, grams, ring_after, ring_back, ring_steps}
+use Rattle.served_places.specs.of_segment_ring.Ring.{is_in_pace}
+use Rattle.run_work.specs.of_slave_lives.Ends.{IsAnswered, no_pick}
+use Rattle.run_work.specs.of_slave_lives.Lived.{Behind, IsBehind, RingFrame, OpensEra, fate_of, is_reached, node_behind, node_seen, frame_of, octets_back, opened_era, returned, table_of}
+use Rattle.run_work.specs.of_slave_lives.Opening.{Plan}
 use Rattle.run_work.proofs.of_slave_lives.EraBegins as Begins
 use Rattle.run_work.proofs.of_slave_lives.EraFrames as Frames
 use Rattle.run_work.proofs.of_slave_lives.Quiets as Quiets
 use Rattle.run_work.proofs.of_slave_lives.RingLives.{sent_is, back_is}
-use Rattle.slave_node.specs.Node.{Node}
-use Rattle.state_model.specs.Stated.{IsStated}
-use Rattle.state_model.specs.Accounts.{Pick}
-use Rattle.state_model.specs.Steady.{IsSteady, NoneToInit, HandToInit}
-use Rattle.plan_ring.proofs.of_whole_ring.Steadied.{era_steady}
+use Rattle.run_work.specs.of_slave_node.Node.{Node}
+use Rattle.served_places.specs.of_state_model.Stated.{IsStated}
+use Rattle.served_places.specs.of_state_model.Accounts.{Pick}
+use Rattle.served_places.specs.of_state_model.Steady.{IsSteady, NoneToInit, HandToInit}
+use Rattle.run_work.proofs.of_whole_ring.Steadied.{era_steady}
 use Rattle.served_rings.specs.Led.{LedEra, LedFrame, steps_at, turn_of}
 use Rattle.served_rings.proofs.Sessions.{led_session}
 use Rattle.served_rings.proofs.Singles.{seen_single}

@@ -1,27 +1,27 @@
 -- A LIFE BY LED EPOCHS OF A SLAVE OF A SERVING is one that the master of its speaker led.
 use Rattle.std.proofs.Common.{◌≡◌, ℕ, Bool, true, false, List, [], ◌∷◌, ◌++◌, refl, sym, subst}
-use Rattle.frame_view.specs.View.{Lens}
-use Rattle.frames_seen.specs.Slaves.{registers_seen}
+use Rattle.run_work.specs.of_frame_view.View.{Lens}
+use Rattle.run_work.specs.of_frames_seen.Slaves.{registers_seen}
 use Rattle.served_rings.specs.Lives.{LedKept, LedYet, LedLeft, AllLeds, IsLedLived}
-use Rattle.life_model.specs.Lives.{Spot, Era, Life, Opening, Stand}
-use Rattle.link_mails.specs.Body.{Body}
-use Rattle.master_duty.specs.Reply.{Reply}
+use Rattle.served_places.specs.of_life_model.Lives.{Spot, Era, Life, Opening, Stand}
+use Rattle.served_places.specs.of_link_mails.Body.{Body}
+use Rattle.run_work.specs.of_master_duty.Reply.{Reply}
 use Rattle.run_work.specs.of_master_hand.Spoken.{Asked, is_followed, is_passed}
 use Rattle.served_rings.specs.Speakers.{speaker, spoken, table_of, processor_of, seer_of, cleared_whole}
 use Rattle.served_rings.specs.SeenLed.{AllLed, IsNewestLed, IsLedLife}
-use Rattle.segment_model.specs.Record.{Frame, Kept}
+use Rattle.served_places.specs.of_segment_model.Record.{Frame, Kept}
 use Rattle.served_rings.specs.Serves.{serves}
 use Rattle.served_rings.proofs.Led.{was_led}
-use Rattle.few_replies.specs.Packets.{is_calm}
-use Rattle.plan_ring.specs.of_slave_lives.Lived.{Behind, node_seen}
-use Rattle.plan_ring.specs.of_slave_lives.Opening.{Plan}
-use Rattle.plan_ring.specs.of_slave_lives.Stands.{opening_again}
-use Rattle.slave_model.specs.Profile.{Profile}
-use Rattle.slave_parts.specs.Parts.{Server}
-use Rattle.plan_ring.specs.of_slave_server.Serving.{Serving}
-use Rattle.slave_node.specs.Node.{Node}
-use Rattle.state_model.specs.Families.{InState}
-use Rattle.plan_ring.specs.of_whole_ring.Whole.{OpensBy, StandsBy}
+use Rattle.run_work.specs.of_few_replies.Packets.{is_calm}
+use Rattle.run_work.specs.of_slave_lives.Lived.{Behind, node_seen}
+use Rattle.run_work.specs.of_slave_lives.Opening.{Plan}
+use Rattle.run_work.specs.of_slave_lives.Stands.{opening_again}
+use Rattle.run_work.specs.of_slave_model.Profile.{Profile}
+use Rattle.run_work.specs.of_slave_parts.Parts.{Server}
+use Rattle.run_work.specs.of_slave_server.Serving.{Serving}
+use Rattle.run_work.specs.of_slave_node.Node.{Node}
+use Rattle.served_places.specs.of_state_model.Families.{InState}
+use Rattle.run_work.specs.of_whole_ring.Whole.{OpensBy, StandsBy}
 use Rattle.served_rings.specs.Clearing.{serves_clearing, in_init}
 
 module _ (p : Profile) (boot : Bool) (lens : ℕ → Lens) (spot : Spot) where

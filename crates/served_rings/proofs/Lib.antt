@@ -1,4 +1,18 @@
+pub use Rattle.served_places.proofs.of_exchange_model as of_exchange_model
+pub use Rattle.served_places.proofs.of_few_replies as of_few_replies
+pub use Rattle.run_work.proofs.of_frames_seen as of_frames_seen
+pub use Rattle.run_work.proofs.of_life_counts as of_life_counts
+pub use Rattle.served_places.proofs.of_life_model as of_life_model
+pub use Rattle.run_work.proofs.of_plan_ring as of_plan_ring
+pub use Rattle.served_places.proofs.of_protocol_models as of_protocol_models
+pub use Rattle.served_places.proofs.of_run_frames as of_run_frames
+pub use Rattle.run_work.proofs as of_run_work
+pub use Rattle.served_places.proofs.of_segment_model as of_segment_model
 pub use Rattle.served_places.proofs as of_served_places
+pub use Rattle.run_work.proofs.of_serving_model as of_serving_model
+pub use Rattle.run_work.proofs.of_slave_model as of_slave_model
+pub use Rattle.served_places.proofs.of_state_model as of_state_model
+pub use Rattle.run_work.proofs.of_whole_ring as of_whole_ring
 pub mod All
 pub mod Any
 mod Before

@@ -2,39 +2,39 @@
 use Rattle.std.proofs.Common.{◌≡◌, ℕ, zero, suc, Bool, List, [], ◌∷◌, ◌++◌, map, length, take, refl, ap, sym, ◌∙◌, subst, append-nil, append_assoc}
 use Rattle.std.proofs.Math.Seq.{take-append_seam}
 use Rattle.std.proofs.lemmas.List.{map-append, length-map}
-use Rattle.datagrams.specs.Frame.{chained}
-use Rattle.frame_view.specs.Seen.{seen}
-use Rattle.frame_view.specs.View.{Lens}
+use Rattle.served_places.specs.of_datagrams.Frame.{chained}
+use Rattle.run_work.specs.of_frame_view.Seen.{seen}
+use Rattle.run_work.specs.of_frame_view.View.{Lens}
 use Rattle.served_rings.specs.LedRings.{Counters, all_counters}
 use Rattle.served_rings.specs.StoodLives.{AllStoodMembers}
 use Rattle.served_rings.proofs.Rings.{all_led, led_turns}
 use Rattle.served_rings.proofs.Stood.{longer}
-use Rattle.life_runs.specs.First.{first_leads, lens_of}
-use Rattle.life_runs.specs.Led.{Exchanged, gives_up_at}
-use Rattle.link_mails.specs.Body.{Body}
+use Rattle.served_places.specs.of_life_runs.First.{first_leads, lens_of}
+use Rattle.served_places.specs.of_life_runs.Led.{Exchanged, gives_up_at}
+use Rattle.served_places.specs.of_link_mails.Body.{Body}
 use Rattle.run_work.specs.of_master_hand.Spoken.{Asked, is_followed, is_passed}
-use Rattle.plan_ring.specs.Lives.{IsKnown}
-use Rattle.plan_ring.specs.Plan.{FitsPlan, step}
-use Rattle.plan_ring.specs.Round.{WentRound, AllRound, all_seen, behind, frame_seen, ring_after, ring_of}
-use Rattle.plan_ring.proofs.Known.{AllBoot, all_boot}
-use Rattle.plan_ring.proofs.Lives.{front_round, last_round, one_after}
-use Rattle.segment_model.specs.Record.{Frame}
-use Rattle.segment_plan.specs.Sound as Plan
-use Rattle.segment_plan.specs.declared.plan.Scenario.{Scenario}
-use Rattle.segment_plan.specs.declared.slave.SlaveSpec.{SlaveSpec}
-use Rattle.segment_ring.specs.Ring.{RingState, ring_behind}
-use Rattle.segment_ring.specs.Schedule.{fate_at}
-use Rattle.segment_ring.specs.declared.wire.Fate.{Fate}
-use Rattle.segment_ring.specs.declared.wire.Fate.TheVariants.{Lost, Pass}
+use Rattle.run_work.specs.of_plan_ring.Lives.{IsKnown}
+use Rattle.run_work.specs.of_plan_ring.Plan.{FitsPlan, step}
+use Rattle.run_work.specs.of_plan_ring.Round.{WentRound, AllRound, all_seen, behind, frame_seen, ring_after, ring_of}
+use Rattle.run_work.proofs.of_plan_ring.Known.{AllBoot, all_boot}
+use Rattle.run_work.proofs.of_plan_ring.Lives.{front_round, last_round, one_after}
+use Rattle.served_places.specs.of_segment_model.Record.{Frame}
+use Rattle.run_work.specs.of_segment_plan.Sound as Plan
+use Rattle.run_work.specs.of_segment_plan.declared.plan.Scenario.{Scenario}
+use Rattle.run_work.specs.of_segment_plan.declared.slave.SlaveSpec.{SlaveSpec}
+use Rattle.served_places.specs.of_segment_ring.Ring.{RingState, ring_behind}
+use Rattle.served_places.specs.of_segment_ring.Schedule.{fate_at}
+use Rattle.served_places.specs.of_segment_ring.declared.wire.Fate.{Fate}
+use Rattle.served_places.specs.of_segment_ring.declared.wire.Fate.TheVariants.{Lost, Pass}
 use Rattle.served_rings.proofs.Reopened.{AllOpened, AllReopen, all_back, all_first, all_given, all_lost, all_reopen, none_given}
-use Rattle.life_runs.specs.Served.{Keyed, Serves, ServedTurn, AllServedTurn, IsServedFrame, IsServedLed, all_serve, asked_at, served_behind}
-use Rattle.plan_ring.specs.of_slave_lives.Rings.{fate_seen}
-use Rattle.plan_ring.specs.of_slave_server.Serving.{Serving}
-use Rattle.slave_node.specs.Node.{Node, node_passed}
-use Rattle.plan_ring.specs.of_whole_ring.Members.{IsRing}
-use Rattle.plan_ring.specs.of_whole_ring.Turning.{AllTurn, Turn, behind_frame, frame_at, given_up}
-use Rattle.plan_ring.proofs.of_whole_ring.Begins as Begins
-use Rattle.plan_ring.proofs.of_whole_ring.Members as Members
+use Rattle.served_places.specs.of_life_runs.Served.{Keyed, Serves, ServedTurn, AllServedTurn, IsServedFrame, IsServedLed, all_serve, asked_at, served_behind}
+use Rattle.run_work.specs.of_slave_lives.Rings.{fate_seen}
+use Rattle.run_work.specs.of_slave_server.Serving.{Serving}
+use Rattle.run_work.specs.of_slave_node.Node.{Node, node_passed}
+use Rattle.run_work.specs.of_whole_ring.Members.{IsRing}
+use Rattle.run_work.specs.of_whole_ring.Turning.{AllTurn, Turn, behind_frame, frame_at, given_up}
+use Rattle.run_work.proofs.of_whole_ring.Begins as Begins
+use Rattle.run_work.proofs.of_whole_ring.Members as Members
 use Rattle.served_rings.specs.Rings.{AllServedAt, AreServedLived, AreStoodLived, ServedMember, counters_of, nodes_behind, served_member, served_members}
 use Rattle.served_rings.proofs.All as Every
 

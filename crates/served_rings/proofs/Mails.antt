@@ -1,27 +1,27 @@
 -- A SLAVE AND ITS MASTER, of which it is seen what is meant by its mails, where any mail is passed on that is one; and their names for what came into hand.
 use Rattle.std.proofs.Common.{◌≡◌, ℕ, zero, suc, Bool, true, false, List, [], ◌∷◌, ◌++◌, map, take, refl, ap, sym, ◌∙◌, Ok, Err}
-use Rattle.few_replies.specs.Calm.{calm_tagged}
+use Rattle.run_work.specs.of_few_replies.Calm.{calm_tagged}
 use Rattle.run_work.specs.of_life_counts.Seen.{service_seen}
-use Rattle.link_mails.specs.Body.{Body}
-use Rattle.mailbox_mail.specs.declared.mail.Mail.{Mail}
+use Rattle.served_places.specs.of_link_mails.Body.{Body}
+use Rattle.run_work.specs.of_mailbox_mail.declared.mail.Mail.{Mail}
 use Rattle.run_work.specs.of_master_hand.Spoken as Spoken
 use Rattle.served_rings.specs.Speakers.{naming_of, processor_of, seer_of, speaker, spoken, table_of, whole_states}
 use Rattle.served_rings.proofs.Any.{any_lawful}
 use Rattle.run_work.specs.Sessions.{OwnService, Wanted, named_wanted}
-use Rattle.slave_model.specs.Profile.{Protocol, Profile}
-use Rattle.slave_model.specs.Server.{Reply}
-use Rattle.slave_parts.specs.Parts.{Core, Server, parts}
-use Rattle.slave_parts.specs.of_protocol_models.Network.{Station}
-use Rattle.slave_parts.specs.Served.{product_whole}
-use Rattle.state_model.specs.Families.{InState}
-use Rattle.state_model.specs.Stated.{Service, service_valid}
-use Rattle.state_model.specs.Promises.{state_behind}
-use Rattle.serving_model.specs.Tagged.{Asked, asked_exec}
+use Rattle.run_work.specs.of_slave_model.Profile.{Protocol, Profile}
+use Rattle.run_work.specs.of_slave_model.Server.{Reply}
+use Rattle.run_work.specs.of_slave_parts.Parts.{Core, Server, parts}
+use Rattle.run_work.specs.of_protocol_models.Network.{Station}
+use Rattle.run_work.specs.of_slave_parts.Served.{product_whole}
+use Rattle.served_places.specs.of_state_model.Families.{InState}
+use Rattle.served_places.specs.of_state_model.Stated.{Service, service_valid}
+use Rattle.served_places.specs.of_state_model.Promises.{state_behind}
+use Rattle.served_places.specs.of_serving_model.Tagged.{Asked, asked_exec}
 use Rattle.run_work.specs.of_life_counts.Epochs.{Speaker, IsSpeaker, IsRun, AllFair}
 use Rattle.run_work.specs.of_life_counts.Foreseen as Foreseen
 use Rattle.run_work.specs.of_life_counts.Spoken.{IsPassed}
-use Rattle.state_model.specs.Accounts.{Started}
-use Rattle.state_model.specs.Promise.{services_in}
+use Rattle.served_places.specs.of_state_model.Accounts.{Started}
+use Rattle.served_places.specs.of_state_model.Promise.{services_in}
 use Rattle.served_rings.specs.Served.{server_behind}
 use Rattle.served_rings.proofs.Newest.{AllValid}
 

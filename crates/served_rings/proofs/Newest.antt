@@ -2,36 +2,36 @@
 use Rattle.std.proofs.Common.{◌≡◌, inl, inr, ℕ, suc, ◌&&◌, Bool, true, false, not, is_some, Option, None, Some, option_map, List, [], ◌∷◌, ◌++◌, map, refl, ap, ap₂, sym, ◌∙◌, subst, append-nil, if◌then◌else◌}
 use Rattle.std.specs.Prelude.{⊤}
 use Rattle.std.proofs.lemmas.List.{map-append}
-use Rattle.exchange_model.specs.Prefix.{IsPrefixOf}
-use Rattle.exchange_model.specs.Exchange.{Exchange, IsLawful, after, given, plain}
-use Rattle.exchange_model.specs.Rows.{Row, Settled, told_all, services, exec_all}
-use Rattle.exchange_model.proofs.Nows.{heard_begins}
-use Rattle.exchange_model.proofs.Settles.{settled_app, settled_ready}
-use Rattle.few_replies.specs.Calm.{calm_tagged}
+use Rattle.served_places.specs.of_exchange_model.Prefix.{IsPrefixOf}
+use Rattle.served_places.specs.of_exchange_model.Exchange.{Exchange, IsLawful, after, given, plain}
+use Rattle.served_places.specs.of_exchange_model.Rows.{Row, Settled, told_all, services, exec_all}
+use Rattle.served_places.proofs.of_exchange_model.Nows.{heard_begins}
+use Rattle.served_places.proofs.of_exchange_model.Settles.{settled_app, settled_ready}
+use Rattle.run_work.specs.of_few_replies.Calm.{calm_tagged}
 use Rattle.served_places.proofs.of_few_replies.Clients.{plain_untag}
-use Rattle.served_places.specs.of_few_replies.Silent.{IsForeseenRight}
-use Rattle.segment_model.specs.Ends.{Outcome}
-use Rattle.segment_model.specs.Laws.{as_outcome}
-use Rattle.segment_model.specs.Record.{Frame}
-use Rattle.segment_model.specs.Seats.{Seat}
-use Rattle.serving_model.proofs.Passings.{by_contents}
-use Rattle.serving_model.specs.Passing.{ends_told, LastTells}
-use Rattle.serving_model.specs.Tagged.{IsServed, Meant, Tagged, Asked, Rowed, asked_exec, untag, own_gift, is_own, no_reply, answer_gifts, ends_marked, ideal}
-use Rattle.serving_model.specs.TaggedStates.{tagged_states}
-use Rattle.state_model.specs.Stated.{Stated, IsStated, Act, acts, Service, Counting, ends_by, service_ends, service_valid, with_states}
-use Rattle.state_model.proofs.Acts.{all_acts, begin_acts, given_acts, plain_acts}
-use Rattle.state_model.proofs.StatedLaw.{stated_law}
-use Rattle.state_model.specs.Promises.{IsTable, state_behind}
-use Rattle.state_model.specs.States.{Table}
+use Rattle.run_work.specs.of_few_replies.Silent.{IsForeseenRight}
+use Rattle.served_places.specs.of_segment_model.Ends.{Outcome}
+use Rattle.served_places.specs.of_segment_model.Laws.{as_outcome}
+use Rattle.served_places.specs.of_segment_model.Record.{Frame}
+use Rattle.served_places.specs.of_segment_model.Seats.{Seat}
+use Rattle.run_work.proofs.of_serving_model.Passings.{by_contents}
+use Rattle.served_places.specs.of_serving_model.Passing.{ends_told, LastTells}
+use Rattle.served_places.specs.of_serving_model.Tagged.{IsServed, Meant, Tagged, Asked, Rowed, asked_exec, untag, own_gift, is_own, no_reply, answer_gifts, ends_marked, ideal}
+use Rattle.served_places.specs.of_serving_model.TaggedStates.{tagged_states}
+use Rattle.served_places.specs.of_state_model.Stated.{Stated, IsStated, Act, acts, Service, Counting, ends_by, service_ends, service_valid, with_states}
+use Rattle.served_places.proofs.of_state_model.Acts.{all_acts, begin_acts, given_acts, plain_acts}
+use Rattle.served_places.proofs.of_state_model.StatedLaw.{stated_law}
+use Rattle.served_places.specs.of_state_model.Promises.{IsTable, state_behind}
+use Rattle.served_places.specs.of_state_model.States.{Table}
 use Rattle.run_work.specs.of_life_counts.Foreseen.{AllRight, server_behind}
 use Rattle.run_work.proofs.of_life_counts.Rights.{Between, IsRight, alike, rows_between, tells}
 use Rattle.run_work.proofs.of_life_counts.Steps.{started_services}
-use Rattle.state_model.specs.Accounts.{Account, Started}
-use Rattle.state_model.specs.Promise.{services_in}
-use Rattle.state_model.proofs.Ghosts as Ghosts
-use Rattle.state_model.proofs.Ghosts.{counting, start_of, starts_of, starts_append, Shows}
-use Rattle.state_model.proofs.Newest.{Holds}
-use Rattle.state_model.proofs.Stately.{state_over}
+use Rattle.served_places.specs.of_state_model.Accounts.{Account, Started}
+use Rattle.served_places.specs.of_state_model.Promise.{services_in}
+use Rattle.served_places.proofs.of_state_model.Ghosts as Ghosts
+use Rattle.served_places.proofs.of_state_model.Ghosts.{counting, start_of, starts_of, starts_append, Shows}
+use Rattle.served_places.proofs.of_state_model.Newest.{Holds}
+use Rattle.served_places.proofs.of_state_model.Stately.{state_over}
 
 left_of : (a b : Bool) → (a && b) ≡ true → a ≡ true
 left_of true b e = refl

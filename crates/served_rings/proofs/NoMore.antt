@@ -3,36 +3,36 @@ use Rattle.std.proofs.Common.{◌≡◌, ℕ, suc, Bool, true, List, [], ◌∷�
 use Rattle.std.specs.Prelude.{None, Some, All}
 use Rattle.std.proofs.lemmas.List.{length-map}
 use Rattle.std.proofs.lemmas.List.Elements.{All-cons, All-head, All-nil, All-tail}
-use Rattle.datagrams.specs.Datagram as Raw
-use Rattle.datagrams.specs.Frame.{IsFrame, chained}
-use Rattle.exchange_model.specs.Exchange.{plain}
-use Rattle.exchange_model.specs.Rows.{Row}
-use Rattle.frame_view.specs.Seen.{seen}
-use Rattle.frame_view.specs.View.{Lens}
+use Rattle.served_places.specs.of_datagrams.Datagram as Raw
+use Rattle.served_places.specs.of_datagrams.Frame.{IsFrame, chained}
+use Rattle.served_places.specs.of_exchange_model.Exchange.{plain}
+use Rattle.served_places.specs.of_exchange_model.Rows.{Row}
+use Rattle.run_work.specs.of_frame_view.Seen.{seen}
+use Rattle.run_work.specs.of_frame_view.View.{Lens}
 use Rattle.run_work.specs.of_life_counts.Epochs.{IsSpeaker}
-use Rattle.life_model.specs.Eras.{Clearing}
-use Rattle.life_model.specs.Lives.{Spot, Era, Life, Stand, era_next, life_next}
-use Rattle.life_model.specs.Own.{own}
-use Rattle.life_runs.specs.First.{lens_of}
-use Rattle.life_runs.specs.Led.{Exchanged}
-use Rattle.link_mails.specs.Body.{Body}
-use Rattle.link_model.specs.Frames.{all_accepted}
-use Rattle.link_model.specs.Segment.{RingFate}
-use Rattle.master_duty.specs.Reply.{Reply}
+use Rattle.served_places.specs.of_life_model.Eras.{Clearing}
+use Rattle.served_places.specs.of_life_model.Lives.{Spot, Era, Life, Stand, era_next, life_next}
+use Rattle.served_places.specs.of_life_model.Own.{own}
+use Rattle.served_places.specs.of_life_runs.First.{lens_of}
+use Rattle.served_places.specs.of_life_runs.Led.{Exchanged}
+use Rattle.served_places.specs.of_link_mails.Body.{Body}
+use Rattle.served_places.specs.of_link_model.Frames.{all_accepted}
+use Rattle.served_places.specs.of_link_model.Segment.{RingFate}
+use Rattle.run_work.specs.of_master_duty.Reply.{Reply}
 use Rattle.run_work.specs.of_master_hand.Spoken.{Asked, acknowledged, emission, is_followed, is_passed}
-use Rattle.served_places.specs.of_life_runs.of_master_tour.Brings.{accepted_in}
-use Rattle.plan_ring.proofs.Known.{AllBoot, all_boot, macs_in}
-use Rattle.plan_ring.specs.Lives.{IsKnown}
-use Rattle.plan_ring.specs.Plan.{AllMacs, FitsPlan, step}
-use Rattle.plan_ring.specs.Round.{WentRound, all_seen, frame_seen, ring_after, ring_of}
-use Rattle.segment_model.specs.Record.{Frame, Kept, News}
-use Rattle.segment_model.specs.Slaves.{Datagram, grams}
-use Rattle.segment_plan.specs.Sound.{IsPlan, IsSlave}
-use Rattle.segment_plan.specs.declared.plan.Scenario.{Scenario}
-use Rattle.segment_plan.specs.declared.slave.SlaveSpec.{SlaveSpec}
-use Rattle.segment_ring.specs.Ring.{RingState}
-use Rattle.segment_ring.specs.declared.wire.Fate.{Fate}
-use Rattle.segment_ring.specs.declared.wire.Fate.TheVariants.{Pass, Lost}
+use Rattle.served_places.specs.of_master_tour.Brings.{accepted_in}
+use Rattle.run_work.proofs.of_plan_ring.Known.{AllBoot, all_boot, macs_in}
+use Rattle.run_work.specs.of_plan_ring.Lives.{IsKnown}
+use Rattle.run_work.specs.of_plan_ring.Plan.{AllMacs, FitsPlan, step}
+use Rattle.run_work.specs.of_plan_ring.Round.{WentRound, all_seen, frame_seen, ring_after, ring_of}
+use Rattle.served_places.specs.of_segment_model.Record.{Frame, Kept, News}
+use Rattle.served_places.specs.of_segment_model.Slaves.{Datagram, grams}
+use Rattle.run_work.specs.of_segment_plan.Sound.{IsPlan, IsSlave}
+use Rattle.run_work.specs.of_segment_plan.declared.plan.Scenario.{Scenario}
+use Rattle.run_work.specs.of_segment_plan.declared.slave.SlaveSpec.{SlaveSpec}
+use Rattle.served_places.specs.of_segment_ring.Ring.{RingState}
+use Rattle.served_places.specs.of_segment_ring.declared.wire.Fate.{Fate}
+use Rattle.served_places.specs.of_segment_ring.declared.wire.Fate.TheVariants.{Pass, Lost}
 use Rattle.served_places.specs.Rows.{HearsNoMore}
 use Rattle.served_rings.proofs.All as Every
 use Rattle.served_rings.proofs.Heard.{no_more}
@@ -44,26 +44,26 @@ use Rattle.served_rings.specs.LedRings.{AllLedMembers, Counters, LedMember}
 use Rattle.served_rings.specs.Lives.{AllLeds, LedKept, LedLeft, LedYet, news_as, news_of}
 use Rattle.served_rings.specs.Rings.{AllServedAt, AreServedLived, IsServedAt, ServedMember, counters_of, served_member, served_members}
 use Rattle.served_rings.specs.Speakers.{speaker}
-use Rattle.life_runs.specs.Served.{AllServedTurn, IsServedFrame, IsServedTurn, Serves, ServedTurn, accepted_by}
+use Rattle.served_places.specs.of_life_runs.Served.{AllServedTurn, IsServedFrame, IsServedTurn, Serves, ServedTurn, accepted_by}
 use Rattle.run_work.proofs.of_slave_lives.AllSeats.{all_meet_first}
-use Rattle.plan_ring.specs.of_slave_lives.Lived.{Behind, RingFrame, frame_of, node_seen}
-use Rattle.plan_ring.specs.of_slave_lives.Opening.{Plan}
-use Rattle.plan_ring.specs.of_slave_lives.Rings.{fate_seen}
-use Rattle.plan_ring.specs.of_slave_lives.Seats.{AllMeet}
-use Rattle.slave_model.specs.Profile.{IsProfile, Profile}
-use Rattle.plan_ring.specs.of_slave_server.Serving.{Serving}
-use Rattle.plan_ring.specs.of_slave_server.Spec.{profile_of}
-use Rattle.slave_node.specs.Node.{Node}
-use Rattle.state_model.specs.Accounts.{Pick}
-use Rattle.plan_ring.proofs.of_whole_ring.Keeps.{Keeps}
-use Rattle.plan_ring.proofs.of_whole_ring.Members as Members
-use Rattle.plan_ring.proofs.of_whole_ring.Members.{all_come, joined, many, one_more, seat_of, seats_distinct, seats_known}
-use Rattle.plan_ring.proofs.of_whole_ring.Open.{open_on}
-use Rattle.plan_ring.proofs.of_whole_ring.Turning as Turning
-use Rattle.plan_ring.specs.of_whole_ring.Members.{AllLived, IsRing, Member, MemberIs}
-use Rattle.plan_ring.specs.of_whole_ring.Turning.{AllTurn, Turn, TurnsFor, frame_at, next_life}
-use Rattle.plan_ring.specs.of_whole_ring.Turns.{AsksFor, FrameComes, TurnsAs}
-use Rattle.plan_ring.specs.of_whole_ring.Whole.{IsWhole, Leaving, Living, Passing, LivesOpenBy, StandsBy}
+use Rattle.run_work.specs.of_slave_lives.Lived.{Behind, RingFrame, frame_of, node_seen}
+use Rattle.run_work.specs.of_slave_lives.Opening.{Plan}
+use Rattle.run_work.specs.of_slave_lives.Rings.{fate_seen}
+use Rattle.run_work.specs.of_slave_lives.Seats.{AllMeet}
+use Rattle.run_work.specs.of_slave_model.Profile.{IsProfile, Profile}
+use Rattle.run_work.specs.of_slave_server.Serving.{Serving}
+use Rattle.run_work.specs.of_slave_server.Spec.{profile_of}
+use Rattle.run_work.specs.of_slave_node.Node.{Node}
+use Rattle.served_places.specs.of_state_model.Accounts.{Pick}
+use Rattle.run_work.proofs.of_whole_ring.Keeps.{Keeps}
+use Rattle.run_work.proofs.of_whole_ring.Members as Members
+use Rattle.run_work.proofs.of_whole_ring.Members.{all_come, joined, many, one_more, seat_of, seats_distinct, seats_known}
+use Rattle.run_work.proofs.of_whole_ring.Open.{open_on}
+use Rattle.run_work.proofs.of_whole_ring.Turning as Turning
+use Rattle.run_work.specs.of_whole_ring.Members.{AllLived, IsRing, Member, MemberIs}
+use Rattle.run_work.specs.of_whole_ring.Turning.{AllTurn, Turn, TurnsFor, frame_at, next_life}
+use Rattle.run_work.specs.of_whole_ring.Turns.{AsksFor, FrameComes, TurnsAs}
+use Rattle.run_work.specs.of_whole_ring.Whole.{IsWhole, Leaving, Living, Passing, LivesOpenBy, StandsBy}
 
 -- WHAT IS TOLD OF A LED EPOCH and a frame of the ring is told of the life of an open slave
 module _ {S V A Q R : Type 0} (w : Behind S V A Q R) (c : Clearing V A) (p : Plan) (spot : Spot) (whole : IsWhole w c p spot) (more : Body → Bool) (passed : Q → Bool) (kept : Kept) (counts : Bool) (e : Era Body Q R) (fs : List (Frame Body)) (t : RingFrame S) (pick : Pick Q) (Told : Type 0)

@@ -1,14 +1,14 @@
 -- Which mails tell that others follow, in their octets: an information and a message of SoE with the incomplete bit, and no other.
 use Rattle.std.proofs.Common.{◌≡◌, ℕ, ◌/◌, ◌%◌, ◌≤◌, ◌==◌, nat_lt, Bool, true, false, List, [], ◌∷◌, ◌++◌, length, Result, Ok, Err, refl, arith, le-ltb, if◌then◌else◌}
-use Rattle.ec_fields.specs.Fields.{number_at}
-use Rattle.coe_codec.specs.Fields.{service_in, specifier_in, flag_in}
-use Rattle.coe_codec.specs.Reading.{segment_fits, first_fits, upload_answer_read, answer_read, download_read, request_read, coe_read}
-use Rattle.coe_codec.specs.Writing.{coe_text}
-use Rattle.protocol_models.specs.CoeClient.{is_incomplete}
-use Rattle.protocol_models.specs.CoeMails.{Coe, CoeFault, Information, InformationError, is_emission}
-use Rattle.protocol_models.specs.CoeOctets.{heard}
-use Rattle.protocol_models.specs.CoeServer.{answer_opcode}
-use Rattle.protocol_models.specs.Tables.{Ask, list, object, entry}
+use Rattle.run_work.specs.of_ec_fields.Fields.{number_at}
+use Rattle.served_places.specs.of_coe_codec.Fields.{service_in, specifier_in, flag_in}
+use Rattle.served_places.specs.of_coe_codec.Reading.{segment_fits, first_fits, upload_answer_read, answer_read, download_read, request_read, coe_read}
+use Rattle.served_places.specs.of_coe_codec.Writing.{coe_text}
+use Rattle.run_work.specs.of_protocol_models.CoeClient.{is_incomplete}
+use Rattle.run_work.specs.of_protocol_models.CoeMails.{Coe, CoeFault, Information, InformationError, is_emission}
+use Rattle.run_work.specs.of_protocol_models.CoeOctets.{heard}
+use Rattle.run_work.specs.of_protocol_models.CoeServer.{answer_opcode}
+use Rattle.run_work.specs.of_protocol_models.Tables.{Ask, list, object, entry}
 
 -- what reads as a reply that no other follows
 abbrev pub Ends : List ℕ → Result Coe CoeFault → Type 0

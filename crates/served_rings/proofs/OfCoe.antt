@@ -1,18 +1,18 @@
 -- What a CoE server answers a mail with: one mail that no other follows, none, or an information in parts. An emergency behind it has its 8 octets.
 use Rattle.std.proofs.Common.{◌≡◌, inl, inr, ℕ, zero, suc, ◌-◌, ◌<◌, ◌==◌, ◌||◌, not, nat_le, nat_lt, Bool, true, false, List, [], ◌∷◌, ◌++◌, map, take, drop, length, Option, Some, None, Result, Ok, Err, refl, ap, arith, if◌then◌else◌}
 use Rattle.std.specs.Prelude.{◌⊎◌}
-use Rattle.exchange_model.specs.Lifted.{EachOf}
-use Rattle.coe_codec.specs.Fields.{service_in}
-use Rattle.coe_codec.specs.Writing.{coe_text}
-use Rattle.protocol_models.specs.CoeMails as Coe
-use Rattle.protocol_models.specs.CoeMails.{CoeMail, mail, unread, failed, fragment, other, Abort, DownloadAnswer, SegmentAnswer, ExpeditedAnswer, FirstAnswer, UploadSegmentAnswer, Information, InformationError}
-use Rattle.protocol_models.specs.CoeOctets.{AreSpelled, coe_mail_written}
-use Rattle.protocol_models.specs.CoeServer.{Transfer, idle, downloading, uploading, Outcome, ended, goes_on, silent, abort, download_answer, same, stored, takes_whole, begins, takes_first, takes_segment, is_expedited, opened, takes_upload_segment, parts_of, information_parts, answer_opcode, informed, unknown_command, takes_unread, coe_takes, coe_outcome, emergency}
-use Rattle.protocol_models.specs.Tables.{Target, nowhere, Ask, list, object, entry, Tables}
+use Rattle.served_places.specs.of_exchange_model.Lifted.{EachOf}
+use Rattle.served_places.specs.of_coe_codec.Fields.{service_in}
+use Rattle.served_places.specs.of_coe_codec.Writing.{coe_text}
+use Rattle.run_work.specs.of_protocol_models.CoeMails as Coe
+use Rattle.run_work.specs.of_protocol_models.CoeMails.{CoeMail, mail, unread, failed, fragment, other, Abort, DownloadAnswer, SegmentAnswer, ExpeditedAnswer, FirstAnswer, UploadSegmentAnswer, Information, InformationError}
+use Rattle.run_work.specs.of_protocol_models.CoeOctets.{AreSpelled, coe_mail_written}
+use Rattle.run_work.specs.of_protocol_models.CoeServer.{Transfer, idle, downloading, uploading, Outcome, ended, goes_on, silent, abort, download_answer, same, stored, takes_whole, begins, takes_first, takes_segment, is_expedited, opened, takes_upload_segment, parts_of, information_parts, answer_opcode, informed, unknown_command, takes_unread, coe_takes, coe_outcome, emergency}
+use Rattle.run_work.specs.of_protocol_models.Tables.{Target, nowhere, Ask, list, object, entry, Tables}
 use Rattle.run_work.specs.of_master_hand.Spoken.{is_followed}
-use Rattle.serving_model.specs.Passing.{ends_told}
-use Rattle.slave_model.specs.Product.{emission}
-use Rattle.slave_model.specs.Server.{told_by}
+use Rattle.served_places.specs.of_serving_model.Passing.{ends_told}
+use Rattle.run_work.specs.of_slave_model.Product.{emission}
+use Rattle.run_work.specs.of_slave_model.Server.{told_by}
 use Rattle.served_rings.proofs.Ends.{parts_told}
 use Rattle.served_rings.proofs.Octets.{other_service, error_ends, part_told}
 

@@ -1,40 +1,40 @@
 -- ONE SLAVE OF A SERVING by a frame: what its master made of the frame for it, and its life behind it.
 use Rattle.std.proofs.Common.{◌≡◌, ℕ, ◌&&◌, Bool, true, false, List, refl, ap, sym, ◌∙◌, subst, if◌then◌else◌}
 use Rattle.std.specs.Prelude.{Option, Some, All}
-use Rattle.datagrams.specs.Datagram as Raw
-use Rattle.frame_view.specs.Seen.{seen}
-use Rattle.frame_view.specs.View.{Lens}
+use Rattle.served_places.specs.of_datagrams.Datagram as Raw
+use Rattle.run_work.specs.of_frame_view.Seen.{seen}
+use Rattle.run_work.specs.of_frame_view.View.{Lens}
 use Rattle.served_rings.specs.Lives.{news_by, news_of, recorded_by, recorded_of}
 use Rattle.served_rings.specs.LedRings.{counters_next}
-use Rattle.frame_view.specs.Shares.{Asked as AskedFor, came_at, given_where}
-use Rattle.life_model.specs.Lives.{Spot, Life, life_back, life_lost, life_next, gives_up}
-use Rattle.life_runs.specs.First.{lens_of, spot_of}
-use Rattle.life_runs.specs.Led.{Exchanged, speech_at}
-use Rattle.link_mails.specs.Body.{Body}
-use Rattle.link_model.specs.Segment.{RingFate}
-use Rattle.master_duty.specs.Reply.{Reply}
+use Rattle.run_work.specs.of_frame_view.Shares.{Asked as AskedFor, came_at, given_where}
+use Rattle.served_places.specs.of_life_model.Lives.{Spot, Life, life_back, life_lost, life_next, gives_up}
+use Rattle.served_places.specs.of_life_runs.First.{lens_of, spot_of}
+use Rattle.served_places.specs.of_life_runs.Led.{Exchanged, speech_at}
+use Rattle.served_places.specs.of_link_mails.Body.{Body}
+use Rattle.served_places.specs.of_link_model.Segment.{RingFate}
+use Rattle.run_work.specs.of_master_duty.Reply.{Reply}
 use Rattle.run_work.specs.of_master_hand.Spoken.{Asked, acknowledged, hand_speech, is_followed, is_passed}
-use Rattle.master_side.specs.Passing.{news_back, news_lost}
-use Rattle.master_side.specs.Counts.{counts_on, kept_on}
-use Rattle.plan_ring.specs.Round.{WentRound}
-use Rattle.plan_ring.proofs.Known.{Boots}
-use Rattle.plan_ring.proofs.Turns.{boots_is}
-use Rattle.segment_model.specs.Record.{Frame}
-use Rattle.segment_plan.specs.declared.plan.Scenario.{Scenario}
-use Rattle.segment_plan.specs.declared.service.Service as Plan
-use Rattle.segment_plan.specs.declared.slave.SlaveSpec.{SlaveSpec}
-use Rattle.segment_ring.specs.Ring.{RingState}
-use Rattle.segment_ring.specs.Schedule.{fate_at}
-use Rattle.segment_ring.specs.declared.wire.Fate.{Fate}
-use Rattle.segment_ring.specs.declared.wire.Fate.TheVariants.{Pass, Lost}
-use Rattle.life_runs.specs.Served.{Keyed, Serves, ServedTurn, ServedComes, IsServedTurn, served_behind, served_life, recorded}
-use Rattle.life_runs.specs.Told.{Passed}
-use Rattle.plan_ring.specs.of_slave_lives.Rings.{fate_seen}
-use Rattle.plan_ring.specs.of_slave_server.Serving.{Serving}
-use Rattle.slave_node.specs.Node.{Node}
-use Rattle.state_model.specs.Stated.{Service}
-use Rattle.plan_ring.specs.of_whole_ring.Turning.{BeginBoots, Turn, TurnsFor, frame_at, life_by, next_life}
-use Rattle.plan_ring.proofs.of_whole_ring.Turning as Ring
+use Rattle.run_work.specs.of_master_side.Passing.{news_back, news_lost}
+use Rattle.run_work.specs.of_master_side.Counts.{counts_on, kept_on}
+use Rattle.run_work.specs.of_plan_ring.Round.{WentRound}
+use Rattle.run_work.proofs.of_plan_ring.Known.{Boots}
+use Rattle.run_work.proofs.of_plan_ring.Turns.{boots_is}
+use Rattle.served_places.specs.of_segment_model.Record.{Frame}
+use Rattle.run_work.specs.of_segment_plan.declared.plan.Scenario.{Scenario}
+use Rattle.run_work.specs.of_segment_plan.declared.service.Service as Plan
+use Rattle.run_work.specs.of_segment_plan.declared.slave.SlaveSpec.{SlaveSpec}
+use Rattle.served_places.specs.of_segment_ring.Ring.{RingState}
+use Rattle.served_places.specs.of_segment_ring.Schedule.{fate_at}
+use Rattle.served_places.specs.of_segment_ring.declared.wire.Fate.{Fate}
+use Rattle.served_places.specs.of_segment_ring.declared.wire.Fate.TheVariants.{Pass, Lost}
+use Rattle.served_places.specs.of_life_runs.Served.{Keyed, Serves, ServedTurn, ServedComes, IsServedTurn, served_behind, served_life, recorded}
+use Rattle.served_places.specs.of_life_runs.Told.{Passed}
+use Rattle.run_work.specs.of_slave_lives.Rings.{fate_seen}
+use Rattle.run_work.specs.of_slave_server.Serving.{Serving}
+use Rattle.run_work.specs.of_slave_node.Node.{Node}
+use Rattle.served_places.specs.of_state_model.Stated.{Service}
+use Rattle.run_work.specs.of_whole_ring.Turning.{BeginBoots, Turn, TurnsFor, frame_at, life_by, next_life}
+use Rattle.run_work.proofs.of_whole_ring.Turning as Ring
 use Rattle.served_rings.specs.Rings.{IsServedAt, ServedMember, counters_of, served_member}
 
 -- what comes into hand asks for no state that the slave lacks

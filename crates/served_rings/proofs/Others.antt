@@ -1,31 +1,31 @@
 -- What the servers of FoE, SoE and EoE answer a mail with: one mail that no other follows, none, or an element in fragments.
 use Rattle.std.proofs.Common.{◌≡◌, inl, inr, ℕ, suc, ◌+◌, ◌-◌, ◌*◌, ◌/◌, ◌%◌, ◌<◌, ◌≤◌, ◌==◌, not, cond, Bool, true, false, List, [], ◌∷◌, map, length, Option, Some, None, Result, Ok, Err, refl, ap, ◌∙◌, arith, if◌then◌else◌}
 use Rattle.std.specs.Prelude.{◌⊎◌}
-use Rattle.link_mails.specs.Body.{Body}
-use Rattle.eoe.specs.declared.message.Fragment.{Fragment}
-use Rattle.eoe.specs.Message.{eoe_text}
-use Rattle.protocol_models.specs.CoeMails as Coe
-use Rattle.eoe.specs.Cutting.{fragments_of}
-use Rattle.eoe.specs.Joining.{taken}
-use Rattle.eoe.specs.declared.joining.Joined.{Joined}
-use Rattle.eoe.specs.declared.joining.Joined.TheVariants.{More, Whole, Dropped}
-use Rattle.exchange_model.specs.Exchange.{plain}
-use Rattle.exchange_model.specs.Lifted.{EachOf}
-use Rattle.protocol_models.specs.FoeMails as Foe
-use Rattle.protocol_models.specs.FoeOctets as FoeOctets
-use Rattle.protocol_models.specs.Elements.{Elements, Target}
-use Rattle.protocol_models.specs.SoeMails as Soe
-use Rattle.protocol_models.specs.SoeOctets as SoeOctets
-use Rattle.protocol_models.specs.SoeServer as SoeServer
-use Rattle.protocol_models.specs.EoeMails as Eoe
-use Rattle.protocol_models.specs.EoeOctets as EoeOctets
-use Rattle.protocol_models.specs.EoeServer as EoeServer
-use Rattle.protocol_models.specs.Network.{Network, Station}
+use Rattle.served_places.specs.of_link_mails.Body.{Body}
+use Rattle.run_work.specs.of_eoe.declared.message.Fragment.{Fragment}
+use Rattle.run_work.specs.of_eoe.Message.{eoe_text}
+use Rattle.run_work.specs.of_protocol_models.CoeMails as Coe
+use Rattle.run_work.specs.of_eoe.Cutting.{fragments_of}
+use Rattle.run_work.specs.of_eoe.Joining.{taken}
+use Rattle.run_work.specs.of_eoe.declared.joining.Joined.{Joined}
+use Rattle.run_work.specs.of_eoe.declared.joining.Joined.TheVariants.{More, Whole, Dropped}
+use Rattle.served_places.specs.of_exchange_model.Exchange.{plain}
+use Rattle.served_places.specs.of_exchange_model.Lifted.{EachOf}
+use Rattle.run_work.specs.of_protocol_models.FoeMails as Foe
+use Rattle.run_work.specs.of_protocol_models.FoeOctets as FoeOctets
+use Rattle.run_work.specs.of_protocol_models.Elements.{Elements, Target}
+use Rattle.run_work.specs.of_protocol_models.SoeMails as Soe
+use Rattle.run_work.specs.of_protocol_models.SoeOctets as SoeOctets
+use Rattle.run_work.specs.of_protocol_models.SoeServer as SoeServer
+use Rattle.run_work.specs.of_protocol_models.EoeMails as Eoe
+use Rattle.run_work.specs.of_protocol_models.EoeOctets as EoeOctets
+use Rattle.run_work.specs.of_protocol_models.EoeServer as EoeServer
+use Rattle.run_work.specs.of_protocol_models.Network.{Network, Station}
 use Rattle.run_work.specs.of_master_hand.Spoken.{is_followed}
-use Rattle.serving_model.specs.Passing.{ends_told}
-use Rattle.slave_model.specs.Product.{emission}
-use Rattle.slave_model.specs.Server.{told_by}
-use Rattle.slave_model.proofs.Stations.{fragment_told}
+use Rattle.served_places.specs.of_serving_model.Passing.{ends_told}
+use Rattle.run_work.specs.of_slave_model.Product.{emission}
+use Rattle.run_work.specs.of_slave_model.Server.{told_by}
+use Rattle.run_work.proofs.of_slave_model.Stations.{fragment_told}
 use Rattle.served_rings.specs.Told.{TellLast}
 use Rattle.served_rings.proofs.Ends.{ends_mapped, fragments_told}
 use Rattle.served_rings.proofs.Words.{complete_ends, refusal_ends, fragment_goes}

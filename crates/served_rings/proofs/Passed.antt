@@ -1,10 +1,10 @@
 -- A mail that is passed on as a service: its last reply tells that it is the last, where none is made up that goes on.
 use Rattle.std.proofs.Common.{◌≡◌, inl, inr, not, cond, Bool, true, false, List, [], ◌∷◌, map, refl, ap, sym, ◌∙◌, subst, append-nil, if◌then◌else◌}
 use Rattle.std.specs.Prelude.{◌⊎◌}
-use Rattle.exchange_model.specs.Exchange.{Exchange, plain}
-use Rattle.served_places.specs.of_few_replies.Heard.{LastTold}
-use Rattle.serving_model.specs.Passing.{ends_told, LastTells}
-use Rattle.serving_model.specs.Tagged.{Meant, Tagged, Asked, untag, own_gift, is_own, no_reply, last_gifts, answer_gifts, ideal, tagged}
+use Rattle.served_places.specs.of_exchange_model.Exchange.{Exchange, plain}
+use Rattle.run_work.specs.of_few_replies.Heard.{LastTold}
+use Rattle.served_places.specs.of_serving_model.Passing.{ends_told, LastTells}
+use Rattle.served_places.specs.of_serving_model.Tagged.{Meant, Tagged, Asked, untag, own_gift, is_own, no_reply, last_gifts, answer_gifts, ideal, tagged}
 use Rattle.served_rings.proofs.Ends.{ends_mapped}
 
 module _ {M : Type 0} (Q : Type 0) (e : M → Bool) where

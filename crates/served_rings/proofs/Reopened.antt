@@ -3,30 +3,30 @@ use Rattle.std.proofs.Common.{◌≡◌, ◌⊎◌, inl, inr, ◌&&◌, ◌<◌,
 use Rattle.std.specs.Prelude.{All, if◌then◌else◌, nat_lt, ⊤}
 use Rattle.std.proofs.lemmas.Bool.{lt-ltb}
 use Rattle.std.proofs.lemmas.List.Elements.{All-head, All-tail}
-use Rattle.datagrams.specs.Datagram as Raw
-use Rattle.slave_node.specs.Passing.{datagrams_after}
-use Rattle.frame_view.specs.View.{Lens}
-use Rattle.frame_view.specs.Shares.{came_at}
-use Rattle.life_model.specs.Lives.{Life, Opening, Stand, gives_up}
-use Rattle.master_duty.specs.Reply.{Reply}
+use Rattle.served_places.specs.of_datagrams.Datagram as Raw
+use Rattle.run_work.specs.of_slave_node.Passing.{datagrams_after}
+use Rattle.run_work.specs.of_frame_view.View.{Lens}
+use Rattle.run_work.specs.of_frame_view.Shares.{came_at}
+use Rattle.served_places.specs.of_life_model.Lives.{Life, Opening, Stand, gives_up}
+use Rattle.run_work.specs.of_master_duty.Reply.{Reply}
 use Rattle.served_places.proofs.of_life_runs.Opened.{Leaves, Leaving, Now, Opened, back_so, given_so, later, lost_so, next_so, opened_first}
-use Rattle.life_runs.specs.Causes.{since}
-use Rattle.life_runs.specs.First.{leads_from}
-use Rattle.link_mails.specs.Body.{Body}
-use Rattle.link_model.specs.Segment.{RingFate}
+use Rattle.served_places.specs.of_life_runs.Causes.{since}
+use Rattle.served_places.specs.of_life_runs.First.{leads_from}
+use Rattle.served_places.specs.of_link_mails.Body.{Body}
+use Rattle.served_places.specs.of_link_model.Segment.{RingFate}
 use Rattle.run_work.specs.of_master_hand.Spoken.{Asked, is_followed, is_passed}
-use Rattle.segment_model.specs.Record.{Frame}
-use Rattle.segment_plan.specs.declared.service.Service as Row
-use Rattle.segment_plan.specs.declared.slave.SlaveSpec.{SlaveSpec}
-use Rattle.segment_ring.specs.declared.wire.Fate.TheVariants.{Lost, Pass}
+use Rattle.served_places.specs.of_segment_model.Record.{Frame}
+use Rattle.run_work.specs.of_segment_plan.declared.service.Service as Row
+use Rattle.run_work.specs.of_segment_plan.declared.slave.SlaveSpec.{SlaveSpec}
+use Rattle.served_places.specs.of_segment_ring.declared.wire.Fate.TheVariants.{Lost, Pass}
 use Rattle.served_rings.specs.Rings.{ServedMember, served_member, served_members}
 use Rattle.served_rings.specs.StoodLives.{LeftOpen}
 use Rattle.served_rings.proofs.Stood.{Reopens}
-use Rattle.life_runs.specs.Served.{Serves, all_serve}
-use Rattle.plan_ring.specs.of_slave_server.Serving.{Serving}
-use Rattle.slave_node.specs.Node.{Node}
-use Rattle.plan_ring.proofs.of_whole_ring.Turning.{next_stand}
-use Rattle.plan_ring.specs.of_whole_ring.Turning.{Turn, behind_frame, given_up, life_by, next_life}
+use Rattle.served_places.specs.of_life_runs.Served.{Serves, all_serve}
+use Rattle.run_work.specs.of_slave_server.Serving.{Serving}
+use Rattle.run_work.specs.of_slave_node.Node.{Node}
+use Rattle.run_work.proofs.of_whole_ring.Turning.{next_stand}
+use Rattle.run_work.specs.of_whole_ring.Turning.{Turn, behind_frame, given_up, life_by, next_life}
 
 -- what holds of all holds of one among them
 all_at : (P : ℕ → Type 0) (front : List ℕ) (x : ℕ) (behind : List ℕ) → All P (front ++ x ∷ behind) → P x

@@ -2,21 +2,21 @@
 -- sent of itself are the first mails that those rows emit.
 use Rattle.std.proofs.Common.{◌≡◌, ◌<◌, ℕ, zero, suc, Bool, true, false, Option, None, Some, option_map, List, [], ◌∷◌, ◌++◌, length, map, take, refl, ap, sym, ◌∙◌, subst}
 use Rattle.std.proofs.lemmas.List.{take-map}
-use Rattle.exchange_model.specs.Exchange.{emitted}
-use Rattle.exchange_model.specs.Prefix.{IsPrefixOf}
-use Rattle.exchange_model.specs.Rows.{heard_all}
+use Rattle.served_places.specs.of_exchange_model.Exchange.{emitted}
+use Rattle.served_places.specs.of_exchange_model.Prefix.{IsPrefixOf}
+use Rattle.served_places.specs.of_exchange_model.Rows.{heard_all}
 use Rattle.run_work.specs.of_life_counts.Epochs.{IsSpeaker, IsSeen, era_named, seeing, seeing_states}
 use Rattle.run_work.specs.of_life_counts.Foreseen.{AllRight}
 use Rattle.run_work.specs.of_life_counts.Seen.{change_seen, outcome_seen, service_seen}
-use Rattle.life_model.specs.Eras.{era_frames}
-use Rattle.life_model.specs.Lives.{Spot, Era}
-use Rattle.link_mails.specs.Body.{Body}
-use Rattle.master_duty.specs.Reply.{Reply}
+use Rattle.served_places.specs.of_life_model.Eras.{era_frames}
+use Rattle.served_places.specs.of_life_model.Lives.{Spot, Era}
+use Rattle.served_places.specs.of_link_mails.Body.{Body}
+use Rattle.run_work.specs.of_master_duty.Reply.{Reply}
 use Rattle.run_work.specs.of_master_hand.Spoken.{Asked, emission}
 use Rattle.run_work.specs.Sessions.{Wanted, named_wanted}
-use Rattle.segment_model.specs.Record.{Frame, heard}
-use Rattle.segment_model.specs.Seats.{rows_of}
-use Rattle.segment_model.specs.Slaves.{Registers, Slave}
+use Rattle.served_places.specs.of_segment_model.Record.{Frame, heard}
+use Rattle.served_places.specs.of_segment_model.Seats.{rows_of}
+use Rattle.served_places.specs.of_segment_model.Slaves.{Registers, Slave}
 use Rattle.served_rings.proofs.Emitted.{emits_named, sent_is}
 use Rattle.served_rings.proofs.Ended as Ended
 use Rattle.served_rings.proofs.Ended.{all_replies}
@@ -27,17 +27,17 @@ use Rattle.served_rings.proofs.Seen.{promised, valid}
 use Rattle.served_rings.proofs.SeenRests.{answered, frames}
 use Rattle.served_rings.specs.Served.{AreReplies, IsReplyOf, emitted_behind}
 use Rattle.served_rings.specs.Speakers.{seer_of, spoken, table_of, whole_states}
-use Rattle.serving_model.proofs.TaggedLaw.{untag-append}
-use Rattle.serving_model.specs.Tagged.{asked_exec, untag}
-use Rattle.slave_model.specs.Profile.{Profile}
-use Rattle.slave_model.specs.Server as SlaveReply
-use Rattle.slave_parts.specs.Parts.{Server, parts}
-use Rattle.slave_parts.specs.Served.{product_whole}
-use Rattle.state_model.specs.Families.{InState}
-use Rattle.state_model.specs.Stated.{Service, service_valid}
-use Rattle.state_model.specs.Promises.{state_behind}
-use Rattle.state_model.specs.Accounts.{Change}
-use Rattle.state_model.specs.Promise.{duty_in, services_in}
+use Rattle.run_work.proofs.of_serving_model.TaggedLaw.{untag-append}
+use Rattle.served_places.specs.of_serving_model.Tagged.{asked_exec, untag}
+use Rattle.run_work.specs.of_slave_model.Profile.{Profile}
+use Rattle.run_work.specs.of_slave_model.Server as SlaveReply
+use Rattle.run_work.specs.of_slave_parts.Parts.{Server, parts}
+use Rattle.run_work.specs.of_slave_parts.Served.{product_whole}
+use Rattle.served_places.specs.of_state_model.Families.{InState}
+use Rattle.served_places.specs.of_state_model.Stated.{Service, service_valid}
+use Rattle.served_places.specs.of_state_model.Promises.{state_behind}
+use Rattle.served_places.specs.of_state_model.Accounts.{Change}
+use Rattle.served_places.specs.of_state_model.Promise.{duty_in, services_in}
 
 module _ (p : Profile) (boot : Bool) (station : ℕ) where
   abbrev replies_there : ℕ → ℕ → InState Server × ℕ → List (Service Wanted) → List (RowHere p) → List (Change (Option SlaveReply.Reply)) → Type 0

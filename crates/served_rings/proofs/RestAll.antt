@@ -2,19 +2,19 @@
 use Rattle.std.proofs.Common.{◌≡◌, ℕ, suc, true, None, List, [], ◌∷◌, ◌++◌, length, ap, ◌∙◌, subst, append-nil}
 use Rattle.std.specs.Prelude.{All}
 use Rattle.std.proofs.lemmas.List.Elements.{All-head, All-tail}
-use Rattle.life_model.specs.Script.{life_started}
-use Rattle.exchange_model.specs.Exchange.{Speech}
-use Rattle.frame_view.specs.View.{Lens}
-use Rattle.life_model.specs.Lives.{Era, Spot, Stand}
-use Rattle.life_runs.specs.First.{HaveLens, lens_of, script_for}
-use Rattle.life_runs.specs.Led.{speech_at}
-use Rattle.link_mails.specs.Body.{Body}
-use Rattle.master_duty.specs.Reply.{Reply}
+use Rattle.served_places.specs.of_life_model.Script.{life_started}
+use Rattle.served_places.specs.of_exchange_model.Exchange.{Speech}
+use Rattle.run_work.specs.of_frame_view.View.{Lens}
+use Rattle.served_places.specs.of_life_model.Lives.{Era, Spot, Stand}
+use Rattle.served_places.specs.of_life_runs.First.{HaveLens, lens_of, script_for}
+use Rattle.served_places.specs.of_life_runs.Led.{speech_at}
+use Rattle.served_places.specs.of_link_mails.Body.{Body}
+use Rattle.run_work.specs.of_master_duty.Reply.{Reply}
 use Rattle.run_work.specs.of_master_hand.Spoken.{Asked, hand_speech}
-use Rattle.segment_model.specs.Laws.{WantsNothing}
-use Rattle.segment_plan.specs.declared.plan.Scenario.{Scenario}
-use Rattle.segment_plan.specs.declared.service.Service as Plan
-use Rattle.segment_plan.specs.declared.slave.SlaveSpec.{SlaveSpec}
+use Rattle.served_places.specs.of_segment_model.Laws.{WantsNothing}
+use Rattle.run_work.specs.of_segment_plan.declared.plan.Scenario.{Scenario}
+use Rattle.run_work.specs.of_segment_plan.declared.service.Service as Plan
+use Rattle.run_work.specs.of_segment_plan.declared.slave.SlaveSpec.{SlaveSpec}
 use Rattle.served_rings.specs.Rests.{AllServedDoneIf, IsServedDone, IsServedIdle, IsServedWhole}
 use Rattle.served_rings.specs.Rings.{AllServedAt, IsServedAt}
 use Rattle.served_rings.specs.Served.{IsServedLife, IsServedNewest}
@@ -22,13 +22,13 @@ use Rattle.served_rings.specs.Stood.{AllHeld, ServeStood}
 use Rattle.served_rings.specs.StoodLives.{IsFirst, others}
 use Rattle.served_rings.specs.Speakers.{spoken}
 use Rattle.run_work.specs.Lives.{first_server}
-use Rattle.life_runs.specs.Came.{AreAmong, HasServed, ServedCame}
-use Rattle.life_runs.specs.Served.{Serves}
-use Rattle.slave_parts.specs.Parts.{Server}
-use Rattle.plan_ring.specs.of_slave_server.Serving.{Serving, next_mail}
-use Rattle.plan_ring.specs.of_slave_server.Spec.{profile_of}
-use Rattle.slave_node.specs.Node.{Node, is_settled}
-use Rattle.state_model.specs.Families.{InState}
+use Rattle.served_places.specs.of_life_runs.Came.{AreAmong, HasServed, ServedCame}
+use Rattle.served_places.specs.of_life_runs.Served.{Serves}
+use Rattle.run_work.specs.of_slave_parts.Parts.{Server}
+use Rattle.run_work.specs.of_slave_server.Serving.{Serving, next_mail}
+use Rattle.run_work.specs.of_slave_server.Spec.{profile_of}
+use Rattle.run_work.specs.of_slave_node.Node.{Node, is_settled}
+use Rattle.served_places.specs.of_state_model.Families.{InState}
 
 module _ (s : SlaveSpec) (from : InState Server) (e : Era Body Asked Reply) (n : Node Serving) (settled : is_settled next_mail n ≡ true) (wants : WantsNothing (spoken (profile_of s)).speech e.side) (hand : e.account.hand ≡ None) (over : e.passing ≡ None) where
   -- of an open epoch nothing is left

@@ -1,23 +1,23 @@
 -- WHERE A SLAVE OF A SERVING RESTS nothing is left of its epoch: all its rows are carried out and answered, and all that they emit was heard.
 use Rattle.std.proofs.Common.{◌≡◌, ◌&&◌, ℕ, suc, Bool, true, false, not, is_none, is_some, Option, None, Some, option_map, inl, inr, List, [], ◌∷◌, ◌++◌, length, map, refl, ap, ap₂, sym, ◌∙◌, subst, append-nil, Ok, Err, if◌then◌else◌}
-use Rattle.exchange_model.specs.Exchange.{emitted}
-use Rattle.exchange_model.specs.Rows.{Row, heard_all}
+use Rattle.served_places.specs.of_exchange_model.Exchange.{emitted}
+use Rattle.served_places.specs.of_exchange_model.Rows.{Row, heard_all}
 use Rattle.run_work.specs.of_life_counts.Epochs.{IsSpeaker, IsSeen, era_named, seeing, seeing_states}
 use Rattle.run_work.specs.of_life_counts.Seen.{change_seen, outcome_seen, service_seen}
-use Rattle.life_model.specs.Eras.{era_frames}
-use Rattle.life_model.specs.Lives.{Spot, Era}
-use Rattle.link_mails.specs.Body.{Body}
-use Rattle.link_model.specs.Mails.{LinkMail}
-use Rattle.master_duty.specs.Reply.{Reply}
+use Rattle.served_places.specs.of_life_model.Eras.{era_frames}
+use Rattle.served_places.specs.of_life_model.Lives.{Spot, Era}
+use Rattle.served_places.specs.of_link_mails.Body.{Body}
+use Rattle.served_places.specs.of_link_model.Mails.{LinkMail}
+use Rattle.run_work.specs.of_master_duty.Reply.{Reply}
 use Rattle.run_work.specs.of_master_hand.Spoken.{Asked, emission}
 use Rattle.served_places.proofs.of_few_replies.Naturals.{none_of}
-use Rattle.served_places.specs.of_few_replies.Erased.{OfRow, PlanOne, row_seen, side_seen}
+use Rattle.run_work.specs.of_few_replies.Erased.{OfRow, PlanOne, row_seen, side_seen}
 use Rattle.run_work.specs.Sessions.{Meant, Wanted, named_wanted}
-use Rattle.segment_model.proofs.Overs.{over_parts}
-use Rattle.segment_model.specs.Laws.{IsSettled, NothingInHand, WantsNothing}
-use Rattle.segment_model.specs.Record.{Frame, heard}
-use Rattle.segment_model.specs.Seats.{Side, is_none_left, is_over, rows_of}
-use Rattle.segment_model.specs.Slaves.{Registers, Slave}
+use Rattle.served_places.proofs.of_segment_model.Overs.{over_parts}
+use Rattle.served_places.specs.of_segment_model.Laws.{IsSettled, NothingInHand, WantsNothing}
+use Rattle.served_places.specs.of_segment_model.Record.{Frame, heard}
+use Rattle.served_places.specs.of_segment_model.Seats.{Side, is_none_left, is_over, rows_of}
+use Rattle.served_places.specs.of_segment_model.Slaves.{Registers, Slave}
 use Rattle.served_rings.proofs.Emitted.{emits_named, knows, sent_is}
 use Rattle.served_rings.proofs.Ended as Ended
 use Rattle.served_rings.proofs.Ended.{all_answered}
@@ -30,18 +30,18 @@ use Rattle.served_rings.proofs.SeenSettled.{none_box, settled_back}
 use Rattle.served_rings.proofs.Speakers.{script}
 use Rattle.served_rings.specs.Served.{AreAnswered, IsReplied, NothingLeft, emitted_behind, server_behind}
 use Rattle.served_rings.specs.Speakers.{seer_of, spoken, table_of, whole_states}
-use Rattle.serving_model.specs.Erasing.{box_as}
-use Rattle.serving_model.specs.Tagged as Tagged
-use Rattle.serving_model.specs.Tagged.{asked_exec, asked_reply, ideal, real, untag}
-use Rattle.slave_model.specs.Profile.{Profile, Protocol}
-use Rattle.slave_model.specs.Server as SlaveReply
-use Rattle.slave_parts.specs.Parts.{Server, parts}
-use Rattle.slave_parts.specs.Served.{product_whole}
-use Rattle.state_model.specs.Families.{InState}
-use Rattle.state_model.specs.Stated.{Service, service_valid}
-use Rattle.state_model.specs.Promises.{answer_of, state_behind}
-use Rattle.state_model.specs.Accounts.{Change}
-use Rattle.state_model.specs.Promise.{changes_in, duty_in, services_in}
+use Rattle.served_places.specs.of_serving_model.Erasing.{box_as}
+use Rattle.served_places.specs.of_serving_model.Tagged as Tagged
+use Rattle.served_places.specs.of_serving_model.Tagged.{asked_exec, asked_reply, ideal, real, untag}
+use Rattle.run_work.specs.of_slave_model.Profile.{Profile, Protocol}
+use Rattle.run_work.specs.of_slave_model.Server as SlaveReply
+use Rattle.run_work.specs.of_slave_parts.Parts.{Server, parts}
+use Rattle.run_work.specs.of_slave_parts.Served.{product_whole}
+use Rattle.served_places.specs.of_state_model.Families.{InState}
+use Rattle.served_places.specs.of_state_model.Stated.{Service, service_valid}
+use Rattle.served_places.specs.of_state_model.Promises.{answer_of, state_behind}
+use Rattle.served_places.specs.of_state_model.Accounts.{Change}
+use Rattle.served_places.specs.of_state_model.Promise.{changes_in, duty_in, services_in}
 
 module _ (p : Profile) where
   abbrev pub RowHere : Type 0

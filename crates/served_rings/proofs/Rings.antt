@@ -1,23 +1,23 @@
 -- ALL SLAVES OF A RING by a frame: the lives are led on.
 use Rattle.std.proofs.Common.{◌≡◌, ℕ, suc, Bool, List, [], ◌∷◌, ◌++◌, map, length, take, drop, refl, ap, ap₂, sym, ◌∙◌, subst, arith}
-use Rattle.datagrams.specs.Datagram as Raw
-use Rattle.datagrams.specs.Frame.{IsFrame, chained}
-use Rattle.frame_view.specs.View.{Lens}
-use Rattle.life_model.specs.Lives.{Spot, Life, new_life}
-use Rattle.link_mails.specs.Body.{Body}
-use Rattle.master_side.specs.Counts.{counts_on, kept_on}
-use Rattle.segment_model.specs.Record.{Frame, News}
-use Rattle.segment_ring.specs.Ring.{RingState}
-use Rattle.plan_ring.specs.of_slave_lives.Lived.{RingFrame, frame_of, node_behind}
-use Rattle.plan_ring.specs.of_slave_lives.Rings.{come_to, fate_seen, is_met_at, met, turned}
-use Rattle.plan_ring.specs.of_slave_lives.Seats.{AllMeet}
-use Rattle.slave_node.specs.Node.{Node}
-use Rattle.plan_ring.specs.of_whole_ring.Turns as Whole
-use Rattle.plan_ring.specs.of_whole_ring.Members.{Member, MemberIs, AllLived, IsRing, IsNew, AllNew}
-use Rattle.plan_ring.specs.of_whole_ring.Turning.{Turn, TurnsFor, AllTurn, frame_at, life_by, behind_frame}
-use Rattle.plan_ring.proofs.of_whole_ring.Members as Members
-use Rattle.plan_ring.proofs.of_whole_ring.Members.{node_in, fate_in, seat_of, joined, one_more, comes_past, many, seats_distinct, seats_known, all_come}
-use Rattle.plan_ring.proofs.of_whole_ring.Turning as One
+use Rattle.served_places.specs.of_datagrams.Datagram as Raw
+use Rattle.served_places.specs.of_datagrams.Frame.{IsFrame, chained}
+use Rattle.run_work.specs.of_frame_view.View.{Lens}
+use Rattle.served_places.specs.of_life_model.Lives.{Spot, Life, new_life}
+use Rattle.served_places.specs.of_link_mails.Body.{Body}
+use Rattle.run_work.specs.of_master_side.Counts.{counts_on, kept_on}
+use Rattle.served_places.specs.of_segment_model.Record.{Frame, News}
+use Rattle.served_places.specs.of_segment_ring.Ring.{RingState}
+use Rattle.run_work.specs.of_slave_lives.Lived.{RingFrame, frame_of, node_behind}
+use Rattle.run_work.specs.of_slave_lives.Rings.{come_to, fate_seen, is_met_at, met, turned}
+use Rattle.run_work.specs.of_slave_lives.Seats.{AllMeet}
+use Rattle.run_work.specs.of_slave_node.Node.{Node}
+use Rattle.run_work.specs.of_whole_ring.Turns as Whole
+use Rattle.run_work.specs.of_whole_ring.Members.{Member, MemberIs, AllLived, IsRing, IsNew, AllNew}
+use Rattle.run_work.specs.of_whole_ring.Turning.{Turn, TurnsFor, AllTurn, frame_at, life_by, behind_frame}
+use Rattle.run_work.proofs.of_whole_ring.Members as Members
+use Rattle.run_work.proofs.of_whole_ring.Members.{node_in, fate_in, seat_of, joined, one_more, comes_past, many, seats_distinct, seats_known, all_come}
+use Rattle.run_work.proofs.of_whole_ring.Turning as One
 use Rattle.run_work.proofs.of_slave_lives.AllSeats.{all_meet_first}
 use Rattle.served_rings.specs.Lives.{news_of, recorded_of}
 use Rattle.served_rings.specs.StoodLives.{AllStoodMembers, IsFirst, IsStoodLived, StoodMember, others}

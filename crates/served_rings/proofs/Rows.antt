@@ -1,16 +1,16 @@
 -- WORKED ROWS: a mail of a protocol that its slave doesn't serve.
 use Rattle.std.proofs.Common.{◌≡◌, ◌&&◌, not, ◌==◌, ℕ, suc, Bool, false, [], ◌∷◌, ap, ◌∙◌, Ok}
-use Rattle.exchange_model.specs.Exchange.{plain}
-use Rattle.exchange_model.specs.Refusing.{gated}
-use Rattle.mailbox_mail.specs.declared.mail.Kind.{Kind}
-use Rattle.mailbox_mail.specs.declared.mail.Mail.{Mail}
+use Rattle.served_places.specs.of_exchange_model.Exchange.{plain}
+use Rattle.served_places.specs.of_exchange_model.Refusing.{gated}
+use Rattle.run_work.specs.of_mailbox_mail.declared.mail.Kind.{Kind}
+use Rattle.run_work.specs.of_mailbox_mail.declared.mail.Mail.{Mail}
 use Rattle.run_work.specs.of_master_hand.Spoken.{emission, passed}
-use Rattle.slave_model.specs.Product.{protocol_of, refusal, serve_by, served}
-use Rattle.slave_model.specs.Profile.{Protocol, Profile, serves}
-use Rattle.slave_model.specs.Server.{failure, reseated, seat}
-use Rattle.slave_parts.specs.Parts.{Server, parts}
-use Rattle.state_model.specs.Families.{InState}
-use Rattle.state_model.specs.Stated.{Service}
+use Rattle.run_work.specs.of_slave_model.Product.{protocol_of, refusal, serve_by, served}
+use Rattle.run_work.specs.of_slave_model.Profile.{Protocol, Profile, serves}
+use Rattle.run_work.specs.of_slave_model.Server.{failure, reseated, seat}
+use Rattle.run_work.specs.of_slave_parts.Parts.{Server, parts}
+use Rattle.served_places.specs.of_state_model.Families.{InState}
+use Rattle.served_places.specs.of_state_model.Stated.{Service}
 use Rattle.served_rings.specs.Served.{replies_to, server_behind}
 
 module _ (p : Profile) (boot : Bool) (station : ℕ) (v : InState Server) (m : Mail) (none : p.has_coe ≡ false) (kind : m.kind ≡ Kind.CoE) where

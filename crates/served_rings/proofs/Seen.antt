@@ -1,25 +1,25 @@
 -- OF AN EPOCH that is seen with what is meant by its mails: what its slave carried out of it, and what was heard for the mail that is passed on.
 use Rattle.std.proofs.Common.{◌≡◌, ℕ, Bool, false, Option, Some, List, [], ◌∷◌, ◌++◌, length, refl}
-use Rattle.life_model.specs.Eras.{OpenEra, era_frames, frames_of}
-use Rattle.life_model.specs.Lives.{Spot, Era}
-use Rattle.life_model.proofs.Eras.{session_of, of_one}
-use Rattle.served_places.specs.of_few_replies.Clearing.{Forgets}
+use Rattle.served_places.specs.of_life_model.Eras.{OpenEra, era_frames, frames_of}
+use Rattle.served_places.specs.of_life_model.Lives.{Spot, Era}
+use Rattle.served_places.proofs.of_life_model.Eras.{session_of, of_one}
+use Rattle.run_work.specs.of_few_replies.Clearing.{Forgets}
 use Rattle.served_places.proofs.of_few_replies.Clears.{clears}
 use Rattle.served_rings.proofs.SeenRows.{era_in}
-use Rattle.segment_model.specs.Record.{Frame}
-use Rattle.segment_model.specs.Seats.{Side}
-use Rattle.segment_model.specs.Slaves.{Registers, Processor, Slave}
-use Rattle.serving_model.specs.Tagged.{Tagged, Asked, Rowed, ideal, real}
-use Rattle.state_model.specs.Stated.{Service}
-use Rattle.state_model.specs.States.{Table}
+use Rattle.served_places.specs.of_segment_model.Record.{Frame}
+use Rattle.served_places.specs.of_segment_model.Seats.{Side}
+use Rattle.served_places.specs.of_segment_model.Slaves.{Registers, Processor, Slave}
+use Rattle.served_places.specs.of_serving_model.Tagged.{Tagged, Asked, Rowed, ideal, real}
+use Rattle.served_places.specs.of_state_model.Stated.{Service}
+use Rattle.served_places.specs.of_state_model.States.{Table}
 use Rattle.run_work.specs.of_life_counts.Epochs.{Speaker, IsSpeaker, IsSeen, between, seeing, seeing_states}
 use Rattle.run_work.specs.of_life_counts.Foreseen.{AllRight, server_behind}
 use Rattle.run_work.proofs.of_life_counts.Rights.{Between}
 use Rattle.run_work.proofs.of_life_counts.TaggedWhole.{seeing_lawful, seeing_stated}
-use Rattle.state_model.specs.Accounts.{Account, Started}
-use Rattle.state_model.specs.Promise.{TasksPromised, services_in}
-use Rattle.state_model.proofs.Sessions.{of_slaves, tasks_promised}
-use Rattle.exchange_model.specs.Rows.{Row}
+use Rattle.served_places.specs.of_state_model.Accounts.{Account, Started}
+use Rattle.served_places.specs.of_state_model.Promise.{TasksPromised, services_in}
+use Rattle.served_places.proofs.of_state_model.Sessions.{of_slaves, tasks_promised}
+use Rattle.served_places.specs.of_exchange_model.Rows.{Row}
 use Rattle.served_rings.proofs.Newest.{AllValid, IsHeard, all_valid, newest_heard}
 
 module _ {V M Q R C T : Type 0} (w : Speaker V M Q R C T) (k : IsSpeaker w) (seer : Processor (Rowed V M Q)) (table : ℕ → Table) (spot : Spot) (opened : ℕ) (v : V) (r : Registers) (fs : List (Frame M)) (counts : Bool) (e : Era M T (Option R)) (n : Slave V M)

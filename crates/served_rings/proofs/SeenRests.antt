@@ -1,15 +1,15 @@
 -- OF AN EPOCH that is seen with what is meant by its mails: where nothing is left of it, and what its master has of it.
 use Rattle.std.proofs.Common.{ℕ, Bool, false, Option, List, length}
 use Rattle.run_work.specs.of_life_counts.Epochs.{Speaker, IsSpeaker, IsSeen, between, seeing, seeing_states}
-use Rattle.life_model.specs.Eras.{OpenEra, era_frames, frames_of}
-use Rattle.life_model.specs.Lives.{Spot, Era}
-use Rattle.life_model.proofs.Eras.{session_of, of_one}
-use Rattle.segment_model.specs.Record.{Frame}
-use Rattle.segment_model.specs.Slaves.{Registers, Processor, Slave}
-use Rattle.serving_model.specs.Tagged.{Tagged, Asked, Rowed}
-use Rattle.state_model.specs.States.{Table}
-use Rattle.state_model.specs.Promise.{TasksAnswered, TasksRestIf}
-use Rattle.state_model.proofs.Sessions.{tasks_answered, tasks_rest}
+use Rattle.served_places.specs.of_life_model.Eras.{OpenEra, era_frames, frames_of}
+use Rattle.served_places.specs.of_life_model.Lives.{Spot, Era}
+use Rattle.served_places.proofs.of_life_model.Eras.{session_of, of_one}
+use Rattle.served_places.specs.of_segment_model.Record.{Frame}
+use Rattle.served_places.specs.of_segment_model.Slaves.{Registers, Processor, Slave}
+use Rattle.served_places.specs.of_serving_model.Tagged.{Tagged, Asked, Rowed}
+use Rattle.served_places.specs.of_state_model.States.{Table}
+use Rattle.served_places.specs.of_state_model.Promise.{TasksAnswered, TasksRestIf}
+use Rattle.served_places.proofs.of_state_model.Sessions.{tasks_answered, tasks_rest}
 use Rattle.served_rings.proofs.Seen.{epoch}
 
 module _ {V M Q R C T : Type 0} (w : Speaker V M Q R C T) (k : IsSpeaker w) (seer : Processor (Rowed V M Q)) (table : ℕ → Table) (spot : Spot) (opened : ℕ) (v : V) (r : Registers) (fs : List (Frame M)) (counts : Bool) (e : Era M T (Option R)) (n : Slave V M)

@@ -1,31 +1,31 @@
 -- A SERVER THAT SEES WHAT IS MEANT by its mails is between rows or in one, at each moment of a session.
 use Rattle.std.proofs.Common.{◌≡◌, ℕ, ◌==◌, ◌&&◌, Bool, true, false, Option, Some, None, List, [], ◌∷◌, ◌++◌, map, inl, inr, refl, ap, ap₂, sym, ◌∙◌, subst, append_assoc, append-nil, if◌then◌else◌}
-use Rattle.exchange_model.specs.Prefix.{IsPrefixOf}
-use Rattle.exchange_model.specs.Exchange.{Exchange, IsLawful, after}
-use Rattle.exchange_model.specs.Rows.{Settled, told_all}
-use Rattle.exchange_model.proofs.Lists.{cut}
-use Rattle.exchange_model.proofs.Settles.{whole_ready}
-use Rattle.exchange_model.proofs.Words.{after-append}
-use Rattle.life_model.specs.Eras.{EraIs, OpenEra, era_frames}
-use Rattle.life_model.specs.Lives.{Spot, Era}
-use Rattle.life_model.proofs.Eras.{session_of, of_one}
-use Rattle.few_replies.specs.Calm.{calm_tagged}
-use Rattle.served_places.specs.of_few_replies.Clearing.{InRowOf, InRow}
-use Rattle.segment_model.specs.Ends.{Outcome}
-use Rattle.segment_model.specs.Record.{Frame}
-use Rattle.segment_model.specs.Seats.{Side, Seat}
-use Rattle.segment_model.specs.Slaves.{Registers, Processor, Slave}
-use Rattle.serving_model.specs.Tagged.{Meant, Tagged, Asked, Rowed, more_of, told, ideal, rows_done}
-use Rattle.serving_model.specs.TaggedStates.{told_state, tagged_states}
-use Rattle.state_model.specs.Stated.{Stated, IsStated, Act, acts, Service, Counting, with_states}
-use Rattle.state_model.proofs.Acts.{after_acts}
-use Rattle.state_model.proofs.StatedLaw.{stated_law}
-use Rattle.state_model.specs.States.{Table}
-use Rattle.state_model.specs.Accounts.{Account}
-use Rattle.state_model.proofs.Ghosts as Ghosts
-use Rattle.state_model.proofs.Ghosts.{counting, Carried}
-use Rattle.state_model.proofs.Sessions.{of_slaves}
-use Rattle.state_model.proofs.Stately.{state_over}
+use Rattle.served_places.specs.of_exchange_model.Prefix.{IsPrefixOf}
+use Rattle.served_places.specs.of_exchange_model.Exchange.{Exchange, IsLawful, after}
+use Rattle.served_places.specs.of_exchange_model.Rows.{Settled, told_all}
+use Rattle.served_places.proofs.of_exchange_model.Lists.{cut}
+use Rattle.served_places.proofs.of_exchange_model.Settles.{whole_ready}
+use Rattle.served_places.proofs.of_exchange_model.Words.{after-append}
+use Rattle.served_places.specs.of_life_model.Eras.{EraIs, OpenEra, era_frames}
+use Rattle.served_places.specs.of_life_model.Lives.{Spot, Era}
+use Rattle.served_places.proofs.of_life_model.Eras.{session_of, of_one}
+use Rattle.run_work.specs.of_few_replies.Calm.{calm_tagged}
+use Rattle.run_work.specs.of_few_replies.Clearing.{InRowOf, InRow}
+use Rattle.served_places.specs.of_segment_model.Ends.{Outcome}
+use Rattle.served_places.specs.of_segment_model.Record.{Frame}
+use Rattle.served_places.specs.of_segment_model.Seats.{Side, Seat}
+use Rattle.served_places.specs.of_segment_model.Slaves.{Registers, Processor, Slave}
+use Rattle.served_places.specs.of_serving_model.Tagged.{Meant, Tagged, Asked, Rowed, more_of, told, ideal, rows_done}
+use Rattle.served_places.specs.of_serving_model.TaggedStates.{told_state, tagged_states}
+use Rattle.served_places.specs.of_state_model.Stated.{Stated, IsStated, Act, acts, Service, Counting, with_states}
+use Rattle.served_places.proofs.of_state_model.Acts.{after_acts}
+use Rattle.served_places.proofs.of_state_model.StatedLaw.{stated_law}
+use Rattle.served_places.specs.of_state_model.States.{Table}
+use Rattle.served_places.specs.of_state_model.Accounts.{Account}
+use Rattle.served_places.proofs.of_state_model.Ghosts as Ghosts
+use Rattle.served_places.proofs.of_state_model.Ghosts.{counting, Carried}
+use Rattle.served_places.proofs.of_state_model.Sessions.{of_slaves}
+use Rattle.served_places.proofs.of_state_model.Stately.{state_over}
 
 both_true : (a b : Bool) → (a && b) ≡ true → a ≡ true
 both_true true b e = refl

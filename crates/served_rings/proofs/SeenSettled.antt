@@ -1,9 +1,9 @@
 -- A SLAVE THAT IS SETTLED as another sees its mails is settled.
 use Rattle.std.proofs.Common.{◌≡◌, Option, None, Some, List, [], ◌∷◌, map, refl}
-use Rattle.link_model.specs.Mails.{LinkMail}
-use Rattle.segment_model.specs.Laws.{IsSettled}
-use Rattle.segment_model.specs.Slaves.{Slave}
-use Rattle.serving_model.specs.Erasing.{box_as, mail_as, slave_as}
+use Rattle.served_places.specs.of_link_model.Mails.{LinkMail}
+use Rattle.served_places.specs.of_segment_model.Laws.{IsSettled}
+use Rattle.served_places.specs.of_segment_model.Slaves.{Slave}
+use Rattle.served_places.specs.of_serving_model.Erasing.{box_as, mail_as, slave_as}
 
 pub unmapped : {X Y : Type 0} (f : X → Y) (xs : List X) → map f xs ≡ [] → xs ≡ []
 unmapped f [] e = refl

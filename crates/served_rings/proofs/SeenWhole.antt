@@ -1,12 +1,12 @@
 -- THE LAW OF SUCH LIVES, over what it stands on.
 use Rattle.std.proofs.Common.{ℕ, Option, length, refl}
-use Rattle.exchange_model.specs.Exchange.{Exchange}
-use Rattle.life_model.specs.Lives.{Spot, Life}
-use Rattle.served_places.specs.of_few_replies.Clearing.{Forgets}
+use Rattle.served_places.specs.of_exchange_model.Exchange.{Exchange}
+use Rattle.served_places.specs.of_life_model.Lives.{Spot, Life}
+use Rattle.run_work.specs.of_few_replies.Clearing.{Forgets}
 use Rattle.served_places.proofs.of_few_replies.Clears.{clears}
-use Rattle.segment_model.specs.Slaves.{Processor}
-use Rattle.serving_model.specs.Tagged.{Rowed}
-use Rattle.state_model.specs.States.{Table}
+use Rattle.served_places.specs.of_segment_model.Slaves.{Processor}
+use Rattle.served_places.specs.of_serving_model.Tagged.{Rowed}
+use Rattle.served_places.specs.of_state_model.States.{Table}
 use Rattle.run_work.specs.of_life_counts.Epochs.{Speaker, IsSpeaker, IsRun, between}
 use Rattle.run_work.proofs.of_life_counts.TaggedWhole.{seeing_lawful, seeing_stated, epoch_seen}
 use Rattle.served_rings.specs.SeenLed.{IsFairLife, IsSeenLife, IsLedLife}

@@ -2,25 +2,25 @@
 use Rattle.std.proofs.Common.{◌≡◌, ℕ, suc, Bool, List, [], ◌∷◌, map, ap, refl}
 use Rattle.std.specs.Prelude.{All}
 use Rattle.std.proofs.lemmas.List.Elements.{All-head, All-tail}
-use Rattle.frame_view.specs.View.{Lens}
-use Rattle.life_runs.specs.First.{lens_of, spot_of}
-use Rattle.link_mails.specs.Body.{Body}
+use Rattle.run_work.specs.of_frame_view.View.{Lens}
+use Rattle.served_places.specs.of_life_runs.First.{lens_of, spot_of}
+use Rattle.served_places.specs.of_link_mails.Body.{Body}
 use Rattle.run_work.specs.of_master_hand.Spoken.{is_followed, is_passed}
-use Rattle.served_places.specs.of_few_replies.Clearing.{Forgets}
-use Rattle.plan_ring.specs.Plan.{AllMacs, plan_of}
+use Rattle.run_work.specs.of_few_replies.Clearing.{Forgets}
+use Rattle.run_work.specs.of_plan_ring.Plan.{AllMacs, plan_of}
 use Rattle.served_rings.specs.Speakers.{cleared_whole, speaker}
 use Rattle.run_work.specs.Lives.{first_server}
-use Rattle.segment_model.specs.Record.{Frame}
-use Rattle.segment_plan.specs.Sound.{IsSlave}
-use Rattle.segment_plan.specs.declared.plan.Scenario.{Scenario}
-use Rattle.segment_plan.specs.declared.slave.SlaveSpec.{SlaveSpec}
+use Rattle.served_places.specs.of_segment_model.Record.{Frame}
+use Rattle.run_work.specs.of_segment_plan.Sound.{IsSlave}
+use Rattle.run_work.specs.of_segment_plan.declared.plan.Scenario.{Scenario}
+use Rattle.run_work.specs.of_segment_plan.declared.slave.SlaveSpec.{SlaveSpec}
 use Rattle.served_rings.specs.Rings.{AllServedAt, ServedMember, counters_of, served_members}
-use Rattle.life_runs.specs.Served.{Serves}
-use Rattle.plan_ring.specs.of_slave_lives.Lived.{IsBehind}
-use Rattle.slave_model.specs.Profile.{Profile, IsProfile}
-use Rattle.plan_ring.specs.of_slave_server.Serving.{Serving}
-use Rattle.plan_ring.specs.of_slave_server.Spec.{profile_of}
-use Rattle.slave_node.specs.Node.{Node}
+use Rattle.served_places.specs.of_life_runs.Served.{Serves}
+use Rattle.run_work.specs.of_slave_lives.Lived.{IsBehind}
+use Rattle.run_work.specs.of_slave_model.Profile.{Profile, IsProfile}
+use Rattle.run_work.specs.of_slave_server.Serving.{Serving}
+use Rattle.run_work.specs.of_slave_server.Spec.{profile_of}
+use Rattle.run_work.specs.of_slave_node.Node.{Node}
 use Rattle.run_work.specs.of_life_counts.Epochs.{IsSpeaker}
 use Rattle.served_rings.specs.Stood.{ServeStood}
 use Rattle.served_rings.specs.StoodLives.{AllStoodMembers, IsFirst, others}

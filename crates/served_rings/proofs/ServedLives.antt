@@ -1,28 +1,28 @@
 -- EPOCH BY EPOCH: what a slave of a serving did in its life.
 use Rattle.std.proofs.Common.{◌≡◌, ◌≢◌, inl, inr, ℕ, Bool, false, Option, List, [], ◌∷◌, ◌++◌, refl, ap, sym, ◌∙◌, subst}
-use Rattle.frame_view.specs.View.{Lens}
-use Rattle.frames_seen.specs.Slaves.{registers_seen}
+use Rattle.run_work.specs.of_frame_view.View.{Lens}
+use Rattle.run_work.specs.of_frames_seen.Slaves.{registers_seen}
 use Rattle.served_rings.specs.Lives.{LedKept, LedYet, LedLeft, AllLeds}
-use Rattle.life_model.specs.Lives.{Spot, Era, Life, Opening, Stand, new_era}
-use Rattle.link_mails.specs.Body.{Body}
-use Rattle.master_duty.specs.Reply.{Reply}
+use Rattle.served_places.specs.of_life_model.Lives.{Spot, Era, Life, Opening, Stand, new_era}
+use Rattle.served_places.specs.of_link_mails.Body.{Body}
+use Rattle.run_work.specs.of_master_duty.Reply.{Reply}
 use Rattle.run_work.specs.of_master_hand.Spoken.{Asked, is_followed, is_passed}
-use Rattle.served_places.specs.of_few_replies.Clearing.{Forgets}
+use Rattle.run_work.specs.of_few_replies.Clearing.{Forgets}
 use Rattle.served_rings.specs.Speakers.{cleared_whole, speaker}
-use Rattle.segment_model.specs.Record.{Frame, Kept}
-use Rattle.segment_model.specs.Seats.{rows_of}
+use Rattle.served_places.specs.of_segment_model.Record.{Frame, Kept}
+use Rattle.served_places.specs.of_segment_model.Seats.{rows_of}
 use Rattle.served_rings.specs.Serves.{serves}
 use Rattle.served_rings.specs.Clearing.{serves_clearing}
-use Rattle.plan_ring.specs.of_slave_lives.Lived.{Behind, IsBehind}
-use Rattle.plan_ring.specs.of_slave_lives.Opening.{Plan}
-use Rattle.plan_ring.specs.of_slave_lives.Stands.{opening_again}
-use Rattle.slave_model.specs.Profile.{Profile}
-use Rattle.slave_parts.specs.Parts.{Server}
-use Rattle.plan_ring.specs.of_slave_server.Serving.{Serving, fresh}
-use Rattle.slave_node.specs.Node.{Node}
-use Rattle.state_model.specs.Families.{InState}
+use Rattle.run_work.specs.of_slave_lives.Lived.{Behind, IsBehind}
+use Rattle.run_work.specs.of_slave_lives.Opening.{Plan}
+use Rattle.run_work.specs.of_slave_lives.Stands.{opening_again}
+use Rattle.run_work.specs.of_slave_model.Profile.{Profile}
+use Rattle.run_work.specs.of_slave_parts.Parts.{Server}
+use Rattle.run_work.specs.of_slave_server.Serving.{Serving, fresh}
+use Rattle.run_work.specs.of_slave_node.Node.{Node}
+use Rattle.served_places.specs.of_state_model.Families.{InState}
 use Rattle.run_work.specs.of_life_counts.Epochs.{IsSpeaker}
-use Rattle.plan_ring.specs.of_whole_ring.Whole.{OpensBy, StandsBy}
+use Rattle.run_work.specs.of_whole_ring.Whole.{OpensBy, StandsBy}
 use Rattle.served_rings.specs.Served.{AreServedEras, Holds, IsServedEra, IsServedNewest, IsServedLife, NothingCame}
 use Rattle.served_rings.specs.Stood.{AllHeld, GoneOpen, HeldAt, StateStands}
 use Rattle.served_rings.specs.StoodLives.{AllBegin, BeginsAt, IsStoodLived, LeftOpen, StandsUp}

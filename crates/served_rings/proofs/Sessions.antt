@@ -1,15 +1,15 @@
 -- AN EPOCH THAT ITS MASTER LEADS IS A SESSION, of whatever exchange.
 use Rattle.std.proofs.Common.{◌≡◌, ℕ, suc, ◌<◌, Bool, List, [], ◌∷◌, ◌++◌, length, sym, subst, arith, length-append}
-use Rattle.exchange_model.specs.Exchange.{Exchange}
-use Rattle.life_model.specs.Eras.{EraIs, planned}
-use Rattle.life_model.specs.Lives.{Spot, Era}
-use Rattle.life_model.proofs.Eras as Eras
-use Rattle.served_places.specs.of_few_replies.Led.{IsLed, frame_in, news_in, turn_after}
-use Rattle.segment_model.specs.Record.{Frame}
-use Rattle.segment_model.specs.Slaves.{Registers, Processor, Slave}
-use Rattle.state_model.specs.Stated.{Stated}
-use Rattle.state_model.specs.States.{Table}
-use Rattle.state_model.specs.Tasks.{IsTaskPlan}
+use Rattle.served_places.specs.of_exchange_model.Exchange.{Exchange}
+use Rattle.served_places.specs.of_life_model.Eras.{EraIs, planned}
+use Rattle.served_places.specs.of_life_model.Lives.{Spot, Era}
+use Rattle.served_places.proofs.of_life_model.Eras as Eras
+use Rattle.run_work.specs.of_few_replies.Led.{IsLed, frame_in, news_in, turn_after}
+use Rattle.served_places.specs.of_segment_model.Record.{Frame}
+use Rattle.served_places.specs.of_segment_model.Slaves.{Registers, Processor, Slave}
+use Rattle.served_places.specs.of_state_model.Stated.{Stated}
+use Rattle.served_places.specs.of_state_model.States.{Table}
+use Rattle.served_places.specs.of_state_model.Tasks.{IsTaskPlan}
 
 module _ {V A M Q R : Type 0} (x : Exchange V A M Q R) (s : Stated V A Q) (processor : Processor V) (table : ℕ → Table) (more : M → Bool) (passed : Q → Bool) (spot : Spot) (opened : ℕ) (v : V) (r : Registers)
     (plan : IsTaskPlan x s processor table (planned spot v r ∷ [])) (answers : r.station ≡ spot.station) where

@@ -1,9 +1,9 @@
 -- BY A CHOICE of its master a side keeps its inward half, and all mails that were heard in its rows.
 use Rattle.std.proofs.Common.{◌≡◌, ℕ, ◌&&◌, Bool, true, false, Option, Some, None, option_map, List, [], ◌∷◌, ◌++◌, refl, sym, ap, ◌∙◌, append-nil, if◌then◌else◌}
-use Rattle.exchange_model.proofs.Settles.{heard_all_last}
-use Rattle.exchange_model.specs.Exchange.{Speech}
-use Rattle.exchange_model.specs.Rows.{Row, begun, heard_all, row_told}
-use Rattle.segment_model.specs.Seats.{Choice, Side, is_over, newest, next_mail, rows_of, side_begins, side_holds, side_next}
+use Rattle.served_places.proofs.of_exchange_model.Settles.{heard_all_last}
+use Rattle.served_places.specs.of_exchange_model.Exchange.{Speech}
+use Rattle.served_places.specs.of_exchange_model.Rows.{Row, begun, heard_all, row_told}
+use Rattle.served_places.specs.of_segment_model.Seats.{Choice, Side, is_over, newest, next_mail, rows_of, side_begins, side_holds, side_next}
 
 module _ {M Q R : Type 0} (x : Speech M Q R) (made : ℕ) where
   -- ---- the inward half stays

@@ -1,21 +1,21 @@
 -- A DATAGRAM OF OCTETS accesses a mailbox or another register, not both, and a mailbox by its own address.
 use Rattle.std.proofs.Common.{◌≡◌, ◌⊎◌, inl, inr, ℕ, ◌==◌, Bool, true, false, List, [], ◌∷◌, map, length, Result, Ok, Err, refl, ap, ◌∙◌, eqb-true, if◌then◌else◌}
 use Rattle.std.specs.Prelude.{take, drop, slice_index, ◌+◌}
-use Rattle.datagrams.specs.declared.command.Command.{Command}
-use Rattle.datagrams.specs.declared.command.Command.TheVariants.{Nop, Aprd, Apwr, Aprw, Fprd, Fpwr, Fprw, Brd, Bwr, Brw, Lrd, Lwr, Lrw, Armw, Frmw, Other}
-use Rattle.datagrams.specs.declared.frame.Frame.{Frame}
-use Rattle.datagrams.specs.declared.frame.FrameFault.{FrameFault}
-use Rattle.datagrams.specs.declared.frame.Part.{Part}
-use Rattle.datagrams.specs.Frame.{frame_read}
-use Rattle.frame_view.specs.Seen.{seen, part_seen, parts_seen}
-use Rattle.frame_view.specs.View.{Lens, write_ask, write_access, read_ask, read_access, ask_of, access_of, address_of, station_of}
-use Rattle.life_model.specs.Own.{own, AreSeen}
-use Rattle.link_mails.specs.Body.{Body, link_read, bit_1}
-use Rattle.link_model.specs.Frames.{Ask}
-use Rattle.mailbox_mail.specs.Mail.{mail_read}
-use Rattle.served_places.specs.of_few_replies.Led.{AreSingle}
-use Rattle.segment_model.specs.Record.{is_for}
-use Rattle.segment_model.specs.Slaves.{Access, Address, Datagram}
+use Rattle.served_places.specs.of_datagrams.declared.command.Command.{Command}
+use Rattle.served_places.specs.of_datagrams.declared.command.Command.TheVariants.{Nop, Aprd, Apwr, Aprw, Fprd, Fpwr, Fprw, Brd, Bwr, Brw, Lrd, Lwr, Lrw, Armw, Frmw, Other}
+use Rattle.served_places.specs.of_datagrams.declared.frame.Frame.{Frame}
+use Rattle.served_places.specs.of_datagrams.declared.frame.FrameFault.{FrameFault}
+use Rattle.served_places.specs.of_datagrams.declared.frame.Part.{Part}
+use Rattle.served_places.specs.of_datagrams.Frame.{frame_read}
+use Rattle.run_work.specs.of_frame_view.Seen.{seen, part_seen, parts_seen}
+use Rattle.run_work.specs.of_frame_view.View.{Lens, write_ask, write_access, read_ask, read_access, ask_of, access_of, address_of, station_of}
+use Rattle.served_places.specs.of_life_model.Own.{own, AreSeen}
+use Rattle.served_places.specs.of_link_mails.Body.{Body, link_read, bit_1}
+use Rattle.served_places.specs.of_link_model.Frames.{Ask}
+use Rattle.run_work.specs.of_mailbox_mail.Mail.{mail_read}
+use Rattle.run_work.specs.of_few_replies.Led.{AreSingle}
+use Rattle.served_places.specs.of_segment_model.Record.{is_for}
+use Rattle.served_places.specs.of_segment_model.Slaves.{Access, Address, Datagram}
 
 -- one or the other
 abbrev One : Ask Body → Access → Type 0

@@ -1,36 +1,36 @@
 -- A slave's last reply tells that no other follows, whatever the mail is.
 use Rattle.std.proofs.Common.{◌≡◌, inl, ℕ, ◌-◌, ◌*◌, ◌/◌, ◌≤◌, not, cond, Bool, true, false, List, [], ◌∷◌, ◌++◌, map, length, Option, Some, None, Ok, Err, refl, ap, sym, ◌∙◌, subst, append-nil, arith, if◌then◌else◌}
-use Rattle.mailbox_mail.specs.declared.mail.MailFault.TheVariants.{UnknownKind}
-use Rattle.mailbox_mail.specs.declared.mail.Kind.{Kind}
-use Rattle.link_mails.specs.Body.{Body}
-use Rattle.eoe.specs.declared.message.Fragment.{Fragment}
-use Rattle.eoe.specs.Message.{eoe_text}
-use Rattle.eoe.specs.Cutting.{fragments_of}
-use Rattle.exchange_model.specs.Exchange.{plain}
-use Rattle.exchange_model.specs.Lifted.{EachOf}
-use Rattle.exchange_model.specs.Refusing.{gated}
-use Rattle.protocol_models.specs.CoeMails as Coe
-use Rattle.protocol_models.specs.CoeOctets as CoeOctets
-use Rattle.protocol_models.specs.CoeServer.{Emission, emergency, packet, coe_outcome, issued}
-use Rattle.protocol_models.proofs.Spelling.{reads_back}
-use Rattle.protocol_models.specs.FoeMails as Foe
-use Rattle.protocol_models.specs.FoeOctets as FoeOctets
-use Rattle.protocol_models.specs.FoeServer as FoeServer
-use Rattle.protocol_models.proofs.FoeSpeaks as FoeSpeaks
-use Rattle.protocol_models.specs.SoeMails as Soe
-use Rattle.protocol_models.specs.SoeOctets as SoeOctets
-use Rattle.protocol_models.specs.SoeServer as SoeServer
-use Rattle.protocol_models.specs.EoeMails as Eoe
-use Rattle.protocol_models.specs.EoeOctets as EoeOctets
-use Rattle.protocol_models.specs.Network.{Station}
+use Rattle.run_work.specs.of_mailbox_mail.declared.mail.MailFault.TheVariants.{UnknownKind}
+use Rattle.run_work.specs.of_mailbox_mail.declared.mail.Kind.{Kind}
+use Rattle.served_places.specs.of_link_mails.Body.{Body}
+use Rattle.run_work.specs.of_eoe.declared.message.Fragment.{Fragment}
+use Rattle.run_work.specs.of_eoe.Message.{eoe_text}
+use Rattle.run_work.specs.of_eoe.Cutting.{fragments_of}
+use Rattle.served_places.specs.of_exchange_model.Exchange.{plain}
+use Rattle.served_places.specs.of_exchange_model.Lifted.{EachOf}
+use Rattle.served_places.specs.of_exchange_model.Refusing.{gated}
+use Rattle.run_work.specs.of_protocol_models.CoeMails as Coe
+use Rattle.run_work.specs.of_protocol_models.CoeOctets as CoeOctets
+use Rattle.run_work.specs.of_protocol_models.CoeServer.{Emission, emergency, packet, coe_outcome, issued}
+use Rattle.served_places.proofs.of_protocol_models.Spelling.{reads_back}
+use Rattle.run_work.specs.of_protocol_models.FoeMails as Foe
+use Rattle.run_work.specs.of_protocol_models.FoeOctets as FoeOctets
+use Rattle.run_work.specs.of_protocol_models.FoeServer as FoeServer
+use Rattle.served_places.proofs.of_protocol_models.FoeSpeaks as FoeSpeaks
+use Rattle.run_work.specs.of_protocol_models.SoeMails as Soe
+use Rattle.run_work.specs.of_protocol_models.SoeOctets as SoeOctets
+use Rattle.run_work.specs.of_protocol_models.SoeServer as SoeServer
+use Rattle.run_work.specs.of_protocol_models.EoeMails as Eoe
+use Rattle.run_work.specs.of_protocol_models.EoeOctets as EoeOctets
+use Rattle.run_work.specs.of_protocol_models.Network.{Station}
 use Rattle.run_work.specs.of_master_hand.Spoken.{is_followed}
-use Rattle.serving_model.specs.Passing.{LastTells}
-use Rattle.slave_parts.specs.Served.{product_whole}
-use Rattle.slave_model.specs.Application.{Core, Parts, ArePartsLawful, station_valid, station_tables, station_files, station_elements, network}
-use Rattle.slave_model.specs.Product.{emission, served, side, refusal, protocol_of, serve_by, serve_other, serve}
-use Rattle.slave_model.specs.Profile.{Protocol, Profile, IsProfile, serves, areas_of}
-use Rattle.slave_model.specs.Server.{Server, Seat, seat, failure, heard_by, told_by, refused_gives, soe_quiet, eoe_quiet}
-use Rattle.slave_model.proofs.Stations.{left_of, tables_spelled}
+use Rattle.served_places.specs.of_serving_model.Passing.{LastTells}
+use Rattle.run_work.specs.of_slave_parts.Served.{product_whole}
+use Rattle.run_work.specs.of_slave_model.Application.{Core, Parts, ArePartsLawful, station_valid, station_tables, station_files, station_elements, network}
+use Rattle.run_work.specs.of_slave_model.Product.{emission, served, side, refusal, protocol_of, serve_by, serve_other, serve}
+use Rattle.run_work.specs.of_slave_model.Profile.{Protocol, Profile, IsProfile, serves, areas_of}
+use Rattle.run_work.specs.of_slave_model.Server.{Server, Seat, seat, failure, heard_by, told_by, refused_gives, soe_quiet, eoe_quiet}
+use Rattle.run_work.proofs.of_slave_model.Stations.{left_of, tables_spelled}
 use Rattle.served_rings.specs.Told.{TellLast}
 use Rattle.served_rings.proofs.OfCoe as OfCoe
 use Rattle.served_rings.proofs.Others.{alone, replies, none_plain, fragments_emitted, foe_told, soe_calm, soe_outcome, eoe_outcome}

@@ -1,22 +1,22 @@
 -- A MASTER SPEAKS of each service as the client of its protocol does, and of a mail that is passed on by that mail alone.
 use Rattle.std.proofs.Common.{◌≡◌, ◌&&◌, Bool, true, false, List, [], ◌++◌, inl, inr, refl, ap, ap₂, sym, ◌∙◌, Ok}
 use Rattle.std.specs.Prelude.{Some, option_map}
-use Rattle.exchange_model.specs.Exchange.{Exchange, AnswersLast, given, outnumbers, plain}
-use Rattle.exchange_model.specs.Refusing.{Refusal}
+use Rattle.served_places.specs.of_exchange_model.Exchange.{Exchange, AnswersLast, given, outnumbers, plain}
+use Rattle.served_places.specs.of_exchange_model.Refusing.{Refusal}
 use Rattle.run_work.specs.of_master_hand.Spoken as Spoken
-use Rattle.link_mails.specs.Body.{Body}
-use Rattle.serving_model.specs.Tagged.{untag, told}
-use Rattle.serving_model.specs.TaggedStates.{IsStatedServed}
-use Rattle.serving_model.proofs.TaggedLaw.{untag-told}
-use Rattle.slave_parts.specs.Whole.{gated_whole}
-use Rattle.slave_model.specs.Acknowledged.{acknowledged}
-use Rattle.slave_model.specs.Product.{refusal}
-use Rattle.slave_model.specs.Profile.{Protocol, Profile, areas_of, serves}
-use Rattle.slave_model.specs.Server.{ServiceOf}
-use Rattle.slave_parts.specs.Parts.{Server, parts}
-use Rattle.slave_parts.specs.Served.{product_whole, served_whole, side_whole}
-use Rattle.state_model.specs.Families.{InState}
-use Rattle.state_model.specs.Stated.{IsStated}
+use Rattle.served_places.specs.of_link_mails.Body.{Body}
+use Rattle.served_places.specs.of_serving_model.Tagged.{untag, told}
+use Rattle.served_places.specs.of_serving_model.TaggedStates.{IsStatedServed}
+use Rattle.run_work.proofs.of_serving_model.TaggedLaw.{untag-told}
+use Rattle.run_work.specs.of_slave_parts.Whole.{gated_whole}
+use Rattle.run_work.specs.of_slave_model.Acknowledged.{acknowledged}
+use Rattle.run_work.specs.of_slave_model.Product.{refusal}
+use Rattle.run_work.specs.of_slave_model.Profile.{Protocol, Profile, areas_of, serves}
+use Rattle.run_work.specs.of_slave_model.Server.{ServiceOf}
+use Rattle.run_work.specs.of_slave_parts.Parts.{Server, parts}
+use Rattle.run_work.specs.of_slave_parts.Served.{product_whole, served_whole, side_whole}
+use Rattle.served_places.specs.of_state_model.Families.{InState}
+use Rattle.served_places.specs.of_state_model.Stated.{IsStated}
 use Rattle.run_work.specs.Sessions.{OwnService, named}
 use Rattle.run_work.specs.of_life_counts.Spoken.{IsScript, IsNamed, Speaks}
 use Rattle.served_rings.specs.Speakers.{naming_of, spoken, spoken_states, whole_states}

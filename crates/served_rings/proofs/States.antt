@@ -1,22 +1,22 @@
 -- OF A MAIL THAT IS PASSED ON, behind which a state service came into hand: all replies of its server's one step were heard.
 use Rattle.std.proofs.Common.{◌≡◌, ℕ, Bool, Option, Some, List, [], ◌∷◌, ◌++◌, refl, ap, sym, ◌∙◌, subst, append_assoc}
 use Rattle.std.proofs.lemmas.List.{map-append}
-use Rattle.exchange_model.specs.Exchange.{Exchange, after, plain}
-use Rattle.exchange_model.specs.Rows.{Row, told_all}
-use Rattle.life_model.specs.Lives.{Spot, Era}
-use Rattle.served_places.specs.of_few_replies.Silent.{is_passed}
-use Rattle.segment_model.specs.Record.{Frame}
-use Rattle.segment_model.specs.Slaves.{Registers, Processor, Slave}
-use Rattle.serving_model.specs.Tagged.{Meant, Tagged, Asked, Rowed, is_own, untag}
-use Rattle.state_model.proofs.Acts.{acts_same, plain_acts}
-use Rattle.state_model.specs.Stated.{Service, with_states}
-use Rattle.state_model.specs.States.{Table}
+use Rattle.served_places.specs.of_exchange_model.Exchange.{Exchange, after, plain}
+use Rattle.served_places.specs.of_exchange_model.Rows.{Row, told_all}
+use Rattle.served_places.specs.of_life_model.Lives.{Spot, Era}
+use Rattle.run_work.specs.of_few_replies.Silent.{is_passed}
+use Rattle.served_places.specs.of_segment_model.Record.{Frame}
+use Rattle.served_places.specs.of_segment_model.Slaves.{Registers, Processor, Slave}
+use Rattle.served_places.specs.of_serving_model.Tagged.{Meant, Tagged, Asked, Rowed, is_own, untag}
+use Rattle.served_places.proofs.of_state_model.Acts.{acts_same, plain_acts}
+use Rattle.served_places.specs.of_state_model.Stated.{Service, with_states}
+use Rattle.served_places.specs.of_state_model.States.{Table}
 use Rattle.run_work.specs.of_life_counts.Epochs.{Speaker, IsSpeaker, IsSeen, between, seeing, seeing_states}
 use Rattle.run_work.specs.of_life_counts.Foreseen.{AllRight, server_behind}
 use Rattle.run_work.proofs.of_life_counts.TaggedWhole.{seeing_lawful, seeing_stated}
-use Rattle.state_model.proofs.Ghosts.{counting}
-use Rattle.state_model.specs.Accounts.{Started}
-use Rattle.state_model.specs.Promise.{mails_in, services_in}
+use Rattle.served_places.proofs.of_state_model.Ghosts.{counting}
+use Rattle.served_places.specs.of_state_model.Accounts.{Started}
+use Rattle.served_places.specs.of_state_model.Promise.{mails_in, services_in}
 use Rattle.served_rings.proofs.Before.{led_behind}
 use Rattle.served_rings.proofs.Newest.{behind, gifts_are, given_one, replies, right_at}
 use Rattle.served_rings.proofs.Turned.{by_mails}

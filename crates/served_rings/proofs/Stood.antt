@@ -2,29 +2,29 @@
 use Rattle.std.proofs.Common.{◌≡◌, ◌⊎◌, inl, inr, ℕ, suc, ◌<◌, ◌≤◌, ◌==◌, ◌&&◌, Bool, true, false, List, [], ◌∷◌, ◌++◌, length, refl, ap, sym, ◌∙◌, subst, arith, length-append}
 use Rattle.std.specs.Prelude.{All, Option, Some, None, nat_lt, if◌then◌else◌}
 use Rattle.std.proofs.lemmas.List.Elements.{All-cons, All-head, All-nil, All-tail}
-use Rattle.slave_node.specs.Passing.{datagrams_after}
-use Rattle.frames_seen.specs.Own.{own_of}
-use Rattle.frames_seen.specs.Ring.{AllApart}
-use Rattle.frames_seen.specs.Slaves.{registers_seen}
-use Rattle.life_model.specs.Eras.{Clearing}
-use Rattle.life_model.specs.Lives.{Spot, Era, Life, Opening, Stand, clears, gives_up, is_shown, last_step, new_era, new_life, opens, opens_state, reopening, reopens, reopens_at, returns_to_init, shows_clear, steps_on}
-use Rattle.life_runs.specs.Causes.{since}
-use Rattle.link_mails.specs.Body.{Body}
-use Rattle.link_model.specs.Segment.{RingFate}
-use Rattle.master_side.specs.Counts.{counts_on, kept_on}
-use Rattle.segment_model.specs.Record.{Frame, Kept, News}
-use Rattle.segment_model.specs.Slaves.{Found}
-use Rattle.plan_ring.specs.of_slave_lives.Ends.{YetFrame}
-use Rattle.plan_ring.specs.of_slave_lives.Lived.{Behind, LivesEra, RingFrame, frame_of, node_behind}
-use Rattle.plan_ring.specs.of_slave_lives.Rings.{come_to, registers_of}
-use Rattle.plan_ring.specs.of_slave_lives.Opening.{Plan}
-use Rattle.slave_node.specs.Node.{Node, new_node}
-use Rattle.state_model.specs.Accounts.{Duty, Pick, Stage}
-use Rattle.plan_ring.specs.of_whole_ring.Turns.{FrameComes, TurnsAs, era_behind, life_by}
-use Rattle.plan_ring.specs.of_whole_ring.Whole.{IsLivedBy, IsWhole, Leaving, Living, LivesStillBy, OpensBy, Passing, StandsBy}
-use Rattle.plan_ring.proofs.of_whole_ring.Open.{steady_of}
-use Rattle.plan_ring.proofs.of_whole_ring.Still.{Nothing, own_not, still_on}
-use Rattle.plan_ring.proofs.of_whole_ring.WholeTurning.{begins_by, given_by, turns_by}
+use Rattle.run_work.specs.of_slave_node.Passing.{datagrams_after}
+use Rattle.run_work.specs.of_frames_seen.Own.{own_of}
+use Rattle.run_work.specs.of_frames_seen.Ring.{AllApart}
+use Rattle.run_work.specs.of_frames_seen.Slaves.{registers_seen}
+use Rattle.served_places.specs.of_life_model.Eras.{Clearing}
+use Rattle.served_places.specs.of_life_model.Lives.{Spot, Era, Life, Opening, Stand, clears, gives_up, is_shown, last_step, new_era, new_life, opens, opens_state, reopening, reopens, reopens_at, returns_to_init, shows_clear, steps_on}
+use Rattle.served_places.specs.of_life_runs.Causes.{since}
+use Rattle.served_places.specs.of_link_mails.Body.{Body}
+use Rattle.served_places.specs.of_link_model.Segment.{RingFate}
+use Rattle.run_work.specs.of_master_side.Counts.{counts_on, kept_on}
+use Rattle.served_places.specs.of_segment_model.Record.{Frame, Kept, News}
+use Rattle.served_places.specs.of_segment_model.Slaves.{Found}
+use Rattle.run_work.specs.of_slave_lives.Ends.{YetFrame}
+use Rattle.run_work.specs.of_slave_lives.Lived.{Behind, LivesEra, RingFrame, frame_of, node_behind}
+use Rattle.run_work.specs.of_slave_lives.Rings.{come_to, registers_of}
+use Rattle.run_work.specs.of_slave_lives.Opening.{Plan}
+use Rattle.run_work.specs.of_slave_node.Node.{Node, new_node}
+use Rattle.served_places.specs.of_state_model.Accounts.{Duty, Pick, Stage}
+use Rattle.run_work.specs.of_whole_ring.Turns.{FrameComes, TurnsAs, era_behind, life_by}
+use Rattle.run_work.specs.of_whole_ring.Whole.{IsLivedBy, IsWhole, Leaving, Living, LivesStillBy, OpensBy, Passing, StandsBy}
+use Rattle.run_work.proofs.of_whole_ring.Open.{steady_of}
+use Rattle.run_work.proofs.of_whole_ring.Still.{Nothing, own_not, still_on}
+use Rattle.run_work.proofs.of_whole_ring.WholeTurning.{begins_by, given_by, turns_by}
 use Rattle.served_rings.specs.Lives.{AllLeds, LedKept, LedLeft, LedYet, news_as, recorded_as}
 use Rattle.served_rings.specs.StoodLives.{BeginsAt, IsStoodLived, LeftOpen, StandsUp, Stood}
 use Rattle.served_rings.proofs.Kept.{keeps_by, session_of}

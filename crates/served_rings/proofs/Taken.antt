@@ -1,38 +1,38 @@
 -- TURN BY TURN: a mail that is passed on, has no reply and is over was taken: its slave has carried out all services by mails that came into hand.
 use Rattle.std.proofs.Common.{◌≡◌, ◌⊎◌, inl, inr, ℕ, suc, ◌+◌, ◌<◌, ◌≤◌, ◌&&◌, Bool, true, false, Option, Some, None, List, [], ◌∷◌, ◌++◌, map, length, refl, ap, ap₂, sym, ◌∙◌, subst, arith, append-nil, length-append, if◌then◌else◌}
 use Rattle.std.specs.Prelude.{⊤, nat_lt}
-use Rattle.exchange_model.proofs.Lists.{append_cancel, append_none}
-use Rattle.exchange_model.proofs.Words.{plain-append}
-use Rattle.exchange_model.specs.Exchange.{Exchange, IsLawful, plain}
-use Rattle.exchange_model.specs.Rows.{Row, row_heard}
+use Rattle.served_places.proofs.of_exchange_model.Lists.{append_cancel, append_none}
+use Rattle.served_places.proofs.of_exchange_model.Words.{plain-append}
+use Rattle.served_places.specs.of_exchange_model.Exchange.{Exchange, IsLawful, plain}
+use Rattle.served_places.specs.of_exchange_model.Rows.{Row, row_heard}
 use Rattle.run_work.proofs.of_life_counts.Marks.{newest_last, none_plain}
 use Rattle.run_work.specs.of_life_counts.Epochs.{newest_of}
-use Rattle.life_model.proofs.Eras.{frames_length, frames_push, of_one, session_of}
-use Rattle.life_model.specs.Eras.{OpenEra, era_frames, planned}
-use Rattle.life_model.specs.Lives.{Spot, Era, era_after, granted, passes, passing_begins}
-use Rattle.life_model.specs.Own as Own
-use Rattle.life_model.specs.Own.{own_fate, own_frame}
-use Rattle.link_model.specs.Frames.{all_accepted}
-use Rattle.link_model.specs.Segment.{RingFate}
+use Rattle.served_places.proofs.of_life_model.Eras.{frames_length, frames_push, of_one, session_of}
+use Rattle.served_places.specs.of_life_model.Eras.{OpenEra, era_frames, planned}
+use Rattle.served_places.specs.of_life_model.Lives.{Spot, Era, era_after, granted, passes, passing_begins}
+use Rattle.served_places.specs.of_life_model.Own as Own
+use Rattle.served_places.specs.of_life_model.Own.{own_fate, own_frame}
+use Rattle.served_places.specs.of_link_model.Frames.{all_accepted}
+use Rattle.served_places.specs.of_link_model.Segment.{RingFate}
 use Rattle.served_places.proofs.of_few_replies.Founds.{AllFindNone, empty_was, late_tells, sees_empty, sees_late}
-use Rattle.served_places.specs.of_few_replies.Led.{AreSingle, EraTurn, IsLed, MayTurn, frame_in, news_in, turn_after, turn_next}
-use Rattle.segment_model.proofs.Answers.{kept_of}
-use Rattle.segment_model.proofs.News.{heard_told, mails_heard-append}
-use Rattle.segment_model.proofs.Posts.{news-push}
-use Rattle.segment_model.proofs.Rising.{RisesNow, next_rises}
-use Rattle.segment_model.proofs.Written.{back_tells, mails_told}
-use Rattle.segment_model.specs.Ends.{Passing, all_written}
-use Rattle.segment_model.specs.Record.{Frame, News, all_told, back_news, joined, mails_heard, news_from}
-use Rattle.segment_model.specs.Seats.{Side, newest, rows_of}
-use Rattle.segment_model.specs.Slaves.{Datagram, Processor, Registers, Slave, frame_after, grams, ring_back}
-use Rattle.serving_model.specs.Tagged.{no_reply}
-use Rattle.state_model.specs.Stated.{IsStated, Service, Stated}
-use Rattle.state_model.specs.States.{Table}
-use Rattle.state_model.proofs.Completed.{started_back}
-use Rattle.state_model.proofs.Sessions.{of_slaves}
-use Rattle.state_model.specs.Accounts.{Account, Duty, account_begins, duty_access, is_free, mails_choice, starts}
-use Rattle.state_model.specs.Promise.{mails_in, services_in}
-use Rattle.state_model.specs.Tasks.{IsTaskPlan}
+use Rattle.run_work.specs.of_few_replies.Led.{AreSingle, EraTurn, IsLed, MayTurn, frame_in, news_in, turn_after, turn_next}
+use Rattle.served_places.proofs.of_segment_model.Answers.{kept_of}
+use Rattle.served_places.proofs.of_segment_model.News.{heard_told, mails_heard-append}
+use Rattle.served_places.proofs.of_segment_model.Posts.{news-push}
+use Rattle.served_places.proofs.of_segment_model.Rising.{RisesNow, next_rises}
+use Rattle.served_places.proofs.of_segment_model.Written.{back_tells, mails_told}
+use Rattle.served_places.specs.of_segment_model.Ends.{Passing, all_written}
+use Rattle.served_places.specs.of_segment_model.Record.{Frame, News, all_told, back_news, joined, mails_heard, news_from}
+use Rattle.served_places.specs.of_segment_model.Seats.{Side, newest, rows_of}
+use Rattle.served_places.specs.of_segment_model.Slaves.{Datagram, Processor, Registers, Slave, frame_after, grams, ring_back}
+use Rattle.served_places.specs.of_serving_model.Tagged.{no_reply}
+use Rattle.served_places.specs.of_state_model.Stated.{IsStated, Service, Stated}
+use Rattle.served_places.specs.of_state_model.States.{Table}
+use Rattle.served_places.proofs.of_state_model.Completed.{started_back}
+use Rattle.served_places.proofs.of_state_model.Sessions.{of_slaves}
+use Rattle.served_places.specs.of_state_model.Accounts.{Account, Duty, account_begins, duty_access, is_free, mails_choice, starts}
+use Rattle.served_places.specs.of_state_model.Promise.{mails_in, services_in}
+use Rattle.served_places.specs.of_state_model.Tasks.{IsTaskPlan}
 use Rattle.served_rings.proofs.Sessions.{led_later, led_session}
 use Rattle.served_rings.proofs.TakenNow.{AtMoment, IsByMails, at_moment}
 use Rattle.served_rings.proofs.Turned.{Comes, Goes, GoesOn, NowGoes, accepted_of, by_mails, turned}

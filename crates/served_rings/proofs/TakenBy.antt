@@ -2,23 +2,23 @@
 use Rattle.std.proofs.Common.{◌≡◌, ◌⊎◌, inl, inr, ℕ, zero, suc, ◌+◌, ◌-◌, ◌≤◌, ◌||◌, Bool, true, false, Option, Some, None, List, [], ◌∷◌, ◌++◌, map, length, refl, ap, ap₂, sym, ◌∙◌, subst, arith, append-nil, length-append}
 use Rattle.std.specs.Prelude.{⊤, nat_lt}
 use Rattle.std.proofs.lemmas.Bool.Decides.{nat_tests}
-use Rattle.exchange_model.proofs.Words.{grows_all}
-use Rattle.exchange_model.specs.Exchange.{Exchange, IsLawful, Speech}
-use Rattle.life_model.specs.Lives.{passes}
-use Rattle.link_model.specs.Segment.{RingFate}
-use Rattle.link_model.specs.Slave.{node_look, node_takes}
+use Rattle.served_places.proofs.of_exchange_model.Words.{grows_all}
+use Rattle.served_places.specs.of_exchange_model.Exchange.{Exchange, IsLawful, Speech}
+use Rattle.served_places.specs.of_life_model.Lives.{passes}
+use Rattle.served_places.specs.of_link_model.Segment.{RingFate}
+use Rattle.served_places.specs.of_link_model.Slave.{node_look, node_takes}
 use Rattle.served_places.proofs.of_few_replies.Founds.{AllFindNone, sees_empty, sees_late}
 use Rattle.served_places.proofs.of_few_replies.Passings.{boxed, counted_same, counted_told, sends, sent, sent_boxed, skips, waiting}
-use Rattle.served_places.specs.of_few_replies.Led.{counted_news}
-use Rattle.segment_model.proofs.Links.{served_server}
-use Rattle.segment_model.proofs.Written.{all_written-append, all_written-back, all_written-told, has_written, mails_told, mails_told-append, told_told}
-use Rattle.segment_model.specs.Ends.{Passing, all_written}
-use Rattle.segment_model.specs.Record.{News, is_for, mails_heard}
-use Rattle.segment_model.specs.Slaves.{Access, Datagram, Processor, Ring, Slave, first_meet, frame_after, ring_after, ring_steps, serving, slave_after, slave_steps, state_told}
-use Rattle.serving_model.specs.Tagged.{no_reply}
-use Rattle.state_model.specs.Stated.{IsStated, Stated}
-use Rattle.state_model.proofs.Moves.{server_after}
-use Rattle.state_model.specs.Accounts.{IsServed, IsServed.nothing, IsServed.other, IsServed.own, IsServed.quiet}
+use Rattle.run_work.specs.of_few_replies.Led.{counted_news}
+use Rattle.served_places.proofs.of_segment_model.Links.{served_server}
+use Rattle.served_places.proofs.of_segment_model.Written.{all_written-append, all_written-back, all_written-told, has_written, mails_told, mails_told-append, told_told}
+use Rattle.served_places.specs.of_segment_model.Ends.{Passing, all_written}
+use Rattle.served_places.specs.of_segment_model.Record.{News, is_for, mails_heard}
+use Rattle.served_places.specs.of_segment_model.Slaves.{Access, Datagram, Processor, Ring, Slave, first_meet, frame_after, ring_after, ring_steps, serving, slave_after, slave_steps, state_told}
+use Rattle.served_places.specs.of_serving_model.Tagged.{no_reply}
+use Rattle.served_places.specs.of_state_model.Stated.{IsStated, Stated}
+use Rattle.served_places.proofs.of_state_model.Moves.{server_after}
+use Rattle.served_places.specs.of_state_model.Accounts.{IsServed, IsServed.nothing, IsServed.other, IsServed.own, IsServed.quiet}
 
 -- ---- what the slave counts never falls
 one_slave : {V M : Type 0} (a b : ℕ) (s n : Slave V M) → ◌≡◌ {A = Ring V M} ((a, s) ∷ []) ((b, n) ∷ []) → s ≡ n

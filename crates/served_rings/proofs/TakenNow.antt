@@ -3,41 +3,41 @@
 use Rattle.std.proofs.Common.{◌≡◌, ◌≢◌, inl, inr, ℕ, suc, ◌+◌, ◌≤◌, Bool, true, false, is_none, Option, Some, None, List, [], ◌∷◌, ◌++◌, drop, length, refl, ap, sym, ◌∙◌, subst, arith, append-nil, length-append}
 use Rattle.std.proofs.lemmas.Bool.Decides.{leb_tells}
 use Rattle.std.proofs.lemmas.List.{drop_all}
-use Rattle.exchange_model.proofs.Lists.{append_cancel, prefix_nil, prefix_trans}
-use Rattle.exchange_model.proofs.Nows.{reached_or_waits}
-use Rattle.exchange_model.proofs.Settles.{settled_app, settled_handled, settled_ready}
-use Rattle.exchange_model.proofs.Steps.{handed_whole}
-use Rattle.exchange_model.proofs.Words.{after-append}
-use Rattle.exchange_model.specs.Exchange.{Exchange, IsLawful, after, given, plain}
-use Rattle.exchange_model.specs.Prefix.{IsPrefixOf}
-use Rattle.exchange_model.specs.Rows.{Row, left, services, told_all}
+use Rattle.served_places.proofs.of_exchange_model.Lists.{append_cancel, prefix_nil, prefix_trans}
+use Rattle.served_places.proofs.of_exchange_model.Nows.{reached_or_waits}
+use Rattle.served_places.proofs.of_exchange_model.Settles.{settled_app, settled_handled, settled_ready}
+use Rattle.served_places.proofs.of_exchange_model.Steps.{handed_whole}
+use Rattle.served_places.proofs.of_exchange_model.Words.{after-append}
+use Rattle.served_places.specs.of_exchange_model.Exchange.{Exchange, IsLawful, after, given, plain}
+use Rattle.served_places.specs.of_exchange_model.Prefix.{IsPrefixOf}
+use Rattle.served_places.specs.of_exchange_model.Rows.{Row, left, services, told_all}
 use Rattle.run_work.proofs.of_life_counts.Steps.{started_services}
 use Rattle.run_work.specs.of_life_counts.Epochs.{newest_of}
 use Rattle.run_work.proofs.of_life_counts.Marks.{newest_last}
-use Rattle.link_model.specs.Mails.{LinkMail}
-use Rattle.segment_model.proofs.Answers.{Open, OpenNow}
-use Rattle.segment_model.proofs.Handed.{Facts, NowFacts, PostNow}
-use Rattle.segment_model.proofs.Posts.{PostOpen}
-use Rattle.segment_model.proofs.Rests.{all_taken}
-use Rattle.segment_model.proofs.Rising.{RisesNow}
-use Rattle.segment_model.proofs.Written.{mails_told}
-use Rattle.segment_model.specs.Ends.{Outcome, all_written}
-use Rattle.segment_model.specs.Record.{Frame, News, joined, mails_heard, news_from}
-use Rattle.segment_model.specs.Seats.{Seat, Side, link_of, rows_of}
-use Rattle.segment_model.specs.Slaves.{Slave}
-use Rattle.state_model.proofs.Acts.{acts_same, executed, left_mails, plain_acts}
-use Rattle.state_model.proofs.StatedLaw.{stated_law}
-use Rattle.state_model.specs.Stated.{Act, Counting, IsStated, Service, Stated, acts, service_handed, states_in, with_states}
-use Rattle.state_model.specs.Promises.{IsTable}
-use Rattle.state_model.specs.States.{Table}
-use Rattle.state_model.proofs.Booked
-use Rattle.state_model.proofs.Dones.{by_kind, services_length}
-use Rattle.state_model.proofs.Ghosts as Ghosts
-use Rattle.state_model.proofs.Ghosts.{GhostRow, counting, start_of, starts_append, starts_of}
-use Rattle.state_model.proofs.Newest.{Holds, side_facts}
-use Rattle.state_model.proofs.Stately.{state_over}
-use Rattle.state_model.specs.Accounts.{Account, Started}
-use Rattle.state_model.specs.Promise.{mail_of, mails_in, mails_started, rows_started, services_in}
+use Rattle.served_places.specs.of_link_model.Mails.{LinkMail}
+use Rattle.served_places.proofs.of_segment_model.Answers.{Open, OpenNow}
+use Rattle.served_places.proofs.of_segment_model.Handed.{Facts, NowFacts, PostNow}
+use Rattle.served_places.proofs.of_segment_model.Posts.{PostOpen}
+use Rattle.served_places.proofs.of_segment_model.Rests.{all_taken}
+use Rattle.served_places.proofs.of_segment_model.Rising.{RisesNow}
+use Rattle.served_places.proofs.of_segment_model.Written.{mails_told}
+use Rattle.served_places.specs.of_segment_model.Ends.{Outcome, all_written}
+use Rattle.served_places.specs.of_segment_model.Record.{Frame, News, joined, mails_heard, news_from}
+use Rattle.served_places.specs.of_segment_model.Seats.{Seat, Side, link_of, rows_of}
+use Rattle.served_places.specs.of_segment_model.Slaves.{Slave}
+use Rattle.served_places.proofs.of_state_model.Acts.{acts_same, executed, left_mails, plain_acts}
+use Rattle.served_places.proofs.of_state_model.StatedLaw.{stated_law}
+use Rattle.served_places.specs.of_state_model.Stated.{Act, Counting, IsStated, Service, Stated, acts, service_handed, states_in, with_states}
+use Rattle.served_places.specs.of_state_model.Promises.{IsTable}
+use Rattle.served_places.specs.of_state_model.States.{Table}
+use Rattle.served_places.proofs.of_state_model.Booked
+use Rattle.served_places.proofs.of_state_model.Dones.{by_kind, services_length}
+use Rattle.served_places.proofs.of_state_model.Ghosts as Ghosts
+use Rattle.served_places.proofs.of_state_model.Ghosts.{GhostRow, counting, start_of, starts_append, starts_of}
+use Rattle.served_places.proofs.of_state_model.Newest.{Holds, side_facts}
+use Rattle.served_places.proofs.of_state_model.Stately.{state_over}
+use Rattle.served_places.specs.of_state_model.Accounts.{Account, Started}
+use Rattle.served_places.specs.of_state_model.Promise.{mail_of, mails_in, mails_started, rows_started, services_in}
 use Rattle.served_rings.proofs.Turned.{mails_both}
 
 -- as many rows as services by mails

@@ -2,30 +2,30 @@
 use Rattle.std.proofs.Common.{◌≡◌, ◌≢◌, ◌⊎◌, inl, inr, ℕ, zero, suc, ◌+◌, ◌-◌, ◌<◌, ◌≤◌, Bool, true, false, is_some, Option, None, Some, List, [], ◌∷◌, ◌++◌, drop, length, map, take, refl, ap, sym, ◌∙◌, subst, arith, length-append, Ok, Err}
 use Rattle.std.specs.Prelude.{⊤}
 use Rattle.std.proofs.lemmas.Bool.Decides.{leb_tells}
-use Rattle.protocol_models.specs.EoeClient as EoeClient
-use Rattle.exchange_model.specs.Exchange.{plain}
-use Rattle.exchange_model.specs.Rows.{Row}
+use Rattle.run_work.specs.of_protocol_models.EoeClient as EoeClient
+use Rattle.served_places.specs.of_exchange_model.Exchange.{plain}
+use Rattle.served_places.specs.of_exchange_model.Rows.{Row}
 use Rattle.run_work.proofs.of_life_counts.TaggedWhole.{seeing_lawful, seeing_stated}
 use Rattle.run_work.specs.of_life_counts.Epochs.{IsSpeaker, IsSeen, between, era_named, newest_of, seeing, seeing_states}
 use Rattle.run_work.specs.of_life_counts.Seen.{service_seen}
-use Rattle.life_model.specs.Lives.{Spot, Era}
-use Rattle.link_mails.specs.Body.{Body}
-use Rattle.mailbox_mail.specs.Mail.{error_of}
-use Rattle.mailbox_mail.specs.declared.mail.Mail.{Mail}
-use Rattle.master_duty.specs.Reply.{Reply}
+use Rattle.served_places.specs.of_life_model.Lives.{Spot, Era}
+use Rattle.served_places.specs.of_link_mails.Body.{Body}
+use Rattle.run_work.specs.of_mailbox_mail.Mail.{error_of}
+use Rattle.run_work.specs.of_mailbox_mail.declared.mail.Mail.{Mail}
+use Rattle.run_work.specs.of_master_duty.Reply.{Reply}
 use Rattle.run_work.specs.of_master_hand.Spoken as Spoken
 use Rattle.run_work.specs.of_master_hand.Spoken.{Asked, emission, passed}
 use Rattle.served_places.proofs.of_few_replies.Clients.{plain_untag}
-use Rattle.served_places.specs.of_few_replies.Client.{ByContents}
-use Rattle.served_places.specs.of_few_replies.Erased.{OfRow}
-use Rattle.served_places.specs.of_few_replies.Silent.{is_passed}
+use Rattle.run_work.specs.of_few_replies.Client.{ByContents}
+use Rattle.run_work.specs.of_few_replies.Erased.{OfRow}
+use Rattle.run_work.specs.of_few_replies.Silent.{is_passed}
 use Rattle.run_work.specs.Sessions.{Meant, Wanted, named_wanted}
-use Rattle.segment_model.proofs.Rising.{RisesNow}
-use Rattle.segment_model.specs.Ends.{Outcome, Passing}
-use Rattle.segment_model.specs.Laws.{AllAnswered, IsAnswered, as_outcome}
-use Rattle.segment_model.specs.Record.{Frame, joined, news_from}
-use Rattle.segment_model.specs.Seats.{newest, rows_of}
-use Rattle.segment_model.specs.Slaves.{Registers, Slave}
+use Rattle.served_places.proofs.of_segment_model.Rising.{RisesNow}
+use Rattle.served_places.specs.of_segment_model.Ends.{Outcome, Passing}
+use Rattle.served_places.specs.of_segment_model.Laws.{AllAnswered, IsAnswered, as_outcome}
+use Rattle.served_places.specs.of_segment_model.Record.{Frame, joined, news_from}
+use Rattle.served_places.specs.of_segment_model.Seats.{newest, rows_of}
+use Rattle.served_places.specs.of_segment_model.Slaves.{Registers, Slave}
 use Rattle.served_rings.proofs.Ended.{mails_replied, state_replied}
 use Rattle.served_rings.proofs.Heard.{named_passed}
 use Rattle.served_rings.proofs.Mails.{AllNamed, mailer, services_named}
@@ -39,16 +39,16 @@ use Rattle.served_rings.proofs.TakenBy.{PartOf}
 use Rattle.served_rings.proofs.TakenNow.{AtMoment, IsByMails}
 use Rattle.served_rings.specs.Served.{AllTaken, IsPacket, IsTakenOf, passing_before}
 use Rattle.served_rings.specs.Speakers.{seer_of, table_of}
-use Rattle.serving_model.specs.Tagged as Tagged
-use Rattle.serving_model.specs.Tagged.{untag}
-use Rattle.slave_model.specs.Profile.{Profile, Protocol}
-use Rattle.slave_model.specs.Server as SlaveReply
-use Rattle.slave_parts.specs.Parts.{Server, parts}
-use Rattle.slave_parts.specs.Served.{product_whole}
-use Rattle.state_model.specs.Families.{InState}
-use Rattle.state_model.specs.Stated.{Service}
-use Rattle.state_model.specs.Accounts.{Started}
-use Rattle.state_model.specs.Promise.{AllDone, AllEnded, IsReply, but_last, mail_of, mails_in, mails_started, outcome_of, rows_started, services_in}
+use Rattle.served_places.specs.of_serving_model.Tagged as Tagged
+use Rattle.served_places.specs.of_serving_model.Tagged.{untag}
+use Rattle.run_work.specs.of_slave_model.Profile.{Profile, Protocol}
+use Rattle.run_work.specs.of_slave_model.Server as SlaveReply
+use Rattle.run_work.specs.of_slave_parts.Parts.{Server, parts}
+use Rattle.run_work.specs.of_slave_parts.Served.{product_whole}
+use Rattle.served_places.specs.of_state_model.Families.{InState}
+use Rattle.served_places.specs.of_state_model.Stated.{Service}
+use Rattle.served_places.specs.of_state_model.Accounts.{Started}
+use Rattle.served_places.specs.of_state_model.Promise.{AllDone, AllEnded, IsReply, but_last, mail_of, mails_in, mails_started, outcome_of, rows_started, services_in}
 
 -- ---- numbers of services, and of those among them that go by mails
 -- so many services by mails are among the first so many, of which these come behind so many others

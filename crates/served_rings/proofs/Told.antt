@@ -1,11 +1,11 @@
 -- ALL REPLIES WERE HEARD of a mail that is passed on, where the last that was heard tells that it is the last, or it had none.
 use Rattle.std.proofs.Common.{◌≡◌, inl, inr, Bool, true, false, not, cond, is_some, List, [], ◌∷◌, ◌++◌, refl, ap, sym, ◌∙◌, if◌then◌else◌}
-use Rattle.exchange_model.specs.Exchange.{Exchange, plain}
-use Rattle.exchange_model.specs.Prefix.{IsPrefixOf}
-use Rattle.exchange_model.specs.Rows.{Row}
-use Rattle.exchange_model.proofs.Lists.{append_none}
-use Rattle.serving_model.specs.Passing.{ends_told, LastTells}
-use Rattle.serving_model.specs.Tagged.{Tagged, Asked, untag, no_reply}
+use Rattle.served_places.specs.of_exchange_model.Exchange.{Exchange, plain}
+use Rattle.served_places.specs.of_exchange_model.Prefix.{IsPrefixOf}
+use Rattle.served_places.specs.of_exchange_model.Rows.{Row}
+use Rattle.served_places.proofs.of_exchange_model.Lists.{append_none}
+use Rattle.served_places.specs.of_serving_model.Passing.{ends_told, LastTells}
+use Rattle.served_places.specs.of_serving_model.Tagged.{Tagged, Asked, untag, no_reply}
 use Rattle.std.specs.Prelude.{Option}
 use Rattle.served_rings.proofs.Newest.{IsHeard, replies}
 

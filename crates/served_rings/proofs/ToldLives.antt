@@ -3,34 +3,34 @@ use Rattle.std.proofs.Common.{◌≡◌, ◌≢◌, ℕ, zero, suc, ◌==◌, �
 use Rattle.std.specs.Prelude.{All, ⊤, if◌then◌else◌, replicate}
 use Rattle.std.proofs.lemmas.List.{map-append, length-map}
 use Rattle.std.proofs.lemmas.List.Elements.{All-head, All-tail}
-use Rattle.life_model.proofs.Grows.{same_part}
-use Rattle.datagrams.specs.Datagram as Raw
-use Rattle.exchange_model.specs.Exchange.{Speech, IsLawful}
-use Rattle.frame_view.specs.Seen.{seen}
-use Rattle.frame_view.specs.View.{Lens}
-use Rattle.frame_view.specs.Shares.{came_at, given_where}
-use Rattle.life_model.specs.Eras.{era_frames}
-use Rattle.life_model.specs.Lives.{Spot, Era, Life, Opening, Stand, clears, era_back, is_shown, last_step, life_back, life_lost, life_next, opening_back, opens, opens_state, reopening, reopens, reopens_at, returns_to_init, shows_clear, steps_on}
-use Rattle.life_model.specs.Own.{blank, own_frame}
-use Rattle.life_runs.specs.First.{first_leads, leads_from, lens_of, spot_of}
-use Rattle.life_runs.specs.Led.{Exchanged, gives_up_at, missed_behind, speech_at}
-use Rattle.link_mails.specs.Body.{Body}
-use Rattle.master_duty.specs.Reply.{Reply}
+use Rattle.served_places.proofs.of_life_model.Grows.{same_part}
+use Rattle.served_places.specs.of_datagrams.Datagram as Raw
+use Rattle.served_places.specs.of_exchange_model.Exchange.{Speech, IsLawful}
+use Rattle.run_work.specs.of_frame_view.Seen.{seen}
+use Rattle.run_work.specs.of_frame_view.View.{Lens}
+use Rattle.run_work.specs.of_frame_view.Shares.{came_at, given_where}
+use Rattle.served_places.specs.of_life_model.Eras.{era_frames}
+use Rattle.served_places.specs.of_life_model.Lives.{Spot, Era, Life, Opening, Stand, clears, era_back, is_shown, last_step, life_back, life_lost, life_next, opening_back, opens, opens_state, reopening, reopens, reopens_at, returns_to_init, shows_clear, steps_on}
+use Rattle.served_places.specs.of_life_model.Own.{blank, own_frame}
+use Rattle.served_places.specs.of_life_runs.First.{first_leads, leads_from, lens_of, spot_of}
+use Rattle.served_places.specs.of_life_runs.Led.{Exchanged, gives_up_at, missed_behind, speech_at}
+use Rattle.served_places.specs.of_link_mails.Body.{Body}
+use Rattle.run_work.specs.of_master_duty.Reply.{Reply}
 use Rattle.run_work.specs.of_master_hand.Spoken.{Asked, acknowledged, is_followed, is_passed}
-use Rattle.master_side.specs.Passing.{news_back, news_lost}
-use Rattle.plan_ring.specs.Asked.{asked}
-use Rattle.plan_ring.specs.Epochs.{IsTold}
-use Rattle.plan_ring.specs.Plan.{AllMacs, FitsPlan, plan_of, step}
-use Rattle.plan_ring.specs.Round.{AllRound, all_seen, frame_seen, ring_of}
-use Rattle.plan_ring.proofs.Lives.{front_round}
-use Rattle.segment_model.specs.Record.{Frame, News, heard}
-use Rattle.segment_model.specs.Slaves.{Datagram, Found}
-use Rattle.segment_plan.specs.Sound.{IsSlave}
-use Rattle.segment_plan.specs.declared.plan.Scenario.{Scenario}
-use Rattle.segment_plan.specs.declared.service.Service as Plan
-use Rattle.segment_plan.specs.declared.slave.SlaveSpec.{SlaveSpec}
-use Rattle.segment_ring.specs.declared.wire.Fate.{Fate}
-use Rattle.segment_ring.specs.declared.wire.Fate.TheVariants.{Pass, Lost}
+use Rattle.run_work.specs.of_master_side.Passing.{news_back, news_lost}
+use Rattle.run_work.specs.of_plan_ring.Asked.{asked}
+use Rattle.run_work.specs.of_plan_ring.Epochs.{IsTold}
+use Rattle.run_work.specs.of_plan_ring.Plan.{AllMacs, FitsPlan, plan_of, step}
+use Rattle.run_work.specs.of_plan_ring.Round.{AllRound, all_seen, frame_seen, ring_of}
+use Rattle.run_work.proofs.of_plan_ring.Lives.{front_round}
+use Rattle.served_places.specs.of_segment_model.Record.{Frame, News, heard}
+use Rattle.served_places.specs.of_segment_model.Slaves.{Datagram, Found}
+use Rattle.run_work.specs.of_segment_plan.Sound.{IsSlave}
+use Rattle.run_work.specs.of_segment_plan.declared.plan.Scenario.{Scenario}
+use Rattle.run_work.specs.of_segment_plan.declared.service.Service as Plan
+use Rattle.run_work.specs.of_segment_plan.declared.slave.SlaveSpec.{SlaveSpec}
+use Rattle.served_places.specs.of_segment_ring.declared.wire.Fate.{Fate}
+use Rattle.served_places.specs.of_segment_ring.declared.wire.Fate.TheVariants.{Pass, Lost}
 use Rattle.served_rings.specs.Rings.{AllServedAt, AreServedLived, served_members}
 use Rattle.served_rings.specs.Clearing.{serves_clearing}
 use Rattle.served_rings.specs.Serves.{serves}
@@ -40,21 +40,21 @@ use Rattle.served_rings.proofs.HeardTold.{era_heard}
 use Rattle.served_rings.proofs.ServedLives.{not_open, gone_not_open}
 use Rattle.served_rings.proofs.ToldTasks.{era_told}
 use Rattle.served_rings.proofs.Unpassed.{silent, silent_lawful}
-use Rattle.life_runs.specs.Served.{Keyed, Serves, ServedTurn, AllServedTurn, IsServedLed, all_serve, asked_at, served_behind, served_life}
-use Rattle.plan_ring.specs.of_slave_lives.Ends.{LeftEra}
-use Rattle.plan_ring.specs.of_slave_lives.Lived.{Behind, LivesEra, node_seen}
-use Rattle.plan_ring.specs.of_slave_lives.Opening.{Plan}
-use Rattle.plan_ring.specs.of_slave_lives.Stands.{opening_again}
-use Rattle.slave_model.specs.Profile.{Profile, IsProfile}
-use Rattle.slave_parts.specs.Parts.{Core, Server}
-use Rattle.slave_parts.specs.of_protocol_models.Network.{Station}
-use Rattle.plan_ring.specs.of_slave_server.Serving.{Serving}
-use Rattle.plan_ring.specs.of_slave_server.Spec.{profile_of}
-use Rattle.slave_node.specs.Node.{Node}
-use Rattle.state_model.specs.Families.{InState}
-use Rattle.state_model.specs.Accounts.{Duty, Pick, Stage}
-use Rattle.plan_ring.specs.of_whole_ring.Members.{AllLived}
-use Rattle.plan_ring.specs.of_whole_ring.Whole.{IsWhole, OpensAs, OpensBy, StandsAs}
+use Rattle.served_places.specs.of_life_runs.Served.{Keyed, Serves, ServedTurn, AllServedTurn, IsServedLed, all_serve, asked_at, served_behind, served_life}
+use Rattle.run_work.specs.of_slave_lives.Ends.{LeftEra}
+use Rattle.run_work.specs.of_slave_lives.Lived.{Behind, LivesEra, node_seen}
+use Rattle.run_work.specs.of_slave_lives.Opening.{Plan}
+use Rattle.run_work.specs.of_slave_lives.Stands.{opening_again}
+use Rattle.run_work.specs.of_slave_model.Profile.{Profile, IsProfile}
+use Rattle.run_work.specs.of_slave_parts.Parts.{Core, Server}
+use Rattle.run_work.specs.of_protocol_models.Network.{Station}
+use Rattle.run_work.specs.of_slave_server.Serving.{Serving}
+use Rattle.run_work.specs.of_slave_server.Spec.{profile_of}
+use Rattle.run_work.specs.of_slave_node.Node.{Node}
+use Rattle.served_places.specs.of_state_model.Families.{InState}
+use Rattle.served_places.specs.of_state_model.Accounts.{Duty, Pick, Stage}
+use Rattle.run_work.specs.of_whole_ring.Members.{AllLived}
+use Rattle.run_work.specs.of_whole_ring.Whole.{IsWhole, OpensAs, OpensBy, StandsAs}
 
 -- ---- A LIFE FROM ONE FRAME TO THE NEXT: its newest epoch goes on, or the frame of this number shows the return to Init behind it
 data Moves (made : ℕ) (l m : Life Body Asked Reply) : Type 0 where

@@ -1,41 +1,41 @@
 -- TURN BY TURN, what the master of a serving has of one epoch is what its frames give: by registers, accounts and frames alone, whatever mails are passed on.
 use Rattle.std.proofs.Common.{◌≡◌, ℕ, Bool, List, [], ◌∷◌, ◌++◌, length, refl, sym, ◌∙◌, subst}
 use Rattle.std.specs.Prelude.{⊤}
-use Rattle.exchange_model.specs.Exchange.{Exchange, IsLawful}
-use Rattle.exchange_model.specs.Rows.{Row}
-use Rattle.frame_view.specs.View.{Lens}
-use Rattle.life_model.specs.Eras.{EraIs, era_frames, planned}
-use Rattle.life_model.specs.Lives.{Spot, Era}
-use Rattle.link_mails.specs.Body.{Body}
-use Rattle.link_model.specs.Segment.{RingFate}
-use Rattle.master_duty.specs.Reply.{Reply}
+use Rattle.served_places.specs.of_exchange_model.Exchange.{Exchange, IsLawful}
+use Rattle.served_places.specs.of_exchange_model.Rows.{Row}
+use Rattle.run_work.specs.of_frame_view.View.{Lens}
+use Rattle.served_places.specs.of_life_model.Eras.{EraIs, era_frames, planned}
+use Rattle.served_places.specs.of_life_model.Lives.{Spot, Era}
+use Rattle.served_places.specs.of_link_mails.Body.{Body}
+use Rattle.served_places.specs.of_link_model.Segment.{RingFate}
+use Rattle.run_work.specs.of_master_duty.Reply.{Reply}
 use Rattle.run_work.specs.of_master_hand.Spoken.{Asked, is_followed}
-use Rattle.plan_ring.specs.Asked.{asked}
-use Rattle.plan_ring.specs.Epochs.{IsTold}
-use Rattle.segment_model.specs.Laws.{EachSeat, AllAnswered}
-use Rattle.segment_model.specs.Record.{Frame}
-use Rattle.segment_model.specs.Seats.{Side, Seat, Planned, IsFrame, ring_of, sides_of, seat_next, seats_next, seat_back, seats_after, side_lost, seat_steps, new_seats}
-use Rattle.segment_model.specs.Slaves.{Registers, Processor, Slave, Datagram, slave_after, frame_after, ring_back}
-use Rattle.segment_model.proofs.Answers.{Listens, back_listens, lost_listens}
-use Rattle.segment_model.proofs.Kept.{Records, new_records, rows_answered}
+use Rattle.run_work.specs.of_plan_ring.Asked.{asked}
+use Rattle.run_work.specs.of_plan_ring.Epochs.{IsTold}
+use Rattle.served_places.specs.of_segment_model.Laws.{EachSeat, AllAnswered}
+use Rattle.served_places.specs.of_segment_model.Record.{Frame}
+use Rattle.served_places.specs.of_segment_model.Seats.{Side, Seat, Planned, IsFrame, ring_of, sides_of, seat_next, seats_next, seat_back, seats_after, side_lost, seat_steps, new_seats}
+use Rattle.served_places.specs.of_segment_model.Slaves.{Registers, Processor, Slave, Datagram, slave_after, frame_after, ring_back}
+use Rattle.served_places.proofs.of_segment_model.Answers.{Listens, back_listens, lost_listens}
+use Rattle.served_places.proofs.of_segment_model.Kept.{Records, new_records, rows_answered}
 use Rattle.served_rings.specs.Speakers.{spoken, spoken_states, processor_of, table_of}
 use Rattle.served_rings.specs.ToldEras.{unpassed_era, unpassed_side}
 use Rattle.served_rings.proofs.Unpassed as Unpassed
 use Rattle.served_rings.proofs.Unpassed.{AreBegun, silent, next_begun, back_begun, rows_keys}
-use Rattle.plan_ring.specs.of_slave_lives.Lived.{Behind}
-use Rattle.slave_model.specs.Profile.{Profile}
-use Rattle.slave_parts.specs.Parts.{Core, Server}
-use Rattle.slave_parts.specs.of_protocol_models.Network.{Station}
-use Rattle.plan_ring.specs.of_slave_server.Serving.{Serving}
-use Rattle.state_model.specs.Families.{InState}
-use Rattle.state_model.specs.Stated.{Stated}
-use Rattle.state_model.specs.States.{Table}
-use Rattle.state_model.specs.Accounts.{Account, Pick, mails_choice, account_next, account_back}
-use Rattle.state_model.specs.Tasks.{TaskTurn, TaskSession, AreServed, MayRun, mails_choices, accounts_next, accounts_after, happens, run, new_accounts, new_tasks}
-use Rattle.state_model.proofs.TaskOrders.{order_states}
-use Rattle.state_model.proofs.Stately.{over_outcomes, duty_open}
-use Rattle.state_model.proofs.Turns.{IsStately, next_is, back_is, lost_is, missed_is, step_is, new_is}
-use Rattle.state_model.proofs.Walks.{EachOne, IsPlaced, AllApart, SeatMet, seats_apart, all_apart, all_reach, each_map, each_next, each_back, each_lost, each_steps}
+use Rattle.run_work.specs.of_slave_lives.Lived.{Behind}
+use Rattle.run_work.specs.of_slave_model.Profile.{Profile}
+use Rattle.run_work.specs.of_slave_parts.Parts.{Core, Server}
+use Rattle.run_work.specs.of_protocol_models.Network.{Station}
+use Rattle.run_work.specs.of_slave_server.Serving.{Serving}
+use Rattle.served_places.specs.of_state_model.Families.{InState}
+use Rattle.served_places.specs.of_state_model.Stated.{Stated}
+use Rattle.served_places.specs.of_state_model.States.{Table}
+use Rattle.served_places.specs.of_state_model.Accounts.{Account, Pick, mails_choice, account_next, account_back}
+use Rattle.served_places.specs.of_state_model.Tasks.{TaskTurn, TaskSession, AreServed, MayRun, mails_choices, accounts_next, accounts_after, happens, run, new_accounts, new_tasks}
+use Rattle.served_places.proofs.of_state_model.TaskOrders.{order_states}
+use Rattle.served_places.proofs.of_state_model.Stately.{over_outcomes, duty_open}
+use Rattle.served_places.proofs.of_state_model.Turns.{IsStately, next_is, back_is, lost_is, missed_is, step_is, new_is}
+use Rattle.served_places.proofs.of_state_model.Walks.{EachOne, IsPlaced, AllApart, SeatMet, seats_apart, all_apart, all_reach, each_map, each_next, each_back, each_lost, each_steps}
 
 module _ (p : Profile) (boot : Bool) (lens : ℕ → Lens) (law : IsLawful (silent p boot lens)) where
   abbrev V : Type 0

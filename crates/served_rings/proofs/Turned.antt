@@ -1,21 +1,21 @@
 -- WHAT A TURN MAKES OF AN EPOCH'S ROWS: the newest goes on, or a service by mails comes into hand behind it.
 use Rattle.std.proofs.Common.{◌≡◌, ◌⊎◌, inl, inr, ℕ, suc, ◌+◌, ◌&&◌, Bool, true, false, Option, Some, None, option_map, List, [], ◌∷◌, ◌++◌, refl, ap, sym, ◌∙◌, subst, append-nil, arith, if◌then◌else◌}
 use Rattle.std.specs.Prelude.{⊤}
-use Rattle.exchange_model.specs.Exchange.{Speech}
-use Rattle.exchange_model.specs.Rows.{Row, begun, row_heard, row_told}
-use Rattle.exchange_model.proofs.Lists.{cut}
-use Rattle.life_model.specs.Lives.{Era, era_after, era_next, granted}
-use Rattle.life_model.specs.Own.{own}
-use Rattle.link_model.specs.Frames.{all_accepted}
-use Rattle.link_model.specs.Segment.{RingFate}
-use Rattle.segment_model.specs.Ends.{Passing}
-use Rattle.segment_model.specs.Record.{News}
-use Rattle.segment_model.specs.Seats.{Side, is_over, newest, next_mail, rows_of, side_back, side_begins, side_holds, side_lost, side_next}
-use Rattle.segment_model.specs.Slaves.{Datagram, grams}
-use Rattle.state_model.specs.Stated.{Service}
-use Rattle.state_model.specs.Accounts.{Account, Duty, Pick, Started, account_begins, account_next, is_acknowledged, is_free, mails_begin, mails_choice, starts, state_begins}
-use Rattle.state_model.specs.Promise.{mails_in, services_in}
-use Rattle.state_model.proofs.Completed.{started_back}
+use Rattle.served_places.specs.of_exchange_model.Exchange.{Speech}
+use Rattle.served_places.specs.of_exchange_model.Rows.{Row, begun, row_heard, row_told}
+use Rattle.served_places.proofs.of_exchange_model.Lists.{cut}
+use Rattle.served_places.specs.of_life_model.Lives.{Era, era_after, era_next, granted}
+use Rattle.served_places.specs.of_life_model.Own.{own}
+use Rattle.served_places.specs.of_link_model.Frames.{all_accepted}
+use Rattle.served_places.specs.of_link_model.Segment.{RingFate}
+use Rattle.served_places.specs.of_segment_model.Ends.{Passing}
+use Rattle.served_places.specs.of_segment_model.Record.{News}
+use Rattle.served_places.specs.of_segment_model.Seats.{Side, is_over, newest, next_mail, rows_of, side_back, side_begins, side_holds, side_lost, side_next}
+use Rattle.served_places.specs.of_segment_model.Slaves.{Datagram, grams}
+use Rattle.served_places.specs.of_state_model.Stated.{Service}
+use Rattle.served_places.specs.of_state_model.Accounts.{Account, Duty, Pick, Started, account_begins, account_next, is_acknowledged, is_free, mails_begin, mails_choice, starts, state_begins}
+use Rattle.served_places.specs.of_state_model.Promise.{mails_in, services_in}
+use Rattle.served_places.proofs.of_state_model.Completed.{started_back}
 
 -- a service by mails that came into hand
 abbrev pub by_mails : {Q : Type 0} → Q → ℕ → Started Q

@@ -2,29 +2,29 @@
 use Rattle.std.proofs.Common.{◌≡◌, ◌⊎◌, inl, inr, ℕ, ◌&&◌, Bool, true, false, Option, Some, None, option_map, List, [], ◌∷◌, ◌++◌, map, length, refl, ap, sym, subst, ◌∙◌, append_assoc, append-nil, if◌then◌else◌}
 use Rattle.std.specs.Prelude.{not, is_none, is_some}
 use Rattle.std.proofs.lemmas.List.{map-append}
-use Rattle.exchange_model.specs.Exchange.{Exchange, Speech, IsLawful, plain}
-use Rattle.exchange_model.specs.Rows.{Row, begun, left, row_heard, row_told, answer_after}
-use Rattle.frame_view.specs.View.{Lens}
-use Rattle.link_mails.specs.Body.{Body}
-use Rattle.link_model.specs.Frames.{all_accepted}
-use Rattle.link_model.specs.Mails.{LinkMail}
-use Rattle.link_model.specs.Master.{out_hold}
-use Rattle.master_duty.specs.Reply.{Reply}
+use Rattle.served_places.specs.of_exchange_model.Exchange.{Exchange, Speech, IsLawful, plain}
+use Rattle.served_places.specs.of_exchange_model.Rows.{Row, begun, left, row_heard, row_told, answer_after}
+use Rattle.run_work.specs.of_frame_view.View.{Lens}
+use Rattle.served_places.specs.of_link_mails.Body.{Body}
+use Rattle.served_places.specs.of_link_model.Frames.{all_accepted}
+use Rattle.served_places.specs.of_link_model.Mails.{LinkMail}
+use Rattle.served_places.specs.of_link_model.Master.{out_hold}
+use Rattle.run_work.specs.of_master_duty.Reply.{Reply}
 use Rattle.run_work.specs.of_master_hand.Spoken.{Asked, sdo, file, drive, net, passed, hand_speech, handed, valid}
-use Rattle.plan_ring.specs.Asked.{asked}
-use Rattle.segment_model.specs.Record.{Frame}
-use Rattle.segment_model.proofs.Answers.{Listens, first_listens, held_listens, more_listens}
-use Rattle.segment_model.specs.Seats.{Side, Choice, is_none_left, is_over, newest, next_mail, rows_of, side_back, side_begins, side_holds, side_next}
-use Rattle.segment_model.specs.Slaves.{Datagram, grams}
+use Rattle.run_work.specs.of_plan_ring.Asked.{asked}
+use Rattle.served_places.specs.of_segment_model.Record.{Frame}
+use Rattle.served_places.proofs.of_segment_model.Answers.{Listens, first_listens, held_listens, more_listens}
+use Rattle.served_places.specs.of_segment_model.Seats.{Side, Choice, is_none_left, is_over, newest, next_mail, rows_of, side_back, side_begins, side_holds, side_next}
+use Rattle.served_places.specs.of_segment_model.Slaves.{Datagram, grams}
 use Rattle.served_rings.specs.ToldEras.{unpassed_answer, unpassed_row, unpassed_side}
-use Rattle.slave_model.specs.Profile.{Profile, areas_of}
-use Rattle.slave_parts.specs.Parts.{Core, Server}
-use Rattle.slave_parts.specs.of_protocol_models.Network.{Station}
-use Rattle.state_model.specs.Families.{InState}
-use Rattle.state_model.specs.Stated.{Service}
-use Rattle.state_model.specs.Accounts.{Account, Duty, Pick, Started, account_back, account_begins, account_next, is_acknowledged, is_free, mails_begin, mails_choice, starts, state_begins}
-use Rattle.state_model.specs.Promise.{mail_of, mails_started, rows_started}
-use Rattle.state_model.proofs.Completed.{started_back}
+use Rattle.run_work.specs.of_slave_model.Profile.{Profile, areas_of}
+use Rattle.run_work.specs.of_slave_parts.Parts.{Core, Server}
+use Rattle.run_work.specs.of_protocol_models.Network.{Station}
+use Rattle.served_places.specs.of_state_model.Families.{InState}
+use Rattle.served_places.specs.of_state_model.Stated.{Service}
+use Rattle.served_places.specs.of_state_model.Accounts.{Account, Duty, Pick, Started, account_back, account_begins, account_next, is_acknowledged, is_free, mails_begin, mails_choice, starts, state_begins}
+use Rattle.served_places.specs.of_state_model.Promise.{mail_of, mails_started, rows_started}
+use Rattle.served_places.proofs.of_state_model.Completed.{started_back}
 
 never : {T : Type 0} → false ≡ true → T
 never e = absurd (cc)

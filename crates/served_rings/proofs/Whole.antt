@@ -2,32 +2,32 @@
 use Rattle.std.proofs.Common.{ℕ, suc, Bool, List, [], ◌∷◌, map, refl}
 use Rattle.std.specs.Prelude.{All}
 use Rattle.std.proofs.lemmas.List.Elements.{All-head, All-tail}
-use Rattle.frame_view.specs.View.{Lens}
+use Rattle.run_work.specs.of_frame_view.View.{Lens}
 use Rattle.served_rings.specs.LedRings.{AllLedMembers}
-use Rattle.life_model.specs.Lives.{Life, Spot}
-use Rattle.life_runs.specs.First.{lens_of, spot_of}
-use Rattle.link_mails.specs.Body.{Body}
-use Rattle.master_duty.specs.Reply.{Reply}
+use Rattle.served_places.specs.of_life_model.Lives.{Life, Spot}
+use Rattle.served_places.specs.of_life_runs.First.{lens_of, spot_of}
+use Rattle.served_places.specs.of_link_mails.Body.{Body}
+use Rattle.run_work.specs.of_master_duty.Reply.{Reply}
 use Rattle.run_work.specs.of_master_hand.Spoken.{Asked, is_followed, is_passed}
-use Rattle.plan_ring.specs.Plan.{AllMacs, plan_of}
+use Rattle.run_work.specs.of_plan_ring.Plan.{AllMacs, plan_of}
 use Rattle.served_rings.specs.Speakers.{cleared_whole, processor_of, seer_of, speaker, spoken, table_of}
 use Rattle.served_rings.proofs.Fair.{life_fair}
 use Rattle.served_rings.specs.SeenLed.{IsFairLife, IsLedLife}
-use Rattle.segment_model.specs.Record.{Frame}
-use Rattle.segment_plan.specs.Sound.{IsSlave}
-use Rattle.segment_plan.specs.declared.plan.Scenario.{Scenario}
-use Rattle.segment_plan.specs.declared.slave.SlaveSpec.{SlaveSpec}
+use Rattle.served_places.specs.of_segment_model.Record.{Frame}
+use Rattle.run_work.specs.of_segment_plan.Sound.{IsSlave}
+use Rattle.run_work.specs.of_segment_plan.declared.plan.Scenario.{Scenario}
+use Rattle.run_work.specs.of_segment_plan.declared.slave.SlaveSpec.{SlaveSpec}
 use Rattle.run_work.specs.Fair.{AsksFair}
 use Rattle.run_work.specs.Lives.{AllServedLives, IsServedLife, first_server}
 use Rattle.served_rings.proofs.Leds.{life_led}
-use Rattle.life_runs.specs.Came.{HasServed}
-use Rattle.life_runs.specs.Served.{Serves}
-use Rattle.slave_model.specs.Profile.{Profile, IsProfile}
-use Rattle.slave_parts.specs.Parts.{Server}
-use Rattle.plan_ring.specs.of_slave_server.Serving.{Serving}
-use Rattle.plan_ring.specs.of_slave_server.Spec.{profile_of}
-use Rattle.slave_node.specs.Node.{Node}
-use Rattle.state_model.specs.Families.{InState}
+use Rattle.served_places.specs.of_life_runs.Came.{HasServed}
+use Rattle.served_places.specs.of_life_runs.Served.{Serves}
+use Rattle.run_work.specs.of_slave_model.Profile.{Profile, IsProfile}
+use Rattle.run_work.specs.of_slave_parts.Parts.{Server}
+use Rattle.run_work.specs.of_slave_server.Serving.{Serving}
+use Rattle.run_work.specs.of_slave_server.Spec.{profile_of}
+use Rattle.run_work.specs.of_slave_node.Node.{Node}
+use Rattle.served_places.specs.of_state_model.Families.{InState}
 use Rattle.served_rings.specs.Rings.{AllServedAt, counters_of, served_members}
 
 -- a life that the master of a plan's speaker leads, with fair mails, is worked so

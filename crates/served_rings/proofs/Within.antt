@@ -1,8 +1,8 @@
 -- What the lives of a serving have gained, and the frames that count as lost, against the frame bound.
 use Rattle.std.proofs.Common.{◌≡◌, ℕ, ◌+◌, ◌-◌, ◌*◌, ◌≤◌, List, [], ◌∷◌, arith}
-use Rattle.run_work.specs.of_run_frames.Fates.{gained_in}
+use Rattle.served_places.specs.of_run_frames.Fates.{gained_in}
 use Rattle.run_work.specs.ServedGained.{served_in, leads_of}
-use Rattle.life_runs.specs.Served.{Serves}
+use Rattle.served_places.specs.of_life_runs.Served.{Serves}
 
 -- the steps of the mails that are passed on are gained besides
 pub less_gained : (ws : List Serves) → gained_in (leads_of ws) ≤ served_in ws

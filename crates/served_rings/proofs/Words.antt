@@ -1,11 +1,11 @@
 -- Which messages of SoE tell that others follow, in their octets: those with the incomplete bit, whatever their drive and their flags are.
 use Rattle.std.proofs.Common.{◌≡◌, ℕ, ◌+◌, ◌*◌, ◌/◌, ◌%◌, ◌<◌, ◌==◌, ◌&&◌, not, nat_lt, Bool, true, false, List, length, drop, Result, Err, refl, ap, ◌∙◌, arith, le-ltb, if◌then◌else◌}
-use Rattle.ec_fields.specs.Fields.{number_at, bits_of}
-use Rattle.soe_codec.specs.Message.{is_opcode, has_fragments, word_of, message_in, soe_text}
-use Rattle.protocol_models.specs.SoeClient.{is_incomplete}
-use Rattle.protocol_models.specs.Elements.{Target}
-use Rattle.protocol_models.specs.SoeMails.{Soe, SoeFault, Short, message, refusal}
-use Rattle.protocol_models.specs.SoeOctets.{heard, body_heard}
+use Rattle.run_work.specs.of_ec_fields.Fields.{number_at, bits_of}
+use Rattle.served_places.specs.of_soe_codec.Message.{is_opcode, has_fragments, word_of, message_in, soe_text}
+use Rattle.run_work.specs.of_protocol_models.SoeClient.{is_incomplete}
+use Rattle.run_work.specs.of_protocol_models.Elements.{Target}
+use Rattle.run_work.specs.of_protocol_models.SoeMails.{Soe, SoeFault, Short, message, refusal}
+use Rattle.run_work.specs.of_protocol_models.SoeOctets.{heard, body_heard}
 
 -- the word that is read of two octets
 abbrev read_word : ℕ → ℕ

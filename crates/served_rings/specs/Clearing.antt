@@ -1,8 +1,8 @@
 -- WHAT A RETURN TO INIT DOES to a slave of a serving: its services are those of its node, whose application is the server itself.
-use Rattle.life_model.specs.Eras.{Clearing}
-use Rattle.plan_ring.specs.Real.{real_clearing}
-use Rattle.slave_parts.specs.Parts.{Server}
-use Rattle.state_model.specs.Families.{InState}
+use Rattle.served_places.specs.of_life_model.Eras.{Clearing}
+use Rattle.run_work.specs.of_plan_ring.Real.{real_clearing}
+use Rattle.run_work.specs.of_slave_parts.Parts.{Server}
+use Rattle.served_places.specs.of_state_model.Families.{InState}
 
 -- all transfers are gone and the next packet has frame number 0
 abbrev pub serves_clearing : Clearing (InState Server) (InState Server)

@@ -1,22 +1,22 @@
 -- WHAT THE SERVER OF A SLAVE GIVES for each mail that was passed on to it in a serving, all along its life.
 use Rattle.std.specs.Prelude.{◌≡◌, ℕ, Bool, Option, List, [], ◌∷◌, ◌++◌, map, ⊤}
-use Rattle.exchange_model.specs.Rows.{Row}
-use Rattle.life_model.specs.Lives.{Era, Life, Stand}
-use Rattle.link_mails.specs.Body.{Body}
-use Rattle.mailbox_mail.specs.declared.mail.Mail.{Mail}
-use Rattle.master_duty.specs.Reply.{Reply}
+use Rattle.served_places.specs.of_exchange_model.Rows.{Row}
+use Rattle.served_places.specs.of_life_model.Lives.{Era, Life, Stand}
+use Rattle.served_places.specs.of_link_mails.Body.{Body}
+use Rattle.run_work.specs.of_mailbox_mail.declared.mail.Mail.{Mail}
+use Rattle.run_work.specs.of_master_duty.Reply.{Reply}
 use Rattle.run_work.specs.of_master_hand.Spoken.{Asked, drive, file, net, passed, sdo}
-use Rattle.segment_model.specs.Ends.{Passing}
+use Rattle.served_places.specs.of_segment_model.Ends.{Passing}
 use Rattle.served_rings.specs.Served.{AreServedEras, IsHeardOf, IsServedLife, IsServedNewest, replies_to}
 use Rattle.served_rings.specs.Speakers.{spoken, table_of}
-use Rattle.slave_model.specs.Profile.{Profile}
-use Rattle.slave_parts.specs.Parts.{Server}
-use Rattle.plan_ring.specs.of_slave_server.Serving.{Serving}
-use Rattle.slave_node.specs.Node.{Node}
-use Rattle.state_model.specs.Families.{InState}
-use Rattle.state_model.specs.Stated.{Service}
-use Rattle.state_model.specs.Promises.{state_behind}
-use Rattle.state_model.specs.Promise.{services_in}
+use Rattle.run_work.specs.of_slave_model.Profile.{Profile}
+use Rattle.run_work.specs.of_slave_parts.Parts.{Server}
+use Rattle.run_work.specs.of_slave_server.Serving.{Serving}
+use Rattle.run_work.specs.of_slave_node.Node.{Node}
+use Rattle.served_places.specs.of_state_model.Families.{InState}
+use Rattle.served_places.specs.of_state_model.Stated.{Service}
+use Rattle.served_places.specs.of_state_model.Promises.{state_behind}
+use Rattle.served_places.specs.of_state_model.Promise.{services_in}
 
 -- a mail that was passed on, and the server to which it came
 pub record Given : Type 0 where

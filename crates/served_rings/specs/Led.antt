@@ -1,21 +1,21 @@
 -- AN OPEN SLAVE'S EPOCH AS ITS MASTER LEADS IT, turn by turn, and as its node lives it.
 use Rattle.std.specs.Prelude.{◌≡◌, ◌≢◌, ◌<◌, ◌∷◌, ℕ, Bool, true, List, [], length, None, if◌then◌else◌}
-use Rattle.frame_view.specs.Seen.{seen}
-use Rattle.frames_seen.specs.Slaves.{IsOpen}
-use Rattle.life_model.specs.Eras.{planned}
-use Rattle.life_model.specs.Lives.{Spot, Era, AsksOpen, era_next}
-use Rattle.link_mails.specs.Body.{Body}
-use Rattle.mailbox_slave.specs.Node.{in_side}
-use Rattle.served_places.specs.of_few_replies.Led.{IsLed, EraTurn}
-use Rattle.segment_model.specs.Record.{Frame}
-use Rattle.segment_model.specs.Slaves.{Registers}
-use Rattle.segment_ring.specs.Ring.{is_in_pace}
-use Rattle.plan_ring.specs.of_slave_lives.Lived.{Behind, RingFrame, IsForOpen, StepsUp, is_reached, node_met, node_behind, node_seen, frame_of, table_of}
-use Rattle.plan_ring.specs.of_slave_lives.Nodes.{IsRunning}
-use Rattle.plan_ring.specs.of_slave_lives.Steps.{Stands}
-use Rattle.slave_node.specs.Node.{Node}
-use Rattle.state_model.specs.Accounts.{Pick}
-use Rattle.state_model.specs.Tasks.{IsTaskPlan}
+use Rattle.run_work.specs.of_frame_view.Seen.{seen}
+use Rattle.run_work.specs.of_frames_seen.Slaves.{IsOpen}
+use Rattle.served_places.specs.of_life_model.Eras.{planned}
+use Rattle.served_places.specs.of_life_model.Lives.{Spot, Era, AsksOpen, era_next}
+use Rattle.served_places.specs.of_link_mails.Body.{Body}
+use Rattle.run_work.specs.of_mailbox_slave.Node.{in_side}
+use Rattle.run_work.specs.of_few_replies.Led.{IsLed, EraTurn}
+use Rattle.served_places.specs.of_segment_model.Record.{Frame}
+use Rattle.served_places.specs.of_segment_model.Slaves.{Registers}
+use Rattle.served_places.specs.of_segment_ring.Ring.{is_in_pace}
+use Rattle.run_work.specs.of_slave_lives.Lived.{Behind, RingFrame, IsForOpen, StepsUp, is_reached, node_met, node_behind, node_seen, frame_of, table_of}
+use Rattle.run_work.specs.of_slave_lives.Nodes.{IsRunning}
+use Rattle.run_work.specs.of_slave_lives.Steps.{Stands}
+use Rattle.run_work.specs.of_slave_node.Node.{Node}
+use Rattle.served_places.specs.of_state_model.Accounts.{Pick}
+use Rattle.served_places.specs.of_state_model.Tasks.{IsTaskPlan}
 
 -- a slave makes a step behind a frame, or none
 abbrev pub steps_at : Bool → List ℕ

@@ -1,11 +1,11 @@
 -- THE SLAVES OF A RING, each with its life by epochs that its master leads, and the counters that its record keeps.
 use Rattle.std.specs.Prelude.{◌≡◌, ℕ, Bool, List, [], ◌∷◌, ⊤}
 use Rattle.served_rings.specs.Lives.{IsLedLived, news_of, recorded_of}
-use Rattle.link_mails.specs.Body.{Body}
-use Rattle.master_side.specs.Counts.{counts_on, kept_on}
-use Rattle.segment_model.specs.Record.{Frame, Kept}
-use Rattle.plan_ring.specs.of_whole_ring.Members.{Member}
-use Rattle.plan_ring.specs.of_whole_ring.Turning.{Turn}
+use Rattle.served_places.specs.of_link_mails.Body.{Body}
+use Rattle.run_work.specs.of_master_side.Counts.{counts_on, kept_on}
+use Rattle.served_places.specs.of_segment_model.Record.{Frame, Kept}
+use Rattle.run_work.specs.of_whole_ring.Members.{Member}
+use Rattle.run_work.specs.of_whole_ring.Turning.{Turn}
 
 -- what a record keeps of a slave: the counters of the last mail told and heard, and whether an empty read counts
 pub record Counters : Type 0 where

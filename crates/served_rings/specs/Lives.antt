@@ -1,20 +1,20 @@
 -- THE LIFE OF A SLAVE BY EPOCHS THAT ITS MASTER LEADS, turn by turn, with the counters that its record keeps.
 use Rattle.std.specs.Prelude.{◌≡◌, ℕ, Bool, Option, List, [], ◌∷◌, ◌++◌}
 use Rattle.served_rings.specs.Counters.{IsCounted}
-use Rattle.frame_view.specs.Seen.{seen}
-use Rattle.frame_view.specs.View.{Lens}
-use Rattle.frames_seen.specs.Slaves.{registers_seen}
+use Rattle.run_work.specs.of_frame_view.Seen.{seen}
+use Rattle.run_work.specs.of_frame_view.View.{Lens}
+use Rattle.run_work.specs.of_frames_seen.Slaves.{registers_seen}
 use Rattle.served_rings.specs.Led.{LedEra}
-use Rattle.life_model.specs.Lives.{Spot, Era, Life, new_era}
-use Rattle.link_mails.specs.Body.{Body}
-use Rattle.link_model.specs.Segment.{RingFate}
-use Rattle.master_side.specs.Passing.{news_back, news_lost}
-use Rattle.segment_model.specs.Record.{Frame, News, Kept}
-use Rattle.segment_model.specs.Slaves.{Datagram}
-use Rattle.plan_ring.specs.of_slave_lives.Lived.{Behind, RingFrame, octets_back}
-use Rattle.plan_ring.specs.of_slave_lives.Opening.{Plan}
-use Rattle.slave_node.specs.Node.{Node}
-use Rattle.plan_ring.specs.of_whole_ring.Whole.{IsLivedBy}
+use Rattle.served_places.specs.of_life_model.Lives.{Spot, Era, Life, new_era}
+use Rattle.served_places.specs.of_link_mails.Body.{Body}
+use Rattle.served_places.specs.of_link_model.Segment.{RingFate}
+use Rattle.run_work.specs.of_master_side.Passing.{news_back, news_lost}
+use Rattle.served_places.specs.of_segment_model.Record.{Frame, News, Kept}
+use Rattle.served_places.specs.of_segment_model.Slaves.{Datagram}
+use Rattle.run_work.specs.of_slave_lives.Lived.{Behind, RingFrame, octets_back}
+use Rattle.run_work.specs.of_slave_lives.Opening.{Plan}
+use Rattle.run_work.specs.of_slave_node.Node.{Node}
+use Rattle.run_work.specs.of_whole_ring.Whole.{IsLivedBy}
 
 module _ {S V A Q R : Type 0} (w : Behind S V A Q R) (more : Body → Bool) (passed : Q → Bool) (spot : Spot) where
   -- an open slave's epoch, with those counters

@@ -1,29 +1,29 @@
 -- WHAT IS DONE OF A SLAVE OF A SERVING of which its master wants nothing any more.
 use Rattle.std.specs.Prelude.{◌≡◌, ℕ, suc, Bool, true, None, List, [], ◌∷◌, length, ⊤}
-use Rattle.life_model.specs.Script.{life_started}
-use Rattle.frame_view.specs.View.{Lens}
-use Rattle.frames_seen.specs.Slaves.{registers_seen}
-use Rattle.life_model.specs.Lives.{Era, Stand}
-use Rattle.life_runs.specs.First.{lens_of, script_for}
-use Rattle.life_runs.specs.Led.{speech_at}
-use Rattle.link_mails.specs.Body.{Body}
-use Rattle.master_duty.specs.Reply.{Reply}
+use Rattle.served_places.specs.of_life_model.Script.{life_started}
+use Rattle.run_work.specs.of_frame_view.View.{Lens}
+use Rattle.run_work.specs.of_frames_seen.Slaves.{registers_seen}
+use Rattle.served_places.specs.of_life_model.Lives.{Era, Stand}
+use Rattle.served_places.specs.of_life_runs.First.{lens_of, script_for}
+use Rattle.served_places.specs.of_life_runs.Led.{speech_at}
+use Rattle.served_places.specs.of_link_mails.Body.{Body}
+use Rattle.run_work.specs.of_master_duty.Reply.{Reply}
 use Rattle.run_work.specs.of_master_hand.Spoken.{Asked}
 use Rattle.run_work.specs.Lives.{first_server}
-use Rattle.segment_model.specs.Laws.{WantsNothing}
-use Rattle.segment_plan.specs.declared.plan.Scenario.{Scenario}
-use Rattle.segment_plan.specs.declared.slave.SlaveSpec.{SlaveSpec}
+use Rattle.served_places.specs.of_segment_model.Laws.{WantsNothing}
+use Rattle.run_work.specs.of_segment_plan.declared.plan.Scenario.{Scenario}
+use Rattle.run_work.specs.of_segment_plan.declared.slave.SlaveSpec.{SlaveSpec}
 use Rattle.served_rings.specs.Served.{AreServedEras, NothingLeft, WasServed}
 use Rattle.served_rings.specs.Stood.{AllHeld}
 use Rattle.served_rings.specs.StoodLives.{IsFirst, others}
-use Rattle.life_runs.specs.Came.{AreAmong, ServedCame}
-use Rattle.life_runs.specs.Served.{Keyed, Serves}
-use Rattle.slave_model.specs.Profile.{Profile}
-use Rattle.slave_parts.specs.Parts.{Server}
-use Rattle.plan_ring.specs.of_slave_server.Serving.{Serving, next_mail}
-use Rattle.plan_ring.specs.of_slave_server.Spec.{profile_of}
-use Rattle.slave_node.specs.Node.{Node, is_settled}
-use Rattle.state_model.specs.Families.{InState}
+use Rattle.served_places.specs.of_life_runs.Came.{AreAmong, ServedCame}
+use Rattle.served_places.specs.of_life_runs.Served.{Keyed, Serves}
+use Rattle.run_work.specs.of_slave_model.Profile.{Profile}
+use Rattle.run_work.specs.of_slave_parts.Parts.{Server}
+use Rattle.run_work.specs.of_slave_server.Serving.{Serving, next_mail}
+use Rattle.run_work.specs.of_slave_server.Spec.{profile_of}
+use Rattle.run_work.specs.of_slave_node.Node.{Node, is_settled}
+use Rattle.served_places.specs.of_state_model.Families.{InState}
 
 -- THE MASTER WANTS NOTHING of a slave: it is open, no service is in hand and none is left of its script, both halves of its link are idle, and no mail that is
 -- passed on is in hand or waits

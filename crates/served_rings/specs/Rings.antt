@@ -1,26 +1,26 @@
 -- THE RING OF A SERVING: its slaves, with the services that their nodes run, the lives that the master leads of them, and what its records keep.
 use Rattle.std.specs.Prelude.{◌≡◌, ℕ, suc, List, [], ◌∷◌, map, take, ⊤}
-use Rattle.frame_view.specs.View.{Lens}
+use Rattle.run_work.specs.of_frame_view.View.{Lens}
 use Rattle.served_rings.specs.LedRings.{Counters, AllLedMembers}
-use Rattle.life_runs.specs.First.{lens_of, spot_of, script_for}
-use Rattle.life_runs.specs.Led.{Exchanged}
-use Rattle.master_duty.specs.Reply.{Reply}
+use Rattle.served_places.specs.of_life_runs.First.{lens_of, spot_of, script_for}
+use Rattle.served_places.specs.of_life_runs.Led.{Exchanged}
+use Rattle.run_work.specs.of_master_duty.Reply.{Reply}
 use Rattle.run_work.specs.of_master_hand.Spoken.{Asked, is_followed, is_passed}
-use Rattle.plan_ring.specs.Plan.{FitsPlan, plan_of, step}
-use Rattle.plan_ring.specs.Round.{all_seen, ring_after, ring_of}
-use Rattle.segment_plan.specs.declared.plan.Scenario.{Scenario}
-use Rattle.segment_plan.specs.declared.slave.SlaveSpec.{SlaveSpec}
+use Rattle.run_work.specs.of_plan_ring.Plan.{FitsPlan, plan_of, step}
+use Rattle.run_work.specs.of_plan_ring.Round.{all_seen, ring_after, ring_of}
+use Rattle.run_work.specs.of_segment_plan.declared.plan.Scenario.{Scenario}
+use Rattle.run_work.specs.of_segment_plan.declared.slave.SlaveSpec.{SlaveSpec}
 use Rattle.served_rings.specs.Serves.{serves}
 use Rattle.served_rings.specs.StoodLives.{AllStoodMembers}
 use Rattle.served_rings.specs.Clearing.{serves_clearing}
-use Rattle.life_runs.specs.Served.{Serves}
-use Rattle.slave_parts.specs.Parts.{Server}
-use Rattle.plan_ring.specs.of_slave_server.Seen.{seen_in}
-use Rattle.plan_ring.specs.of_slave_server.Serving.{Serving}
-use Rattle.plan_ring.specs.of_slave_server.Spec.{profile_of, server_of}
-use Rattle.slave_node.specs.Node.{Node}
-use Rattle.state_model.specs.Families.{InState}
-use Rattle.plan_ring.specs.of_whole_ring.Members.{Member, IsRing}
+use Rattle.served_places.specs.of_life_runs.Served.{Serves}
+use Rattle.run_work.specs.of_slave_parts.Parts.{Server}
+use Rattle.run_work.specs.of_slave_server.Seen.{seen_in}
+use Rattle.run_work.specs.of_slave_server.Serving.{Serving}
+use Rattle.run_work.specs.of_slave_server.Spec.{profile_of, server_of}
+use Rattle.run_work.specs.of_slave_node.Node.{Node}
+use Rattle.served_places.specs.of_state_model.Families.{InState}
+use Rattle.run_work.specs.of_whole_ring.Members.{Member, IsRing}
 
 -- a slave of a serving in its ring
 abbrev pub ServedMember : Type 0

@@ -1,18 +1,18 @@
 -- A LIFE AS ITS MASTER LEADS IT, which passes mails on beside services: all its epochs, one behind the other.
 use Rattle.std.specs.Prelude.{◌≡◌, ℕ, Bool, Option, List, [], ◌∷◌, ◌++◌, ⊤}
-use Rattle.exchange_model.specs.Exchange.{Exchange}
-use Rattle.life_model.specs.Eras.{Clearing, planned}
-use Rattle.life_model.specs.Lives.{Spot, Era, Life, new_era}
-use Rattle.served_places.specs.of_few_replies.Clearing.{cleared_rowed}
-use Rattle.served_places.specs.of_few_replies.Led.{IsLed}
-use Rattle.segment_model.specs.Record.{Frame}
-use Rattle.segment_model.specs.Slaves.{Registers, Processor, Slave}
-use Rattle.serving_model.specs.Tagged.{Tagged, Asked, Rowed}
-use Rattle.state_model.specs.States.{Table}
+use Rattle.served_places.specs.of_exchange_model.Exchange.{Exchange}
+use Rattle.served_places.specs.of_life_model.Eras.{Clearing, planned}
+use Rattle.served_places.specs.of_life_model.Lives.{Spot, Era, Life, new_era}
+use Rattle.run_work.specs.of_few_replies.Clearing.{cleared_rowed}
+use Rattle.run_work.specs.of_few_replies.Led.{IsLed}
+use Rattle.served_places.specs.of_segment_model.Record.{Frame}
+use Rattle.served_places.specs.of_segment_model.Slaves.{Registers, Processor, Slave}
+use Rattle.served_places.specs.of_serving_model.Tagged.{Tagged, Asked, Rowed}
+use Rattle.served_places.specs.of_state_model.States.{Table}
 use Rattle.run_work.specs.of_life_counts.Epochs.{Speaker, AllFair, between, seeing, seeing_states}
 use Rattle.run_work.specs.of_life_counts.Seen.{life_seen}
 use Rattle.run_work.specs.of_life_counts.Worked.{IsWorked}
-use Rattle.state_model.specs.Tasks.{IsTaskPlan}
+use Rattle.served_places.specs.of_state_model.Tasks.{IsTaskPlan}
 
 module _ {V M Q R C T : Type 0} (w : Speaker V M Q R C T) where
   -- each mail that came into hand in these epochs is fair

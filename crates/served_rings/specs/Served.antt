@@ -1,32 +1,32 @@
 -- WHAT THE SLAVES OF A SERVING DID, epoch by epoch, of the rows that came into hand of them: services of the script, packets, and mails that were passed on.
 use Rattle.std.specs.Prelude.{◌≡◌, ◌≢◌, ℕ, suc, ◌+◌, ◌<◌, ◌≤◌, Bool, true, false, Option, None, Some, Ok, List, [], ◌∷◌, ◌++◌, drop, length, take, ⊤}
-use Rattle.protocol_models.specs.EoeClient as EoeClient
-use Rattle.exchange_model.specs.Exchange.{emitted, plain}
-use Rattle.exchange_model.specs.Prefix.{IsPrefixOf}
-use Rattle.exchange_model.specs.Rows.{Row, heard_all}
-use Rattle.frames_seen.specs.Slaves.{registers_seen}
-use Rattle.life_model.specs.Lives.{Era, Life, Stand}
-use Rattle.link_mails.specs.Body.{Body}
-use Rattle.mailbox_mail.specs.declared.mail.Mail.{Mail}
-use Rattle.master_duty.specs.Reply.{Reply}
+use Rattle.run_work.specs.of_protocol_models.EoeClient as EoeClient
+use Rattle.served_places.specs.of_exchange_model.Exchange.{emitted, plain}
+use Rattle.served_places.specs.of_exchange_model.Prefix.{IsPrefixOf}
+use Rattle.served_places.specs.of_exchange_model.Rows.{Row, heard_all}
+use Rattle.run_work.specs.of_frames_seen.Slaves.{registers_seen}
+use Rattle.served_places.specs.of_life_model.Lives.{Era, Life, Stand}
+use Rattle.served_places.specs.of_link_mails.Body.{Body}
+use Rattle.run_work.specs.of_mailbox_mail.declared.mail.Mail.{Mail}
+use Rattle.run_work.specs.of_master_duty.Reply.{Reply}
 use Rattle.run_work.specs.of_master_hand.Spoken.{Asked, emission, net, passed}
 use Rattle.served_rings.specs.Speakers.{cleared_whole, spoken, table_of}
 use Rattle.run_work.specs.Lives.{first_server}
-use Rattle.segment_model.specs.Ends.{Passing}
-use Rattle.segment_model.specs.Laws.{WantsNothing}
-use Rattle.segment_model.specs.Seats.{rows_of}
-use Rattle.segment_plan.specs.declared.slave.SlaveSpec.{SlaveSpec}
-use Rattle.life_runs.specs.Served.{Serves}
-use Rattle.slave_model.specs.Profile.{Profile}
-use Rattle.slave_parts.specs.Parts.{Server}
-use Rattle.plan_ring.specs.of_slave_server.Serving.{Serving, next_mail}
-use Rattle.plan_ring.specs.of_slave_server.Spec.{profile_of}
-use Rattle.slave_node.specs.Node.{Node, is_settled}
-use Rattle.state_model.specs.Families.{InState}
-use Rattle.state_model.specs.Stated.{Service}
-use Rattle.state_model.specs.Promises.{answer_of, state_behind}
-use Rattle.state_model.specs.Accounts.{Change}
-use Rattle.state_model.specs.Promise.{services_in}
+use Rattle.served_places.specs.of_segment_model.Ends.{Passing}
+use Rattle.served_places.specs.of_segment_model.Laws.{WantsNothing}
+use Rattle.served_places.specs.of_segment_model.Seats.{rows_of}
+use Rattle.run_work.specs.of_segment_plan.declared.slave.SlaveSpec.{SlaveSpec}
+use Rattle.served_places.specs.of_life_runs.Served.{Serves}
+use Rattle.run_work.specs.of_slave_model.Profile.{Profile}
+use Rattle.run_work.specs.of_slave_parts.Parts.{Server}
+use Rattle.run_work.specs.of_slave_server.Serving.{Serving, next_mail}
+use Rattle.run_work.specs.of_slave_server.Spec.{profile_of}
+use Rattle.run_work.specs.of_slave_node.Node.{Node, is_settled}
+use Rattle.served_places.specs.of_state_model.Families.{InState}
+use Rattle.served_places.specs.of_state_model.Stated.{Service}
+use Rattle.served_places.specs.of_state_model.Promises.{answer_of, state_behind}
+use Rattle.served_places.specs.of_state_model.Accounts.{Change}
+use Rattle.served_places.specs.of_state_model.Promise.{services_in}
 
 -- nothing came into hand of an epoch
 pub record NothingCame (e : Era Body Asked Reply) : Type 0 where

@@ -1,16 +1,16 @@
 -- THE SERVICES OF A PLAN'S SLAVE IN A SERVING, as its node runs them and its master speaks of them, mails that are passed on among them.
 use Rattle.std.specs.Prelude.{ℕ, Bool}
-use Rattle.frame_view.specs.View.{Lens}
-use Rattle.master_duty.specs.Reply.{Reply}
+use Rattle.run_work.specs.of_frame_view.View.{Lens}
+use Rattle.run_work.specs.of_master_duty.Reply.{Reply}
 use Rattle.run_work.specs.of_master_hand.Spoken.{Asked}
 use Rattle.served_rings.specs.Speakers.{spoken, spoken_states, processor_of}
-use Rattle.plan_ring.specs.Real.{running_as}
-use Rattle.plan_ring.specs.of_slave_lives.Lived.{Behind}
-use Rattle.slave_model.specs.Profile.{Profile}
-use Rattle.slave_parts.specs.Parts.{Server}
-use Rattle.plan_ring.specs.of_slave_server.Seen.{seen_in}
-use Rattle.plan_ring.specs.of_slave_server.Serving.{Serving}
-use Rattle.state_model.specs.Families.{InState}
+use Rattle.run_work.specs.of_plan_ring.Real.{running_as}
+use Rattle.run_work.specs.of_slave_lives.Lived.{Behind}
+use Rattle.run_work.specs.of_slave_model.Profile.{Profile}
+use Rattle.run_work.specs.of_slave_parts.Parts.{Server}
+use Rattle.run_work.specs.of_slave_server.Seen.{seen_in}
+use Rattle.run_work.specs.of_slave_server.Serving.{Serving}
+use Rattle.served_places.specs.of_state_model.Families.{InState}
 
 -- in a session with that master
 abbrev pub serves : Profile → Bool → (ℕ → Lens) → Behind Serving (InState Server) (InState Server) Asked Reply

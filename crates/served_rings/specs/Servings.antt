@@ -1,20 +1,20 @@
 -- THE FRAMES OF A PLAN'S SERVING.
 use Rattle.std.specs.Prelude.{ℕ, ◌+◌, ◌*◌, ◌≤◌, Option, List, length}
-use Rattle.life_runs.specs.First.{lens_of, first_leads}
-use Rattle.life_runs.specs.Led.{Exchanged}
-use Rattle.link_mails.specs.Body.{Body}
-use Rattle.master_duty.specs.Reply.{Reply}
+use Rattle.served_places.specs.of_life_runs.First.{lens_of, first_leads}
+use Rattle.served_places.specs.of_life_runs.Led.{Exchanged}
+use Rattle.served_places.specs.of_link_mails.Body.{Body}
+use Rattle.run_work.specs.of_master_duty.Reply.{Reply}
 use Rattle.run_work.specs.of_master_hand.Spoken.{Asked}
-use Rattle.plan_ring.specs.Round.{ring_of, AllRound}
-use Rattle.run_work.specs.of_run_frames.Clocks.{Clocked}
-use Rattle.run_work.specs.of_run_frames.Fates.{lost_of}
-use Rattle.run_work.specs.of_run_frames.Runs.{Progress}
+use Rattle.run_work.specs.of_plan_ring.Round.{ring_of, AllRound}
+use Rattle.served_places.specs.of_run_frames.Clocks.{Clocked}
+use Rattle.served_places.specs.of_run_frames.Fates.{lost_of}
+use Rattle.served_places.specs.of_run_frames.Runs.{Progress}
 use Rattle.run_work.specs.ServedGained.{asked_in}
-use Rattle.segment_plan.specs.Bound.{slowest}
-use Rattle.segment_plan.specs.declared.plan.Scenario.{Scenario}
+use Rattle.run_work.specs.of_segment_plan.Bound.{slowest}
+use Rattle.run_work.specs.of_segment_plan.declared.plan.Scenario.{Scenario}
 use Rattle.served_places.specs.Answered.{ServedAsks, ServedAnswers, ServedWaits}
 use Rattle.served_places.specs.Toured.{IsServedToured}
-use Rattle.life_runs.specs.Served.{Serves, all_serve}
+use Rattle.served_places.specs.of_life_runs.Served.{Serves, all_serve}
 
 -- A SERVING OF A PLAN behind these frames: its master leads the slaves by them, with mails that are asked between them; they are the visits of one tour and count
 -- with the plan's paces; each that came back asked by the inward half first, and each slave answered by it what awaits a step; while nothing is gained some slave

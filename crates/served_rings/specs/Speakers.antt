@@ -1,24 +1,24 @@
 -- A PLAN'S SLAVE AS ITS MASTER SPEAKS WITH IT: by services of its protocols, and by mails that are passed on.
 use Rattle.std.specs.Prelude.{ℕ, Bool, true, Ok}
-use Rattle.exchange_model.specs.Exchange.{Exchange}
-use Rattle.link_mails.specs.Body.{Body}
-use Rattle.master_duty.specs.Reply as Master
+use Rattle.served_places.specs.of_exchange_model.Exchange.{Exchange}
+use Rattle.served_places.specs.of_link_mails.Body.{Body}
+use Rattle.run_work.specs.of_master_duty.Reply as Master
 use Rattle.run_work.specs.of_master_hand.Spoken as Spoken
-use Rattle.segment_model.specs.Slaves.{Processor}
-use Rattle.serving_model.specs.Tagged.{Asked, untag, asked_full, asked_exec, asked_reply, asked_emits}
-use Rattle.serving_model.specs.TaggedStates.{told_state}
-use Rattle.few_replies.specs.Packets.{is_calm, is_fair}
-use Rattle.slave_model.specs.Acknowledged.{acknowledged}
-use Rattle.slave_model.specs.Profile.{Protocol, Profile, areas_of}
-use Rattle.slave_model.specs.Server.{Reply}
-use Rattle.slave_parts.specs.Parts.{Core, Server, parts}
-use Rattle.slave_parts.specs.of_protocol_models.Network.{Station}
-use Rattle.slave_parts.specs.Served.{product_whole}
-use Rattle.plan_ring.specs.of_slave_server.Serving.{fresh}
-use Rattle.state_model.specs.Families.{InState, states_of}
-use Rattle.state_model.specs.Stated.{Stated}
-use Rattle.frames_seen.specs.Shows.{slave_table}
-use Rattle.state_model.specs.States.{Table, carry}
+use Rattle.served_places.specs.of_segment_model.Slaves.{Processor}
+use Rattle.served_places.specs.of_serving_model.Tagged.{Asked, untag, asked_full, asked_exec, asked_reply, asked_emits}
+use Rattle.served_places.specs.of_serving_model.TaggedStates.{told_state}
+use Rattle.run_work.specs.of_few_replies.Packets.{is_calm, is_fair}
+use Rattle.run_work.specs.of_slave_model.Acknowledged.{acknowledged}
+use Rattle.run_work.specs.of_slave_model.Profile.{Protocol, Profile, areas_of}
+use Rattle.run_work.specs.of_slave_model.Server.{Reply}
+use Rattle.run_work.specs.of_slave_parts.Parts.{Core, Server, parts}
+use Rattle.run_work.specs.of_protocol_models.Network.{Station}
+use Rattle.run_work.specs.of_slave_parts.Served.{product_whole}
+use Rattle.run_work.specs.of_slave_server.Serving.{fresh}
+use Rattle.served_places.specs.of_state_model.Families.{InState, states_of}
+use Rattle.served_places.specs.of_state_model.Stated.{Stated}
+use Rattle.run_work.specs.of_frames_seen.Shows.{slave_table}
+use Rattle.served_places.specs.of_state_model.States.{Table, carry}
 use Rattle.run_work.specs.Sessions.{OwnService, Wanted, InRow, named_wanted}
 use Rattle.run_work.specs.of_life_counts.Epochs.{Speaker}
 use Rattle.run_work.specs.of_life_counts.Spoken.{Naming}

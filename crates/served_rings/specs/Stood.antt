@@ -1,26 +1,26 @@
 -- WHAT STOOD AS EACH EPOCH OF A SLAVE ENDED: its node held what was carried out of it. So what is said of an epoch that is over is what was so as it ended. And the
 -- AL state of a slave that was given up for good while it was open.
 use Rattle.std.specs.Prelude.{◌≡◌, ℕ, Bool, Option, Some, List, [], ◌∷◌, ◌++◌, ⊤}
-use Rattle.frames_seen.specs.Slaves.{registers_seen}
-use Rattle.life_model.specs.Lives.{Era, Life, Stand}
-use Rattle.life_runs.specs.Led.{Exchanged}
-use Rattle.link_mails.specs.Body.{Body}
-use Rattle.master_duty.specs.Reply.{Reply}
+use Rattle.run_work.specs.of_frames_seen.Slaves.{registers_seen}
+use Rattle.served_places.specs.of_life_model.Lives.{Era, Life, Stand}
+use Rattle.served_places.specs.of_life_runs.Led.{Exchanged}
+use Rattle.served_places.specs.of_link_mails.Body.{Body}
+use Rattle.run_work.specs.of_master_duty.Reply.{Reply}
 use Rattle.run_work.specs.of_master_hand.Spoken.{Asked}
-use Rattle.plan_ring.specs.Round.{ring_after, ring_of}
+use Rattle.run_work.specs.of_plan_ring.Round.{ring_after, ring_of}
 use Rattle.run_work.specs.Lives.{first_server}
-use Rattle.segment_plan.specs.declared.plan.Scenario.{Scenario}
-use Rattle.segment_plan.specs.declared.slave.SlaveSpec.{SlaveSpec}
+use Rattle.run_work.specs.of_segment_plan.declared.plan.Scenario.{Scenario}
+use Rattle.run_work.specs.of_segment_plan.declared.slave.SlaveSpec.{SlaveSpec}
 use Rattle.served_rings.specs.Rings.{nodes_behind}
 use Rattle.served_rings.specs.Served.{AllServeSo, AreServedEras, Holds, IsServedLife, IsServedNewest}
 use Rattle.served_rings.specs.StoodLives.{IsFirst, LeftOpen, others}
-use Rattle.life_runs.specs.Served.{Serves}
-use Rattle.slave_model.specs.Profile.{Profile}
-use Rattle.slave_parts.specs.Parts.{Server}
-use Rattle.plan_ring.specs.of_slave_server.Serving.{Serving}
-use Rattle.plan_ring.specs.of_slave_server.Spec.{profile_of}
-use Rattle.slave_node.specs.Node.{Node}
-use Rattle.state_model.specs.Families.{InState}
+use Rattle.served_places.specs.of_life_runs.Served.{Serves}
+use Rattle.run_work.specs.of_slave_model.Profile.{Profile}
+use Rattle.run_work.specs.of_slave_parts.Parts.{Server}
+use Rattle.run_work.specs.of_slave_server.Serving.{Serving}
+use Rattle.run_work.specs.of_slave_server.Spec.{profile_of}
+use Rattle.run_work.specs.of_slave_node.Node.{Node}
+use Rattle.served_places.specs.of_state_model.Families.{InState}
 
 -- BEHIND THE FRAME that showed the return to Init the slave's node held what this server has; `stood` says of a frame which node the slave was behind it
 pub record HeldAt (stood : ℕ → Node Serving → Type 0) (v : InState Server) (cleared : Option ℕ) : Type 0 where

@@ -1,17 +1,17 @@
 -- A LIFE BY EPOCHS THAT ITS MASTER LEADS, with the slave as it stood where each epoch that is over ended.
 use Rattle.std.specs.Prelude.{◌≡◌, ◌⊎◌, ◌<◌, ℕ, suc, Bool, Option, Some, List, [], ◌∷◌, ◌++◌, take, drop, All, ⊤}
-use Rattle.frames_seen.specs.Slaves.{registers_seen}
-use Rattle.life_model.specs.Lives.{Spot, Era, Life, Stand}
-use Rattle.life_runs.specs.Causes.{IsOwn, since}
-use Rattle.link_mails.specs.Body.{Body}
-use Rattle.segment_model.specs.Record.{Frame, Kept}
+use Rattle.run_work.specs.of_frames_seen.Slaves.{registers_seen}
+use Rattle.served_places.specs.of_life_model.Lives.{Spot, Era, Life, Stand}
+use Rattle.served_places.specs.of_life_runs.Causes.{IsOwn, since}
+use Rattle.served_places.specs.of_link_mails.Body.{Body}
+use Rattle.served_places.specs.of_segment_model.Record.{Frame, Kept}
 use Rattle.served_rings.specs.LedRings.{Counters}
 use Rattle.served_rings.specs.Lives.{AllLeds, LedKept, LedLeft, LedYet}
-use Rattle.plan_ring.specs.of_slave_lives.Lived.{Behind}
-use Rattle.plan_ring.specs.of_slave_lives.Opening.{Plan}
-use Rattle.slave_node.specs.Node.{Node}
-use Rattle.plan_ring.specs.of_whole_ring.Members.{Member}
-use Rattle.plan_ring.specs.of_whole_ring.Whole.{IsLivedBy, LivesStillBy}
+use Rattle.run_work.specs.of_slave_lives.Lived.{Behind}
+use Rattle.run_work.specs.of_slave_lives.Opening.{Plan}
+use Rattle.run_work.specs.of_slave_node.Node.{Node}
+use Rattle.run_work.specs.of_whole_ring.Members.{Member}
+use Rattle.run_work.specs.of_whole_ring.Whole.{IsLivedBy, LivesStillBy}
 
 -- of the nodes of slaves behind each number of frames, this one is the first behind the frame with this number
 abbrev pub IsFirst : {S : Type 0} → (ℕ → List (Node S)) → ℕ → Node S → Type 0

@@ -1,22 +1,22 @@
 -- WHAT THE MASTER OF A SERVING HAS of each slave, epoch by epoch, is what the frames of the epoch give: the answers of its rows, but for mails that are passed on,
 -- whose replies are handed on one by one, and the outcomes of its changes of state.
 use Rattle.std.specs.Prelude.{◌≡◌, ◌≢◌, ℕ, suc, ◌<◌, ◌≤◌, Option, Some, None, option_map, List, [], ◌∷◌, map, length, ⊤, if◌then◌else◌}
-use Rattle.exchange_model.specs.Rows.{Row, heard_all}
-use Rattle.life_model.specs.Eras.{era_frames}
-use Rattle.life_model.specs.Lives.{Spot, Era, Life, Stand}
-use Rattle.life_runs.specs.First.{lens_of, spot_of}
-use Rattle.link_mails.specs.Body.{Body}
-use Rattle.master_duty.specs.Reply.{Reply}
+use Rattle.served_places.specs.of_exchange_model.Rows.{Row, heard_all}
+use Rattle.served_places.specs.of_life_model.Eras.{era_frames}
+use Rattle.served_places.specs.of_life_model.Lives.{Spot, Era, Life, Stand}
+use Rattle.served_places.specs.of_life_runs.First.{lens_of, spot_of}
+use Rattle.served_places.specs.of_link_mails.Body.{Body}
+use Rattle.run_work.specs.of_master_duty.Reply.{Reply}
 use Rattle.run_work.specs.of_master_hand.Spoken.{Asked, is_followed, is_passed}
-use Rattle.plan_ring.specs.Asked.{asked}
-use Rattle.plan_ring.specs.Epochs.{IsTold}
-use Rattle.segment_model.specs.Record.{Frame, heard}
-use Rattle.segment_model.specs.Seats.{Side, rows_of}
-use Rattle.segment_plan.specs.declared.plan.Scenario.{Scenario}
-use Rattle.segment_plan.specs.declared.slave.SlaveSpec.{SlaveSpec}
-use Rattle.life_runs.specs.Served.{Serves}
-use Rattle.plan_ring.specs.of_slave_lives.Lived.{Behind}
-use Rattle.plan_ring.specs.of_slave_server.Spec.{profile_of}
+use Rattle.run_work.specs.of_plan_ring.Asked.{asked}
+use Rattle.run_work.specs.of_plan_ring.Epochs.{IsTold}
+use Rattle.served_places.specs.of_segment_model.Record.{Frame, heard}
+use Rattle.served_places.specs.of_segment_model.Seats.{Side, rows_of}
+use Rattle.run_work.specs.of_segment_plan.declared.plan.Scenario.{Scenario}
+use Rattle.run_work.specs.of_segment_plan.declared.slave.SlaveSpec.{SlaveSpec}
+use Rattle.served_places.specs.of_life_runs.Served.{Serves}
+use Rattle.run_work.specs.of_slave_lives.Lived.{Behind}
+use Rattle.run_work.specs.of_slave_server.Spec.{profile_of}
 
 -- the answer of a row, but of none by which a mail is passed on
 abbrev pub unpassed_answer : Asked → Option (Reply × ℕ) → Option (Reply × ℕ)

@@ -2,15 +2,15 @@
 //! a law, no running code: the function here does nothing, and its contract states the law.
 
 ghost use Rattle.std.specs.Prelude.{◌≡◌, ◌<◌, ◌∷◌, ◌++◌, ◌==◌, ◌%◌, ℕ, suc, Bool, true, List, [], length};
-ghost use Rattle.life_model.specs.Lives.{Spot};
-ghost use Rattle.life_model.specs.Own.{AreSeen, own};
-ghost use Rattle.link_mails.specs.Body.{Body};
-ghost use Rattle.link_model.specs.Segment.{RingFate};
-ghost use Rattle.master_side.specs.Passing.{news_back, news_lost};
-ghost use Rattle.master_side.specs.Counts as Record;
-ghost use Rattle.served_places.specs.of_few_replies.Led.{EraTurn, counts_behind, frame_in, has_step, news_in};
-ghost use Rattle.segment_model.specs.Record.{Frame, Kept, kept_after, nothing_kept};
-ghost use Rattle.segment_model.specs.Slaves.{Slave, ring_back};
+ghost use Rattle.served_places.specs.of_life_model.Lives.{Spot};
+ghost use Rattle.served_places.specs.of_life_model.Own.{AreSeen, own};
+ghost use Rattle.served_places.specs.of_link_mails.Body.{Body};
+ghost use Rattle.served_places.specs.of_link_model.Segment.{RingFate};
+ghost use Rattle.run_work.specs.of_master_side.Passing.{news_back, news_lost};
+ghost use Rattle.run_work.specs.of_master_side.Counts as Record;
+ghost use Rattle.run_work.specs.of_few_replies.Led.{EraTurn, counts_behind, frame_in, has_step, news_in};
+ghost use Rattle.served_places.specs.of_segment_model.Record.{Frame, Kept, kept_after, nothing_kept};
+ghost use Rattle.served_places.specs.of_segment_model.Slaves.{Slave, ring_back};
 ghost use Rattle.served_rings.specs.Counters.{IsCounted};
 
 /// They begin alike; and behind a frame that came back, of which the record knows only how it came back, or that was lost, of which it knows how it was sent,

@@ -2,20 +2,20 @@
 //! here does nothing, and its contract states the law.
 
 ghost use Rattle.std.specs.Prelude.{◌≡◌, ℕ, Bool, Option, Some, List, slice_get};
-ghost use Rattle.exchange_model.specs.Rows.{Row};
-ghost use Rattle.life_model.specs.Lives.{Life};
-ghost use Rattle.link_mails.specs.Body.{Body};
-ghost use Rattle.master_duty.specs.Reply.{Reply};
+ghost use Rattle.served_places.specs.of_exchange_model.Rows.{Row};
+ghost use Rattle.served_places.specs.of_life_model.Lives.{Life};
+ghost use Rattle.served_places.specs.of_link_mails.Body.{Body};
+ghost use Rattle.run_work.specs.of_master_duty.Reply.{Reply};
 ghost use Rattle.run_work.specs.of_master_hand.Spoken.{Asked};
-ghost use Rattle.segment_model.specs.Ends.{Passing};
+ghost use Rattle.served_places.specs.of_segment_model.Ends.{Passing};
 ghost use Rattle.served_places.specs.Rows.{passed_rows, passings};
 ghost use Rattle.served_rings.specs.Given.{AllGiven, Given, IsGiven, given};
 ghost use Rattle.served_rings.specs.Served.{IsServedLife};
-ghost use Rattle.slave_model.specs.Profile.{Profile};
-ghost use Rattle.slave_parts.specs.Parts.{Server};
-ghost use Rattle.plan_ring.specs.of_slave_server.Serving.{Serving};
-ghost use Rattle.slave_node.specs.Node.{Node};
-ghost use Rattle.state_model.specs.Families.{InState};
+ghost use Rattle.run_work.specs.of_slave_model.Profile.{Profile};
+ghost use Rattle.run_work.specs.of_slave_parts.Parts.{Server};
+ghost use Rattle.run_work.specs.of_slave_server.Serving.{Serving};
+ghost use Rattle.run_work.specs.of_slave_node.Node.{Node};
+ghost use Rattle.served_places.specs.of_state_model.Families.{InState};
 
 /// EACH ROW OF A MAIL THAT WAS PASSED ON, all along the life of a slave of a serving, is of the mail at its place among those that came to its server; and just the
 /// first of the replies of the one step that its server takes for it were heard in the row, all of them where it is over.

@@ -2,14 +2,14 @@
 //! nothing, and its contract states the law.
 
 ghost use Rattle.std.specs.Prelude.{◌∷◌, ◌++◌, ℕ, All, [], List, length};
-ghost use Rattle.life_runs.specs.First.{lens_of};
-ghost use Rattle.life_runs.specs.Led.{Exchanged};
-ghost use Rattle.plan_ring.specs.Lives.{IsKnown};
-ghost use Rattle.plan_ring.specs.Round.{AllRound, ring_of};
-ghost use Rattle.segment_plan.specs.Sound.{IsPlan};
-ghost use Rattle.segment_plan.specs.declared.plan.Scenario.{Scenario};
+ghost use Rattle.served_places.specs.of_life_runs.First.{lens_of};
+ghost use Rattle.served_places.specs.of_life_runs.Led.{Exchanged};
+ghost use Rattle.run_work.specs.of_plan_ring.Lives.{IsKnown};
+ghost use Rattle.run_work.specs.of_plan_ring.Round.{AllRound, ring_of};
+ghost use Rattle.run_work.specs.of_segment_plan.Sound.{IsPlan};
+ghost use Rattle.run_work.specs.of_segment_plan.declared.plan.Scenario.{Scenario};
 ghost use Rattle.served_places.specs.Rows.{HearsNoMore};
-ghost use Rattle.life_runs.specs.Served.{IsServedFrame, ServeTo, ServedTurn, Serves};
+ghost use Rattle.served_places.specs.of_life_runs.Served.{IsServedFrame, ServeTo, ServedTurn, Serves};
 
 /// A MAIL THAT WAS PASSED ON, AND IS OVER, GETS NO REPLY MORE: of a serving of a plan, by frames that went round its ring, whatever frames are lost and whoever is
 /// given up. While no other service by mails comes into hand of its slave, a frame brings no reply of it.

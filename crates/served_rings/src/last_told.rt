@@ -1,24 +1,26 @@
 //! That a slave's last reply to a mail tells that it is the last, by its octets. Definitions and laws over the models, no running code: the functions
 //! here do nothing, and their contracts state the laws.
 
-ghost use Rattle.protocol_models.specs.CoeClient as CoeClient;
-ghost use Rattle.protocol_models.specs.CoeOctets.{coe_mail_written};
-ghost use Rattle.protocol_models.specs.CoeServer.{information_parts};
-ghost use Rattle.link_mails.specs.Body.{Body};
+ghost use Rattle.run_work.specs.of_protocol_models.CoeClient as CoeClient;
+ghost use Rattle.run_work.specs.of_protocol_models.CoeOctets.{coe_mail_written};
+ghost use Rattle.run_work.specs.of_protocol_models.CoeServer.{information_parts};
+ghost use Rattle.served_places.specs.of_link_mails.Body.{Body};
 ghost use Rattle.run_work.specs.of_master_hand.Spoken.{is_followed};
-ghost use Rattle.served_places.specs.of_few_replies.Heard.{LastTold};
-ghost use Rattle.serving_model.specs.Passing.{ends_told, LastTells};
-ghost use Rattle.serving_model.specs.Tagged.{Asked, tagged};
-ghost use Rattle.slave_model.specs.Application.{Parts, ArePartsLawful};
-ghost use Rattle.slave_model.specs.Profile.{Profile, IsProfile};
-ghost use Rattle.slave_model.specs.Server.{told_by};
-ghost use Rattle.slave_parts.specs.Parts.{parts};
-ghost use Rattle.slave_parts.specs.Served.{product_whole};
-ghost use Rattle.protocol_models.specs.SoeClient as SoeClient;
-ghost use Rattle.protocol_models.specs.Elements.{Target, target};
-ghost use Rattle.protocol_models.specs.SoeMails.{fragments_of};
-ghost use Rattle.protocol_models.specs.SoeOctets.{soe_mail_written};
+ghost use Rattle.run_work.specs.of_few_replies.Heard.{LastTold};
+ghost use Rattle.served_places.specs.of_serving_model.Passing.{ends_told, LastTells};
+ghost use Rattle.served_places.specs.of_serving_model.Tagged.{Asked, tagged};
+ghost use Rattle.run_work.specs.of_slave_model.Application.{Parts, ArePartsLawful};
+ghost use Rattle.run_work.specs.of_slave_model.Profile.{Profile, IsProfile};
+ghost use Rattle.run_work.specs.of_slave_model.Server.{told_by};
+ghost use Rattle.run_work.specs.of_slave_parts.Parts.{parts};
+ghost use Rattle.run_work.specs.of_slave_parts.Served.{product_whole};
+ghost use Rattle.run_work.specs.of_protocol_models.SoeClient as SoeClient;
+ghost use Rattle.run_work.specs.of_protocol_models.Elements.{Target, target};
+ghost use Rattle.run_work.specs.of_protocol_models.SoeMails.{fragments_of};
+ghost use Rattle.run_work.specs.of_protocol_models.SoeOctets.{soe_mail_written};
 ghost use Rattle.std.specs.Prelude.{◌≡◌, ℕ, ◌<◌, Bool, true, false, List, [], ◌∷◌, map, replicate, length};
+
+use run_work::slave_parts;
 
 /// THE PARTS OF AN ANSWER go on but the last: those of an information, and the fragments of an element, where the mailbox has room for an octet of them.
 pub fn parts_told()

@@ -2,25 +2,25 @@
 //! functions here do nothing, and their contracts state the laws.
 
 ghost use Rattle.std.specs.Prelude.{◌≡◌, ◌∷◌, ◌++◌, ℕ, suc, Bool, true, Option, None, List, [], length};
-ghost use Rattle.exchange_model.specs.Exchange.{Exchange};
-ghost use Rattle.frame_view.specs.Seen.{seen};
-ghost use Rattle.frame_view.specs.View.{Lens};
-ghost use Rattle.life_model.specs.Eras.{EraIs, planned};
-ghost use Rattle.life_model.specs.Lives.{Spot, Era};
-ghost use Rattle.life_model.specs.Own.{AreSeen, own};
-ghost use Rattle.link_mails.specs.Body.{Body};
-ghost use Rattle.served_places.specs.of_few_replies.Led.{IsLed, AreSingle, counts_behind, turn_after};
-ghost use Rattle.segment_model.specs.Record.{Frame};
-ghost use Rattle.segment_model.specs.Slaves.{Registers, Processor, Slave};
-ghost use Rattle.plan_ring.specs.of_slave_lives.Ends.{IsAnswered, no_pick};
-ghost use Rattle.plan_ring.specs.of_slave_lives.Lived.{Behind, IsBehind, RingFrame, OpensEra, frame_of, node_behind, node_seen, opened_era};
-ghost use Rattle.plan_ring.specs.of_slave_lives.Opening.{Plan};
-ghost use Rattle.slave_node.specs.Node.{Node};
-ghost use Rattle.state_model.specs.Stated.{Stated, IsStated};
-ghost use Rattle.state_model.specs.States.{Table};
-ghost use Rattle.state_model.specs.Accounts.{Pick};
-ghost use Rattle.state_model.specs.Steady.{IsSteady, NoneToInit, HandToInit};
-ghost use Rattle.state_model.specs.Tasks.{IsTaskPlan};
+ghost use Rattle.served_places.specs.of_exchange_model.Exchange.{Exchange};
+ghost use Rattle.run_work.specs.of_frame_view.Seen.{seen};
+ghost use Rattle.run_work.specs.of_frame_view.View.{Lens};
+ghost use Rattle.served_places.specs.of_life_model.Eras.{EraIs, planned};
+ghost use Rattle.served_places.specs.of_life_model.Lives.{Spot, Era};
+ghost use Rattle.served_places.specs.of_life_model.Own.{AreSeen, own};
+ghost use Rattle.served_places.specs.of_link_mails.Body.{Body};
+ghost use Rattle.run_work.specs.of_few_replies.Led.{IsLed, AreSingle, counts_behind, turn_after};
+ghost use Rattle.served_places.specs.of_segment_model.Record.{Frame};
+ghost use Rattle.served_places.specs.of_segment_model.Slaves.{Registers, Processor, Slave};
+ghost use Rattle.run_work.specs.of_slave_lives.Ends.{IsAnswered, no_pick};
+ghost use Rattle.run_work.specs.of_slave_lives.Lived.{Behind, IsBehind, RingFrame, OpensEra, frame_of, node_behind, node_seen, opened_era};
+ghost use Rattle.run_work.specs.of_slave_lives.Opening.{Plan};
+ghost use Rattle.run_work.specs.of_slave_node.Node.{Node};
+ghost use Rattle.served_places.specs.of_state_model.Stated.{Stated, IsStated};
+ghost use Rattle.served_places.specs.of_state_model.States.{Table};
+ghost use Rattle.served_places.specs.of_state_model.Accounts.{Pick};
+ghost use Rattle.served_places.specs.of_state_model.Steady.{IsSteady, NoneToInit, HandToInit};
+ghost use Rattle.served_places.specs.of_state_model.Tasks.{IsTaskPlan};
 ghost use Rattle.served_rings.specs.Led.{LedEra, LedFrame, turn_of};
 
 /// A DATAGRAM OF OCTETS accesses a mailbox or another register, not both; so each of a slave's own in any frame. And a mailbox is accessed only by the station

@@ -2,19 +2,19 @@
 //! definition and a law, no running code: the function here does nothing, and its contract states the law.
 
 ghost use Rattle.std.specs.Prelude.{◌≡◌, ◌∷◌, ◌++◌, ℕ, suc, Bool, List, [], length, map};
-ghost use Rattle.datagrams.specs.Datagram as Raw;
-ghost use Rattle.datagrams.specs.Frame.{IsFrame, chained};
-ghost use Rattle.frame_view.specs.View.{Lens};
+ghost use Rattle.served_places.specs.of_datagrams.Datagram as Raw;
+ghost use Rattle.served_places.specs.of_datagrams.Frame.{IsFrame, chained};
+ghost use Rattle.run_work.specs.of_frame_view.View.{Lens};
 ghost use Rattle.served_rings.specs.LedRings.{Counters, AllLedMembers, AllTold, all_counters};
 ghost use Rattle.served_rings.specs.StoodLives.{AllStoodMembers};
-ghost use Rattle.life_model.specs.Lives.{Spot};
-ghost use Rattle.link_mails.specs.Body.{Body};
-ghost use Rattle.segment_model.specs.Record.{Frame};
-ghost use Rattle.segment_ring.specs.Ring.{RingState};
-ghost use Rattle.segment_ring.specs.Schedule.{fate_at};
-ghost use Rattle.slave_node.specs.Node.{Node};
-ghost use Rattle.plan_ring.specs.of_whole_ring.Members.{AllNew, IsRing, Member, Passes};
-ghost use Rattle.plan_ring.specs.of_whole_ring.Turning.{AllTurn, Turn, behind_frame, frame_at};
+ghost use Rattle.served_places.specs.of_life_model.Lives.{Spot};
+ghost use Rattle.served_places.specs.of_link_mails.Body.{Body};
+ghost use Rattle.served_places.specs.of_segment_model.Record.{Frame};
+ghost use Rattle.served_places.specs.of_segment_ring.Ring.{RingState};
+ghost use Rattle.served_places.specs.of_segment_ring.Schedule.{fate_at};
+ghost use Rattle.run_work.specs.of_slave_node.Node.{Node};
+ghost use Rattle.run_work.specs.of_whole_ring.Members.{AllNew, IsRing, Member, Passes};
+ghost use Rattle.run_work.specs.of_whole_ring.Turning.{AllTurn, Turn, behind_frame, frame_at};
 
 /// THE LIVES OF A RING'S SLAVES ARE LED from the moment these are switched on; and by each exchange of a frame that the master made, where mails that are passed
 /// on go on by the news that the records say of it; and the records' counters are those that stand behind it. Each epoch begins with what its slave had, cleared,

@@ -2,15 +2,15 @@
 //! a law, no running code: the function here does nothing, and its contract states the law.
 #![tactic(auto)]
 
-ghost use Rattle.life_runs.specs.Led.{Exchanged};
-ghost use Rattle.plan_ring.specs.Lives.{IsKnown};
-ghost use Rattle.plan_ring.specs.Round.{AllRound, ring_of};
+ghost use Rattle.served_places.specs.of_life_runs.Led.{Exchanged};
+ghost use Rattle.run_work.specs.of_plan_ring.Lives.{IsKnown};
+ghost use Rattle.run_work.specs.of_plan_ring.Round.{AllRound, ring_of};
 ghost use Rattle.run_work.specs.Fair.{AsksFair};
 ghost use Rattle.run_work.specs.Lives.{AllServedLives};
-ghost use Rattle.segment_plan.specs.Sound.{IsPlan};
-ghost use Rattle.segment_plan.specs.declared.plan.Scenario.{Scenario};
+ghost use Rattle.run_work.specs.of_segment_plan.Sound.{IsPlan};
+ghost use Rattle.run_work.specs.of_segment_plan.declared.plan.Scenario.{Scenario};
 ghost use Rattle.served_rings.specs.Rings.{AreServedLived};
-ghost use Rattle.life_runs.specs.Served.{ServeTo, Serves};
+ghost use Rattle.served_places.specs.of_life_runs.Served.{ServeTo, Serves};
 ghost use Rattle.std.specs.Prelude.{ℕ, All, List};
 
 pub mod era_counters;
@@ -29,6 +29,9 @@ pub mod served_replies;
 pub mod served_rests;
 pub mod stood_rings;
 pub mod told_eras;
+
+pub use run_work;
+pub use run_work::{few_replies, life_runs, plan_ring, run_frames};
 
 /// A MASTER THAT LEADS A SERVING, by frames that went round the ring of its plan's slaves, with mails asked between them, leads lives that the nodes of the ring live
 /// as they are led: whatever frames are lost, and where slaves are given up, taken up again or returned to Init.

@@ -2,23 +2,25 @@
 //! functions here do nothing, and their contracts state the laws.
 
 ghost use Rattle.std.specs.Prelude.{ℕ, Bool};
-ghost use Rattle.frame_view.specs.View.{Lens};
-ghost use Rattle.life_model.specs.Lives.{Spot, Life};
-ghost use Rattle.link_mails.specs.Body.{Body};
-ghost use Rattle.master_duty.specs.Reply.{Reply};
+ghost use Rattle.run_work.specs.of_frame_view.View.{Lens};
+ghost use Rattle.served_places.specs.of_life_model.Lives.{Spot, Life};
+ghost use Rattle.served_places.specs.of_link_mails.Body.{Body};
+ghost use Rattle.run_work.specs.of_master_duty.Reply.{Reply};
 ghost use Rattle.run_work.specs.of_master_hand.Spoken.{Asked};
-ghost use Rattle.served_places.specs.of_few_replies.Clearing.{Forgets};
+ghost use Rattle.run_work.specs.of_few_replies.Clearing.{Forgets};
 ghost use Rattle.served_rings.specs.SeenLed.{IsFairLife, IsLedLife};
 ghost use Rattle.run_work.specs.Fair.{AsksFair};
 ghost use Rattle.run_work.specs.Lives.{IsServedLife};
-ghost use Rattle.life_runs.specs.Came.{HasServed};
-ghost use Rattle.life_runs.specs.Served.{Serves};
-ghost use Rattle.slave_model.specs.Profile.{Profile, IsProfile};
-ghost use Rattle.slave_parts.specs.Parts.{Server};
-ghost use Rattle.state_model.specs.Families.{InState};
-ghost use Rattle.state_model.specs.Stated.{IsStated};
+ghost use Rattle.served_places.specs.of_life_runs.Came.{HasServed};
+ghost use Rattle.served_places.specs.of_life_runs.Served.{Serves};
+ghost use Rattle.run_work.specs.of_slave_model.Profile.{Profile, IsProfile};
+ghost use Rattle.run_work.specs.of_slave_parts.Parts.{Server};
+ghost use Rattle.served_places.specs.of_state_model.Families.{InState};
+ghost use Rattle.served_places.specs.of_state_model.Stated.{IsStated};
 ghost use Rattle.run_work.specs.of_life_counts.Epochs.{IsSpeaker, IsRun};
 ghost use Rattle.served_rings.specs.Speakers.{any_speaker, speaker, spoken, spoken_states, table_of, processor_of, seer_of, cleared_whole};
+
+use run_work::{few_replies, slave_parts};
 
 /// A SLAVE OF A PLAN AND ITS MASTER keep the laws of both: the server owes those of its services and of its AL state in whatever state it is, with fair mails
 /// among them, gives replies first, of which the last tells that it is; and the master speaks as the clients of the slave's protocols do.

@@ -2,14 +2,14 @@
 //! laws, no running code: the functions here do nothing, and their contracts state the laws.
 
 ghost use Rattle.std.specs.Prelude.{ℕ, Option, List};
-ghost use Rattle.exchange_model.specs.Exchange.{Exchange};
-ghost use Rattle.life_model.specs.Eras.{EraIs};
-ghost use Rattle.life_model.specs.Lives.{Spot, Era, Life};
-ghost use Rattle.served_places.specs.of_few_replies.Clearing.{InRow, Forgets};
-ghost use Rattle.segment_model.specs.Record.{Frame};
-ghost use Rattle.segment_model.specs.Slaves.{Registers, Processor, Slave};
-ghost use Rattle.serving_model.specs.Tagged.{Tagged, Asked, Rowed};
-ghost use Rattle.state_model.specs.States.{Table};
+ghost use Rattle.served_places.specs.of_exchange_model.Exchange.{Exchange};
+ghost use Rattle.served_places.specs.of_life_model.Eras.{EraIs};
+ghost use Rattle.served_places.specs.of_life_model.Lives.{Spot, Era, Life};
+ghost use Rattle.run_work.specs.of_few_replies.Clearing.{InRow, Forgets};
+ghost use Rattle.served_places.specs.of_segment_model.Record.{Frame};
+ghost use Rattle.served_places.specs.of_segment_model.Slaves.{Registers, Processor, Slave};
+ghost use Rattle.served_places.specs.of_serving_model.Tagged.{Tagged, Asked, Rowed};
+ghost use Rattle.served_places.specs.of_state_model.States.{Table};
 ghost use Rattle.run_work.specs.of_life_counts.Epochs.{Speaker, IsSpeaker, IsRun, between, seeing, seeing_states};
 ghost use Rattle.served_rings.specs.SeenLed.{IsFairLife, IsSeenLife, IsLedLife};
 

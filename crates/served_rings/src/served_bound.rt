@@ -1,21 +1,21 @@
 //! The frames of a serving of a plan are fewer than the frame bound. Definitions and a law, no running code: the function here does nothing, and its contract
 //! states the law.
 
-ghost use Rattle.life_runs.specs.Led.{Exchanged};
-ghost use Rattle.link_mails.specs.Body.{Body};
-ghost use Rattle.master_duty.specs.Reply.{Reply};
+ghost use Rattle.served_places.specs.of_life_runs.Led.{Exchanged};
+ghost use Rattle.served_places.specs.of_link_mails.Body.{Body};
+ghost use Rattle.run_work.specs.of_master_duty.Reply.{Reply};
 ghost use Rattle.run_work.specs.of_master_hand.Spoken.{Asked};
-ghost use Rattle.plan_ring.specs.Lives.{IsKnown};
-ghost use Rattle.run_work.specs.of_run_frames.Clocks.{Clocked};
-ghost use Rattle.run_work.specs.of_run_frames.Runs.{Progress};
+ghost use Rattle.run_work.specs.of_plan_ring.Lives.{IsKnown};
+ghost use Rattle.served_places.specs.of_run_frames.Clocks.{Clocked};
+ghost use Rattle.served_places.specs.of_run_frames.Runs.{Progress};
 ghost use Rattle.run_work.specs.Fair.{AsksFair};
 ghost use Rattle.run_work.specs.ServedGained.{asked_in, leads_of};
 ghost use Rattle.run_work.specs.Switched.{AreSwitched};
-ghost use Rattle.segment_plan.specs.Bound.{bound_of};
-ghost use Rattle.segment_plan.specs.Sound.{IsPlan};
-ghost use Rattle.segment_plan.specs.declared.plan.Scenario.{Scenario};
+ghost use Rattle.run_work.specs.of_segment_plan.Bound.{bound_of};
+ghost use Rattle.run_work.specs.of_segment_plan.Sound.{IsPlan};
+ghost use Rattle.run_work.specs.of_segment_plan.declared.plan.Scenario.{Scenario};
 ghost use Rattle.served_rings.specs.Servings.{IsPlanServing};
-ghost use Rattle.life_runs.specs.Served.{Serves};
+ghost use Rattle.served_places.specs.of_life_runs.Served.{Serves};
 ghost use Rattle.std.specs.Prelude.{◌≢◌, ◌≤◌, ◌<◌, ℕ, All, List, length};
 
 /// THE FRAMES OF A SERVING, of a plan that was read, that its master led by visits of one tour and that went round its ring, with fair mails asked between them,

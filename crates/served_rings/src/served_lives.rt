@@ -2,23 +2,23 @@
 //! function here does nothing, and its contract states the law.
 
 ghost use Rattle.std.specs.Prelude.{◌≡◌, ℕ, Bool, true, List};
-ghost use Rattle.frame_view.specs.View.{Lens};
+ghost use Rattle.run_work.specs.of_frame_view.View.{Lens};
 ghost use Rattle.served_rings.specs.Lives.{IsLedLived};
-ghost use Rattle.life_model.specs.Lives.{Life, Spot};
-ghost use Rattle.link_mails.specs.Body.{Body};
-ghost use Rattle.master_duty.specs.Reply.{Reply};
+ghost use Rattle.served_places.specs.of_life_model.Lives.{Life, Spot};
+ghost use Rattle.served_places.specs.of_link_mails.Body.{Body};
+ghost use Rattle.run_work.specs.of_master_duty.Reply.{Reply};
 ghost use Rattle.run_work.specs.of_master_hand.Spoken.{Asked, is_followed, is_passed};
 ghost use Rattle.served_rings.specs.Speakers.{cleared_whole, processor_of, seer_of, speaker, spoken, table_of};
 ghost use Rattle.served_rings.specs.SeenLed.{IsLedLife};
-ghost use Rattle.segment_model.specs.Record.{Frame, Kept};
+ghost use Rattle.served_places.specs.of_segment_model.Record.{Frame, Kept};
 ghost use Rattle.served_rings.specs.Serves.{serves};
-ghost use Rattle.few_replies.specs.Packets.{is_calm};
-ghost use Rattle.plan_ring.specs.of_slave_lives.Opening.{Plan};
-ghost use Rattle.slave_model.specs.Profile.{Profile};
-ghost use Rattle.slave_parts.specs.Parts.{Server};
-ghost use Rattle.plan_ring.specs.of_slave_server.Serving.{Serving};
-ghost use Rattle.slave_node.specs.Node.{Node};
-ghost use Rattle.state_model.specs.Families.{InState};
+ghost use Rattle.run_work.specs.of_few_replies.Packets.{is_calm};
+ghost use Rattle.run_work.specs.of_slave_lives.Opening.{Plan};
+ghost use Rattle.run_work.specs.of_slave_model.Profile.{Profile};
+ghost use Rattle.run_work.specs.of_slave_parts.Parts.{Server};
+ghost use Rattle.run_work.specs.of_slave_server.Serving.{Serving};
+ghost use Rattle.run_work.specs.of_slave_node.Node.{Node};
+ghost use Rattle.served_places.specs.of_state_model.Families.{InState};
 ghost use Rattle.served_rings.specs.Clearing.{in_init, serves_clearing};
 
 /// A LIFE THAT A SLAVE'S NODE LIVES by epochs that its master leads is one that the master leads of the slave it speaks with, from the server in Init with which

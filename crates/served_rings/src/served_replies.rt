@@ -2,23 +2,23 @@
 //! running code: the function here does nothing, and its contract states the law.
 
 ghost use Rattle.std.specs.Prelude.{◌≡◌, ◌∷◌, ℕ, suc, Bool, false, [], List};
-ghost use Rattle.life_runs.specs.Led.{Exchanged};
-ghost use Rattle.link_mails.specs.Body.{Body};
-ghost use Rattle.mailbox_mail.specs.declared.mail.Kind.{Kind};
-ghost use Rattle.mailbox_mail.specs.declared.mail.Mail.{Mail};
+ghost use Rattle.served_places.specs.of_life_runs.Led.{Exchanged};
+ghost use Rattle.served_places.specs.of_link_mails.Body.{Body};
+ghost use Rattle.run_work.specs.of_mailbox_mail.declared.mail.Kind.{Kind};
+ghost use Rattle.run_work.specs.of_mailbox_mail.declared.mail.Mail.{Mail};
 ghost use Rattle.run_work.specs.of_master_hand.Spoken.{passed};
-ghost use Rattle.plan_ring.specs.Lives.{IsKnown};
-ghost use Rattle.plan_ring.specs.Round.{AllRound, ring_of};
-ghost use Rattle.segment_plan.specs.Sound.{IsPlan};
-ghost use Rattle.segment_plan.specs.declared.plan.Scenario.{Scenario};
+ghost use Rattle.run_work.specs.of_plan_ring.Lives.{IsKnown};
+ghost use Rattle.run_work.specs.of_plan_ring.Round.{AllRound, ring_of};
+ghost use Rattle.run_work.specs.of_segment_plan.Sound.{IsPlan};
+ghost use Rattle.run_work.specs.of_segment_plan.declared.plan.Scenario.{Scenario};
 ghost use Rattle.served_rings.specs.Served.{replies_to, server_behind};
 ghost use Rattle.served_rings.specs.Stood.{ServeSo};
-ghost use Rattle.life_runs.specs.Served.{ServeTo, Serves};
-ghost use Rattle.slave_model.specs.Profile.{Profile};
-ghost use Rattle.slave_model.specs.Server.{failure};
-ghost use Rattle.slave_parts.specs.Parts.{Server};
-ghost use Rattle.state_model.specs.Families.{InState};
-ghost use Rattle.state_model.specs.Stated.{Service};
+ghost use Rattle.served_places.specs.of_life_runs.Served.{ServeTo, Serves};
+ghost use Rattle.run_work.specs.of_slave_model.Profile.{Profile};
+ghost use Rattle.run_work.specs.of_slave_model.Server.{failure};
+ghost use Rattle.run_work.specs.of_slave_parts.Parts.{Server};
+ghost use Rattle.served_places.specs.of_state_model.Families.{InState};
+ghost use Rattle.served_places.specs.of_state_model.Stated.{Service};
 
 /// EACH SLAVE OF A SERVING has carried out, epoch by epoch, just the first of the rows that came into hand of it, each mail that was passed on by the one step that
 /// its server takes for it; and of each of these mails just the first of the replies of that step were heard, all of them where it is over: behind any frames that

@@ -2,14 +2,16 @@
 //! and its contract states the law.
 
 ghost use Rattle.std.specs.Prelude.{ℕ, List};
-ghost use Rattle.life_runs.specs.Led.{Exchanged};
-ghost use Rattle.plan_ring.specs.Lives.{IsKnown};
-ghost use Rattle.plan_ring.specs.Round.{AllRound, ring_after, ring_of};
-ghost use Rattle.segment_plan.specs.Sound.{IsPlan};
-ghost use Rattle.segment_plan.specs.declared.plan.Scenario.{Scenario};
+ghost use Rattle.served_places.specs.of_life_runs.Led.{Exchanged};
+ghost use Rattle.run_work.specs.of_plan_ring.Lives.{IsKnown};
+ghost use Rattle.run_work.specs.of_plan_ring.Round.{AllRound, ring_after, ring_of};
+ghost use Rattle.run_work.specs.of_segment_plan.Sound.{IsPlan};
+ghost use Rattle.run_work.specs.of_segment_plan.declared.plan.Scenario.{Scenario};
 ghost use Rattle.served_rings.specs.Rests.{AllServedDoneIf};
 ghost use Rattle.served_rings.specs.Rings.{nodes_behind};
-ghost use Rattle.life_runs.specs.Served.{ServeTo, Serves};
+ghost use Rattle.served_places.specs.of_life_runs.Served.{ServeTo, Serves};
+
+use run_work::life_runs;
 
 /// WHERE NOTHING IS LEFT: of each slave of a serving that is settled and of which its master wants nothing, all services of its script came into hand, and the mails
 /// that were asked of it, in order, and all of them where it was never given up; and all rows of its newest epoch are carried out, each once and in order, each

@@ -2,14 +2,16 @@
 //! nothing, and its contract states the law.
 
 ghost use Rattle.std.specs.Prelude.{ℕ, List};
-ghost use Rattle.life_runs.specs.First.{lens_of};
-ghost use Rattle.life_runs.specs.Led.{Exchanged};
-ghost use Rattle.plan_ring.specs.Lives.{IsKnown};
-ghost use Rattle.plan_ring.specs.Round.{AllRound, all_seen, ring_of};
-ghost use Rattle.segment_plan.specs.Sound.{IsPlan};
-ghost use Rattle.segment_plan.specs.declared.plan.Scenario.{Scenario};
+ghost use Rattle.served_places.specs.of_life_runs.First.{lens_of};
+ghost use Rattle.served_places.specs.of_life_runs.Led.{Exchanged};
+ghost use Rattle.run_work.specs.of_plan_ring.Lives.{IsKnown};
+ghost use Rattle.run_work.specs.of_plan_ring.Round.{AllRound, all_seen, ring_of};
+ghost use Rattle.run_work.specs.of_segment_plan.Sound.{IsPlan};
+ghost use Rattle.run_work.specs.of_segment_plan.declared.plan.Scenario.{Scenario};
 ghost use Rattle.served_rings.specs.ToldEras.{AllToldLives};
-ghost use Rattle.life_runs.specs.Served.{ServeTo, Serves};
+ghost use Rattle.served_places.specs.of_life_runs.Served.{ServeTo, Serves};
+
+use run_work::plan_ring;
 
 /// EACH SERVICE OF A SERVING HAS JUST THE ANSWER THAT THE FRAMES OF ITS EPOCH GIVE, of the frame that completed it, and none where they give none; and so has each
 /// change of the AL state: whatever frames are lost, and where slaves are given up, taken up again or returned to Init. Of mails that are passed on nothing is said

@@ -1,12 +1,12 @@
 -- What is meant by the mails is told by no octet, and needn't be: a server that took a first part of the mails of rows, each row with all its
 -- mails before the next, is the one without tags, and gives the same mails.
 use Rattle.std.proofs.Common.{◌≡◌, ◌≢◌, inl, inr, Bool, true, false, Option, List, [], ◌∷◌, ◌++◌, refl, sym, ap, ap₂, ◌∙◌, subst, append_assoc, append-nil, if◌then◌else◌}
-use Rattle.exchange_model.specs.Prefix.{IsPrefixOf}
-use Rattle.exchange_model.specs.Exchange.{Exchange, after, given}
-use Rattle.exchange_model.specs.Rows.{Row, Settled, told_all}
-use Rattle.exchange_model.proofs.Lists.{cut}
-use Rattle.exchange_model.proofs.Words.{after-append, given-append}
-use Rattle.exchange_model.proofs.Settles.{whole_ready}
+use Rattle.state_model.specs.of_exchange_model.Prefix.{IsPrefixOf}
+use Rattle.state_model.specs.of_exchange_model.Exchange.{Exchange, after, given}
+use Rattle.state_model.specs.of_exchange_model.Rows.{Row, Settled, told_all}
+use Rattle.state_model.proofs.of_exchange_model.Lists.{cut}
+use Rattle.state_model.proofs.of_exchange_model.Words.{after-append, given-append}
+use Rattle.state_model.proofs.of_exchange_model.Settles.{whole_ready}
 use Rattle.serving_model.specs.Tagged.{IsServed, Meant, Tagged, Asked, untag, told, no_reply, last_gifts, answer_gifts, Rowed, real, ideal, tagged, IsReal, IsForeseen, AllForeseen}
 use Rattle.serving_model.proofs.TaggedLaw.{untag-told, untag-append, untag-gift, told-after, told-given, full_behind, cut_told, CutTold, cut_alone, tagged_lawful, owns}
 

@@ -1,10 +1,10 @@
 -- What a slave does doesn't depend on what is in its mails, but for its server.
 use Rattle.std.proofs.Common.{◌≡◌, ℕ, ◌==◌, ◌&&◌, Bool, true, false, is_none, is_some, Option, None, Some, List, [], ◌∷◌, ◌++◌, map, drop, refl, sym, ap, ap₂, ◌∙◌, if◌then◌else◌}
-use Rattle.exchange_model.specs.Exchange.{Exchange}
-use Rattle.link_model.specs.Mails.{LinkMail, is_repeat, first_of, differs}
-use Rattle.link_model.specs.Slave.{OutSide, InSide, Node, noticed, repeated, request_answered, looked, mail_taken, served, offers, mail_offered, is_free, node_take, node_takes, node_offer, node_serve, all_taken, all_given}
-use Rattle.link_model.specs.Link.{written}
-use Rattle.link_model.specs.Frames.{Ask, Gram, node_meets, gram_meets, write_done, read_done}
+use Rattle.state_model.specs.of_exchange_model.Exchange.{Exchange}
+use Rattle.state_model.specs.of_link_model.Mails.{LinkMail, is_repeat, first_of, differs}
+use Rattle.state_model.specs.of_link_model.Slave.{OutSide, InSide, Node, noticed, repeated, request_answered, looked, mail_taken, served, offers, mail_offered, is_free, node_take, node_takes, node_offer, node_serve, all_taken, all_given}
+use Rattle.state_model.specs.of_link_model.Link.{written}
+use Rattle.state_model.specs.of_link_model.Frames.{Ask, Gram, node_meets, gram_meets, write_done, read_done}
 use Rattle.state_model.specs.of_segment_model.Slaves.{Serving, serving, first_waiting, Access, Found, Slave, Datagram, is_meant, registers_met, counter_met, found_met, address_behind, slave_meets, datagram_meets, slave_after, frame_after}
 use Rattle.serving_model.specs.Erasing.{mail_as, box_as, out_as, in_as, serving_as, node_as, slave_as, ask_as, gram_as, datagram_as, all_as}
 

@@ -1,7 +1,7 @@
 -- All replies of a mail that is passed on are heard in its row, and the last tells that it is the last.
 use Rattle.std.proofs.Common.{◌≡◌, inl, inr, Bool, true, false, not, cond, Option, List, [], ◌∷◌, ◌++◌, refl, ap, sym, ◌∙◌, subst, append-nil, if◌then◌else◌}
-use Rattle.exchange_model.specs.Exchange.{Exchange, given, plain}
-use Rattle.exchange_model.specs.Rows.{Row, IsWhole}
+use Rattle.state_model.specs.of_exchange_model.Exchange.{Exchange, given, plain}
+use Rattle.state_model.specs.of_exchange_model.Rows.{Row, IsWhole}
 use Rattle.serving_model.specs.Tagged.{Meant, Tagged, Asked, Rowed, untag, is_own, no_reply, last_gifts, answer_gifts, ends_marked, ideal, tagged, IsForeseen}
 use Rattle.serving_model.specs.Passing.{ends_told, LastTells, PassedWhole}
 

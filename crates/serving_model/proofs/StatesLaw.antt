@@ -1,7 +1,7 @@
 -- Its AL state is a part of the server behind whole rows.
 use Rattle.std.proofs.Common.{◌≡◌, ℕ, suc, ◌+◌, ◌-◌, ◌==◌, ◌&&◌, nat_lt, length, Bool, true, false, Option, None, Some, List, [], ◌∷◌, ◌++◌, inl, inr, append-nil, refl, sym, ap, ap₂, ◌∙◌, arith, if◌then◌else◌, eqb-true}
 use Rattle.std.proofs.lemmas.List.{length-map}
-use Rattle.exchange_model.specs.Exchange.{Exchange, AnswersLast, given, outnumbers, plain}
+use Rattle.state_model.specs.of_exchange_model.Exchange.{Exchange, AnswersLast, given, outnumbers, plain}
 use Rattle.state_model.specs.Stated.{Stated, IsStated}
 use Rattle.serving_model.specs.Tagged.{IsServed, Meant, Tagged, Asked, more_of, told, untag, answer_gifts, ends_marked, Rowed, ideal, ideal_in, real, rows_done, serve_tagged, tagged}
 use Rattle.serving_model.specs.TaggedStates.{told_state, tagged_states, IsStatedServed}

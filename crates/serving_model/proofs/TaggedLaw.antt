@@ -1,9 +1,9 @@
 -- Services from any server, with mails that are passed on, keep the laws of an exchange.
 use Rattle.std.proofs.Common.{◌≡◌, ◌≢◌, ◌⊎◌, inl, inr, ℕ, suc, ◌+◌, ◌-◌, ◌≤◌, ◌==◌, Bool, true, false, not, cond, Option, None, Some, option_map, List, [], ◌∷◌, ◌++◌, map, refl, sym, ap, ap₂, ◌∙◌, subst, arith, append_assoc, append-nil, if◌then◌else◌}
 use Rattle.std.proofs.lemmas.Bool.Decides.{nat_tests}
-use Rattle.exchange_model.specs.Prefix.{IsPrefixOf}
-use Rattle.exchange_model.specs.Exchange.{Exchange, IsLawful, Before, Behind, after, given, plain, emitted}
-use Rattle.exchange_model.proofs.Words.{after-append}
+use Rattle.state_model.specs.of_exchange_model.Prefix.{IsPrefixOf}
+use Rattle.state_model.specs.of_exchange_model.Exchange.{Exchange, IsLawful, Before, Behind, after, given, plain, emitted}
+use Rattle.state_model.proofs.of_exchange_model.Words.{after-append}
 use Rattle.serving_model.specs.Tagged.{IsServed, Untouched, Touched, Meant, Tagged, Asked, untag, more_of, told, gift, own_gift, is_own, is_mark, no_reply, last_gifts, answer_gifts, ends_marked, Rowed, real, ideal, rows_done, serve_tagged, tagged}
 
 map_append : {M N : Type 0} (f : M → N) (xs ys : List M) → map f (xs ++ ys) ≡ map f xs ++ map f ys

@@ -1,8 +1,8 @@
 -- The adder owes the laws of a server in whatever state it is, so sums, posts and mails that are passed on are one lawful exchange.
 use Rattle.std.proofs.Common.{◌≡◌, ◌≢◌, ◌⊎◌, inl, inr, suc, List, [], ◌++◌, refl}
-use Rattle.exchange_model.specs.Exchange.{IsLawful, Behind, after}
-use Rattle.exchange_model.specs.Toy.{Mail, Service, sum, post, Adder, adder}
-use Rattle.exchange_model.proofs.Toys.{adder_law}
+use Rattle.state_model.specs.of_exchange_model.Exchange.{IsLawful, Behind, after}
+use Rattle.state_model.specs.of_exchange_model.Toy.{Mail, Service, sum, post, Adder, adder}
+use Rattle.state_model.proofs.of_exchange_model.Toys.{adder_law}
 use Rattle.serving_model.specs.Tagged.{IsServed, Untouched, Touched, tagged}
 use Rattle.serving_model.specs.Toy.{behind, served_adder, value_of}
 use Rattle.serving_model.proofs.TaggedLaw.{tagged_lawful}

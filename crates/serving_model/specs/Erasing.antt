@@ -1,8 +1,8 @@
 -- A slave, a datagram and a frame with the mails as another sees them.
 use Rattle.std.specs.Prelude.{Option, Some, None, List, map}
-use Rattle.link_model.specs.Mails.{LinkMail}
-use Rattle.link_model.specs.Slave.{OutSide, InSide, Node}
-use Rattle.link_model.specs.Frames.{Ask, Gram}
+use Rattle.state_model.specs.of_link_model.Mails.{LinkMail}
+use Rattle.state_model.specs.of_link_model.Slave.{OutSide, InSide, Node}
+use Rattle.state_model.specs.of_link_model.Frames.{Ask, Gram}
 use Rattle.state_model.specs.of_segment_model.Slaves.{Serving, Slave, Datagram}
 
 -- a mail of a link

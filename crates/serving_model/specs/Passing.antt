@@ -1,7 +1,7 @@
 -- When a mail that is passed on is over, by the contents of its replies.
 use Rattle.std.specs.Prelude.{◌≡◌, ◌⊎◌, Bool, true, false, not, if◌then◌else◌, Option, List, [], ◌∷◌}
-use Rattle.exchange_model.specs.Exchange.{Exchange, plain}
-use Rattle.exchange_model.specs.Rows.{Row}
+use Rattle.state_model.specs.of_exchange_model.Exchange.{Exchange, plain}
+use Rattle.state_model.specs.of_exchange_model.Rows.{Row}
 use Rattle.serving_model.specs.Tagged.{Tagged, Asked, Rowed, untag, is_own, ideal}
 
 -- all of these mails go on but the last: `more` tells that a mail goes on

@@ -1,9 +1,9 @@
 -- Services from any server, and mails that are passed on, as one exchange. A mail is seen with what its sender means by it, which no octet
 -- says: so the server behind whole rows is known, though a mail that is passed on may leave a transfer unfinished, and may count nothing.
 use Rattle.std.specs.Prelude.{◌≡◌, ◌≢◌, ◌⊎◌, ℕ, suc, ◌+◌, ◌-◌, ◌==◌, ◌≤◌, ◌&&◌, Bool, true, false, not, if◌then◌else◌, Option, None, Some, option_map, List, [], ◌∷◌, ◌++◌, map, ⊤}
-use Rattle.exchange_model.specs.Prefix.{IsPrefixOf}
-use Rattle.exchange_model.specs.Exchange.{Exchange, Speech, after, given, plain, emitted}
-use Rattle.exchange_model.specs.Rows.{Row}
+use Rattle.state_model.specs.of_exchange_model.Prefix.{IsPrefixOf}
+use Rattle.state_model.specs.of_exchange_model.Exchange.{Exchange, Speech, after, given, plain, emitted}
+use Rattle.state_model.specs.of_exchange_model.Rows.{Row}
 
 -- these mails leave the number of services and the emissions as they were, and all that is seen of the server
 pub record Untouched {V M Q R C : Type 0} (x : Exchange V V M Q R) (core : V → C) (v : V) (ms : List M) : Type 0 where

@@ -1,6 +1,6 @@
 -- How an AL state stands in that exchange: a server that is told the state that stands stays as it is, in a row too.
 use Rattle.std.specs.Prelude.{◌≡◌, ℕ, ◌==◌, Bool, false, if◌then◌else◌, None, []}
-use Rattle.exchange_model.specs.Exchange.{Exchange, AnswersLast}
+use Rattle.state_model.specs.of_exchange_model.Exchange.{Exchange, AnswersLast}
 use Rattle.state_model.specs.Stated.{Stated}
 use Rattle.serving_model.specs.Tagged.{Asked, Rowed, ideal, rows_done}
 

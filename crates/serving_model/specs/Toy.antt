@@ -1,7 +1,7 @@
 -- The adder, served in whatever state it is: a mail that is passed on may leave a half sum, and the next sum begins anew.
 use Rattle.std.specs.Prelude.{ℕ, suc, ◌+◌, None, [], ◌∷◌}
-use Rattle.exchange_model.specs.Exchange.{Exchange}
-use Rattle.exchange_model.specs.Toy.{Mail, noted, Service, sum, post, Adder, adder, number}
+use Rattle.state_model.specs.of_exchange_model.Exchange.{Exchange}
+use Rattle.state_model.specs.of_exchange_model.Toy.{Mail, noted, Service, sum, post, Adder, adder, number}
 
 -- a sum ends the unfinished one, a post leaves it
 abbrev pub behind : Adder → Service → Adder

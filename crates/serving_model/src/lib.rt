@@ -2,10 +2,10 @@
 #![tactic(auto)]
 
 ghost use Rattle.std.specs.Prelude.{◌≡◌, ℕ, Bool, true, false, Option, List, [], ◌∷◌, ◌++◌, map};
-ghost use Rattle.exchange_model.specs.Prefix.{IsPrefixOf};
-ghost use Rattle.exchange_model.specs.Exchange.{Exchange, IsLawful, after, plain};
-ghost use Rattle.exchange_model.specs.Rows.{Row, IsWhole, Settled, told_all};
-ghost use Rattle.link_model.specs.Slave.{Node, node_takes, node_serve};
+ghost use Rattle.state_model.specs.of_exchange_model.Prefix.{IsPrefixOf};
+ghost use Rattle.state_model.specs.of_exchange_model.Exchange.{Exchange, IsLawful, after, plain};
+ghost use Rattle.state_model.specs.of_exchange_model.Rows.{Row, IsWhole, Settled, told_all};
+ghost use Rattle.state_model.specs.of_link_model.Slave.{Node, node_takes, node_serve};
 ghost use Rattle.state_model.specs.of_segment_model.Slaves.{Slave, Serving, serving, Datagram, slave_after, frame_after};
 ghost use Rattle.state_model.specs.Stated.{Stated, IsStated};
 ghost use Rattle.serving_model.specs.Tagged.{IsServed, Tagged, Asked, Rowed, real, ideal, tagged, untag, is_own, no_reply, answer_gifts, ends_marked, IsReal, IsForeseen, AllForeseen};

@@ -2,43 +2,43 @@
 use Rattle.std.proofs.Common.{◌≡◌, ℕ, suc, ◌==◌, ◌≤◌, ◌-◌, ◌&&◌, Bool, true, false, List, [], ◌∷◌, map, length, Option, Some, None, Result, Ok, Err, refl, sym, ap, subst, ◌∙◌}
 use Rattle.std.proofs.lemmas.Bool.{le-leb}
 use Rattle.std.specs.Prelude.{if◌then◌else◌, nat_le, option_map, unwrap_or, IfOk}
-use Rattle.mailbox_mail.specs.declared.outcome.ReplyKind.{ReplyKind}
-use Rattle.object_dictionary.specs.Dictionary as Objects
-use Rattle.file_store.specs.Files as Store
-use Rattle.idn_table.specs.Idns as Idns
-use Rattle.link_mails.specs.Body.{Body}
-use Rattle.al_state.specs.Request as States
-use Rattle.state_model.specs.Promises.{reached, answer_of}
-use Rattle.exchange_model.specs.Exchange.{Exchange}
-use Rattle.exchange_model.specs.Refusing.{gated}
-use Rattle.eoe.specs.Address.{is_block}
-use Rattle.eoe.specs.Message.{eoe_text}
-use Rattle.eoe.specs.declared.message.Eoe.TheVariants.{Fragment as Part}
-use Rattle.eoe.specs.declared.message.Fragment.{Fragment}
-use Rattle.protocol_models.specs.CoeMails as CoeMails
-use Rattle.protocol_models.specs.CoeMeaning as Coe
-use Rattle.protocol_models.specs.CoeOctets.{coe_mail_written}
-use Rattle.protocol_models.specs.CoeServer.{Emission, emergency, packet, emission_of, issued}
-use Rattle.protocol_models.specs.Tables as Tables
-use Rattle.coe_server.specs.ObjectTables.{stores, reads, tells}
-use Rattle.protocol_models.specs.FoeMeaning as Foe
-use Rattle.protocol_models.specs.SoeClient as Soe
-use Rattle.protocol_models.specs.Elements as Elements
-use Rattle.protocol_models.specs.EoeClient as Eoe
-use Rattle.protocol_models.specs.Echo.{echo_of}
-use Rattle.protocol_models.specs.EoeMails as EoeMails
-use Rattle.protocol_models.specs.Network.{Station}
-use Rattle.protocol_models.specs.EoeOctets.{eoe_mail_written}
-use Rattle.protocol_models.specs.EoeServer.{sends, addressed}
-use Rattle.segment_plan.specs.declared.service.Service as Plan
-use Rattle.state_model.specs.Families.{InState}
-use Rattle.segment_plan.specs.declared.service.Service.TheVariants as Asked
-use Rattle.slave_model.specs.Profile.{Protocol, Profile, serves}
-use Rattle.slave_model.specs.Application as Application
-use Rattle.slave_model.specs.Application.{station_tables, station_files, network}
-use Rattle.slave_model.specs.Server.{Seat, Reply, ServiceOf, told_by}
-use Rattle.slave_model.specs.Product.{served, refusal, side, product}
-use Rattle.slave_parts.specs.Parts.{Core, parts}
+use Rattle.slave_server.specs.of_mailbox_mail.declared.outcome.ReplyKind.{ReplyKind}
+use Rattle.slave_server.specs.of_object_dictionary.Dictionary as Objects
+use Rattle.slave_server.specs.of_file_store.Files as Store
+use Rattle.slave_server.specs.of_idn_table.Idns as Idns
+use Rattle.slave_server.specs.of_link_mails.Body.{Body}
+use Rattle.slave_server.specs.of_al_state.Request as States
+use Rattle.slave_server.specs.of_state_model.Promises.{reached, answer_of}
+use Rattle.slave_server.specs.of_exchange_model.Exchange.{Exchange}
+use Rattle.slave_server.specs.of_exchange_model.Refusing.{gated}
+use Rattle.slave_server.specs.of_eoe.Address.{is_block}
+use Rattle.slave_server.specs.of_eoe.Message.{eoe_text}
+use Rattle.slave_server.specs.of_eoe.declared.message.Eoe.TheVariants.{Fragment as Part}
+use Rattle.slave_server.specs.of_eoe.declared.message.Fragment.{Fragment}
+use Rattle.slave_server.specs.of_protocol_models.CoeMails as CoeMails
+use Rattle.slave_server.specs.of_protocol_models.CoeMeaning as Coe
+use Rattle.slave_server.specs.of_protocol_models.CoeOctets.{coe_mail_written}
+use Rattle.slave_server.specs.of_protocol_models.CoeServer.{Emission, emergency, packet, emission_of, issued}
+use Rattle.slave_server.specs.of_protocol_models.Tables as Tables
+use Rattle.slave_server.specs.of_coe_server.ObjectTables.{stores, reads, tells}
+use Rattle.slave_server.specs.of_protocol_models.FoeMeaning as Foe
+use Rattle.slave_server.specs.of_protocol_models.SoeClient as Soe
+use Rattle.slave_server.specs.of_protocol_models.Elements as Elements
+use Rattle.slave_server.specs.of_protocol_models.EoeClient as Eoe
+use Rattle.slave_server.specs.of_protocol_models.Echo.{echo_of}
+use Rattle.slave_server.specs.of_protocol_models.EoeMails as EoeMails
+use Rattle.slave_server.specs.of_protocol_models.Network.{Station}
+use Rattle.slave_server.specs.of_protocol_models.EoeOctets.{eoe_mail_written}
+use Rattle.slave_server.specs.of_protocol_models.EoeServer.{sends, addressed}
+use Rattle.slave_server.specs.of_segment_plan.declared.service.Service as Plan
+use Rattle.slave_server.specs.of_state_model.Families.{InState}
+use Rattle.slave_server.specs.of_segment_plan.declared.service.Service.TheVariants as Asked
+use Rattle.slave_server.specs.of_slave_model.Profile.{Protocol, Profile, serves}
+use Rattle.slave_server.specs.of_slave_model.Application as Application
+use Rattle.slave_server.specs.of_slave_model.Application.{station_tables, station_files, network}
+use Rattle.slave_server.specs.of_slave_model.Server.{Seat, Reply, ServiceOf, told_by}
+use Rattle.slave_server.specs.of_slave_model.Product.{served, refusal, side, product}
+use Rattle.slave_server.specs.of_slave_parts.Parts.{Core, parts}
 use Rattle.slave_app.specs.declared.app.App.{App}
 use Rattle.slave_app.specs.declared.performed.Performed.{Performed}
 use Rattle.slave_app.specs.Meaning as Plain

@@ -1,13 +1,13 @@
 -- Each mail of a CoE service brings a reply at least.
 use Rattle.std.proofs.Common.{Bool}
-use Rattle.exchange_model.specs.Areas.{Areas, AreMailboxes}
-use Rattle.exchange_model.specs.Exchange.{AnswersLast}
-use Rattle.protocol_models.specs.Tables.{Tables, AreLawful}
-use Rattle.protocol_models.specs.CoeModel.{coe_exchange}
-use Rattle.protocol_models.specs.CoeOctets.{AreSpelled, coe_mail_heard, coe_mail_written, coe_mail_exchange}
-use Rattle.protocol_models.proofs.CoeSpelled.{coe_spells}
-use Rattle.protocol_models.proofs.CoeLasts.{none_behind}
-use Rattle.exchange_model.proofs.Lasts.{lifted_last}
+use Rattle.slave_server.specs.of_exchange_model.Areas.{Areas, AreMailboxes}
+use Rattle.slave_server.specs.of_exchange_model.Exchange.{AnswersLast}
+use Rattle.slave_server.specs.of_protocol_models.Tables.{Tables, AreLawful}
+use Rattle.slave_server.specs.of_protocol_models.CoeModel.{coe_exchange}
+use Rattle.slave_server.specs.of_protocol_models.CoeOctets.{AreSpelled, coe_mail_heard, coe_mail_written, coe_mail_exchange}
+use Rattle.slave_server.proofs.of_protocol_models.CoeSpelled.{coe_spells}
+use Rattle.slave_server.proofs.of_protocol_models.CoeLasts.{none_behind}
+use Rattle.slave_server.proofs.of_exchange_model.Lasts.{lifted_last}
 use Rattle.slave_app.specs.States.{acknowledged}
 
 module _ {S : Type 0} (o : Tables S) (law : AreLawful o) (eoe : Bool) (areas : Areas) (sized : AreMailboxes areas) where

@@ -1,16 +1,16 @@
 -- CoE over tables at each AL state, as a family of exchanges.
 use Rattle.std.proofs.Common.{ℕ, Bool, refl}
-use Rattle.exchange_model.specs.Areas.{Areas, AreMailboxes}
-use Rattle.exchange_model.specs.Exchange.{IsLawful}
-use Rattle.exchange_model.proofs.Lifting.{lifted_law}
-use Rattle.protocol_models.specs.Tables.{Tables, AreLawful}
-use Rattle.protocol_models.specs.CoeModel.{coe_exchange}
-use Rattle.protocol_models.specs.CoeOctets.{AreSpelled, coe_mail_heard, coe_mail_written, coe_mail_exchange}
-use Rattle.protocol_models.proofs.CoeLaw.{coe_law}
-use Rattle.protocol_models.proofs.CoeSpelled.{coe_spells}
-use Rattle.state_model.specs.Stated.{IsStated}
-use Rattle.state_model.specs.Families.{AreOneClient, states_of}
-use Rattle.state_model.proofs.FamilyLaw.{family_law, family_is_stated}
+use Rattle.slave_server.specs.of_exchange_model.Areas.{Areas, AreMailboxes}
+use Rattle.slave_server.specs.of_exchange_model.Exchange.{IsLawful}
+use Rattle.slave_server.proofs.of_exchange_model.Lifting.{lifted_law}
+use Rattle.slave_server.specs.of_protocol_models.Tables.{Tables, AreLawful}
+use Rattle.slave_server.specs.of_protocol_models.CoeModel.{coe_exchange}
+use Rattle.slave_server.specs.of_protocol_models.CoeOctets.{AreSpelled, coe_mail_heard, coe_mail_written, coe_mail_exchange}
+use Rattle.slave_server.proofs.of_protocol_models.CoeLaw.{coe_law}
+use Rattle.slave_server.proofs.of_protocol_models.CoeSpelled.{coe_spells}
+use Rattle.slave_server.specs.of_state_model.Stated.{IsStated}
+use Rattle.slave_server.specs.of_state_model.Families.{AreOneClient, states_of}
+use Rattle.slave_server.proofs.of_state_model.FamilyLaw.{family_law, family_is_stated}
 use Rattle.slave_app.specs.States.{AreOneKind, acknowledged, coe_states, coe_mail_states}
 use Rattle.slave_app.proofs.Lasts.{coe_last, coe_mail_last}
 

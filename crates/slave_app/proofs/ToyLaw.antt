@@ -1,13 +1,13 @@
 -- The small dictionary is lawful in each AL state, its mails have spellings, and so is its slave with state services.
 use Rattle.std.proofs.Common.{◌≡◌, ℕ, ◌<◌, ◌≤◌, ◌==◌, ◌&&◌, ◌||◌, not, nat_le, nat_lt, Bool, true, false, if◌then◌else◌, List, length, Option, None, Some, Ok, Err, refl, ap, ◌∙◌, subst, arith, leb-true, le-leb}
 use Rattle.std.proofs.lemmas.Bool.{eqb-true, ltb-false}
-use Rattle.exchange_model.specs.Areas.{AreMailboxes}
-use Rattle.exchange_model.specs.Exchange.{IsLawful}
-use Rattle.protocol_models.specs.Tables.{Target, AreLawful}
-use Rattle.protocol_models.specs.CoeServer.{emission_of, emergency, packet}
-use Rattle.protocol_models.specs.CoeOctets.{AreSpelled}
-use Rattle.state_model.specs.Families.{states_of}
-use Rattle.state_model.proofs.StatedLaw.{stated_law}
+use Rattle.slave_server.specs.of_exchange_model.Areas.{AreMailboxes}
+use Rattle.slave_server.specs.of_exchange_model.Exchange.{IsLawful}
+use Rattle.slave_server.specs.of_protocol_models.Tables.{Target, AreLawful}
+use Rattle.slave_server.specs.of_protocol_models.CoeServer.{emission_of, emergency, packet}
+use Rattle.slave_server.specs.of_protocol_models.CoeOctets.{AreSpelled}
+use Rattle.slave_server.specs.of_state_model.Families.{states_of}
+use Rattle.slave_server.proofs.of_state_model.StatedLaw.{stated_law}
 use Rattle.slave_app.specs.States.{AreOneKind, acknowledged, coe_states}
 use Rattle.slave_app.specs.Toys.{refused_by, refusal, unless_refused, drawer, steps, areas, slave}
 use Rattle.slave_app.proofs.StatesLaw.{coe_states_law, coe_states_are}

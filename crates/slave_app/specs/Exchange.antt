@@ -1,29 +1,29 @@
 -- The services of an application as the exchange of their mails has them.
 use Rattle.std.specs.Prelude.{◌≡◌, ℕ, suc, ◌+◌, ◌-◌, ◌≤◌, ◌%◌, true, false, List, [], ◌∷◌, map, length, Option, Some, None}
-use Rattle.link_mails.specs.Body.{Body}
-use Rattle.mailbox_mail.specs.declared.outcome.ReplyKind.{ReplyKind}
-use Rattle.al_state.specs.Request as States
-use Rattle.exchange_model.specs.Exchange.{Exchange}
-use Rattle.segment_model.specs.Ends.{Outcome}
-use Rattle.protocol_models.specs.CoeMails as CoeMails
-use Rattle.protocol_models.specs.CoeOctets.{coe_mail_written}
-use Rattle.protocol_models.specs.CoeServer.{Emission, emergency, packet}
-use Rattle.protocol_models.specs.FoeMeaning as Foe
-use Rattle.protocol_models.specs.SoeClient as Soe
-use Rattle.protocol_models.specs.Elements as Elements
-use Rattle.protocol_models.specs.EoeClient as Eoe
-use Rattle.protocol_models.specs.EoeMails.{packet_mails}
-use Rattle.protocol_models.specs.Network.{Station}
-use Rattle.protocol_models.specs.EoeOctets.{eoe_mail_written}
-use Rattle.segment_plan.specs.declared.service.Service as Plan
-use Rattle.segment_plan.specs.declared.service.Service.TheVariants as Asked
-use Rattle.state_model.specs.Families.{InState, states_of}
-use Rattle.state_model.specs.Stated as Stated
-use Rattle.slave_model.specs.Acknowledged.{acknowledged}
-use Rattle.slave_model.specs.Profile.{Protocol}
-use Rattle.slave_model.specs.Server.{ServiceOf, Reply, told_by}
-use Rattle.slave_model.specs.Product.{product}
-use Rattle.slave_parts.specs.Parts.{Core, Server, parts}
+use Rattle.slave_server.specs.of_link_mails.Body.{Body}
+use Rattle.slave_server.specs.of_mailbox_mail.declared.outcome.ReplyKind.{ReplyKind}
+use Rattle.slave_server.specs.of_al_state.Request as States
+use Rattle.slave_server.specs.of_exchange_model.Exchange.{Exchange}
+use Rattle.slave_server.specs.of_segment_model.Ends.{Outcome}
+use Rattle.slave_server.specs.of_protocol_models.CoeMails as CoeMails
+use Rattle.slave_server.specs.of_protocol_models.CoeOctets.{coe_mail_written}
+use Rattle.slave_server.specs.of_protocol_models.CoeServer.{Emission, emergency, packet}
+use Rattle.slave_server.specs.of_protocol_models.FoeMeaning as Foe
+use Rattle.slave_server.specs.of_protocol_models.SoeClient as Soe
+use Rattle.slave_server.specs.of_protocol_models.Elements as Elements
+use Rattle.slave_server.specs.of_protocol_models.EoeClient as Eoe
+use Rattle.slave_server.specs.of_protocol_models.EoeMails.{packet_mails}
+use Rattle.slave_server.specs.of_protocol_models.Network.{Station}
+use Rattle.slave_server.specs.of_protocol_models.EoeOctets.{eoe_mail_written}
+use Rattle.slave_server.specs.of_segment_plan.declared.service.Service as Plan
+use Rattle.slave_server.specs.of_segment_plan.declared.service.Service.TheVariants as Asked
+use Rattle.slave_server.specs.of_state_model.Families.{InState, states_of}
+use Rattle.slave_server.specs.of_state_model.Stated as Stated
+use Rattle.slave_server.specs.of_slave_model.Acknowledged.{acknowledged}
+use Rattle.slave_server.specs.of_slave_model.Profile.{Protocol}
+use Rattle.slave_server.specs.of_slave_model.Server.{ServiceOf, Reply, told_by}
+use Rattle.slave_server.specs.of_slave_model.Product.{product}
+use Rattle.slave_server.specs.of_slave_parts.Parts.{Core, Server, parts}
 use Rattle.slave_app.specs.declared.app.App.{App}
 use Rattle.slave_app.specs.Meaning.{Meant, profile_at, sdo_of}
 

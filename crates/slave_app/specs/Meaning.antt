@@ -1,23 +1,23 @@
 -- What a service means at a slave's application: on whole values, without mails, mailboxes and frames.
 use Rattle.std.specs.Prelude.{ℕ, ◌+◌, ◌==◌, Bool, true, false, if◌then◌else◌, List, [], length, Option, Some, None, option_map, Result, Ok, Err}
-use Rattle.mailbox_mail.specs.declared.outcome.ReplyKind.{ReplyKind}
-use Rattle.al_state.specs.Request as States
-use Rattle.object_dictionary.specs.Dictionary as Objects
-use Rattle.object_dictionary.specs.declared.service.SdoService.{SdoService}
-use Rattle.object_dictionary.specs.declared.service.SdoService.TheVariants.{Download, Upload, DownloadAll, UploadAll, List as ObjectList, ObjectInfo, EntryInfo}
-use Rattle.file_store.specs.Files.{Kept, allowed, has_room, put, get}
-use Rattle.idn_table.specs.Idns as Idns
-use Rattle.idn_table.specs.Idns.{read_at, write_at, target}
-use Rattle.protocol_models.specs.CoeMeaning.{Service as Sdo, download, upload, information}
-use Rattle.protocol_models.specs.CoeServer.{Emission, emergency, packet, emission_of}
-use Rattle.protocol_models.specs.Tables as Tables
-use Rattle.coe_server.specs.ObjectTables.{stores, reads, tells}
-use Rattle.protocol_models.specs.Echo.{echo_of}
-use Rattle.segment_plan.specs.declared.service.Service as Plan
-use Rattle.segment_plan.specs.declared.service.Service.TheVariants as Asked
-use Rattle.segment_plan.specs.Sound.{IsService, IsPacket}
-use Rattle.slave_model.specs.Profile.{Protocol, Profile, serves}
-use Rattle.slave_model.specs.Server.{Reply}
+use Rattle.slave_server.specs.of_mailbox_mail.declared.outcome.ReplyKind.{ReplyKind}
+use Rattle.slave_server.specs.of_al_state.Request as States
+use Rattle.slave_server.specs.of_object_dictionary.Dictionary as Objects
+use Rattle.slave_server.specs.of_object_dictionary.declared.service.SdoService.{SdoService}
+use Rattle.slave_server.specs.of_object_dictionary.declared.service.SdoService.TheVariants.{Download, Upload, DownloadAll, UploadAll, List as ObjectList, ObjectInfo, EntryInfo}
+use Rattle.slave_server.specs.of_file_store.Files.{Kept, allowed, has_room, put, get}
+use Rattle.slave_server.specs.of_idn_table.Idns as Idns
+use Rattle.slave_server.specs.of_idn_table.Idns.{read_at, write_at, target}
+use Rattle.slave_server.specs.of_protocol_models.CoeMeaning.{Service as Sdo, download, upload, information}
+use Rattle.slave_server.specs.of_protocol_models.CoeServer.{Emission, emergency, packet, emission_of}
+use Rattle.slave_server.specs.of_protocol_models.Tables as Tables
+use Rattle.slave_server.specs.of_coe_server.ObjectTables.{stores, reads, tells}
+use Rattle.slave_server.specs.of_protocol_models.Echo.{echo_of}
+use Rattle.slave_server.specs.of_segment_plan.declared.service.Service as Plan
+use Rattle.slave_server.specs.of_segment_plan.declared.service.Service.TheVariants as Asked
+use Rattle.slave_server.specs.of_segment_plan.Sound.{IsService, IsPacket}
+use Rattle.slave_server.specs.of_slave_model.Profile.{Protocol, Profile, serves}
+use Rattle.slave_server.specs.of_slave_model.Server.{Reply}
 use Rattle.slave_app.specs.declared.app.App.{App}
 use Rattle.slave_app.specs.declared.performed.Performed.{Performed}
 use Rattle.slave_app.specs.declared.performed.Emission as Sent

@@ -1,6 +1,6 @@
 -- The application of a slave of a plan before any service.
 use Rattle.std.specs.Prelude.{replicate, None}
-use Rattle.segment_plan.specs.declared.slave.SlaveSpec.{SlaveSpec}
+use Rattle.slave_server.specs.of_segment_plan.declared.slave.SlaveSpec.{SlaveSpec}
 use Rattle.slave_server.specs.Spec.{objects_of, files_of, idns_of}
 use Rattle.slave_app.specs.declared.app.App.{App}
 

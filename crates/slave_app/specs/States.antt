@@ -1,15 +1,15 @@
 -- CoE over tables at each AL state, as one exchange whose server and application have the AL state that stands.
 use Rattle.std.specs.Prelude.{◌≡◌, ℕ, Bool, false}
-use Rattle.mailbox_mail.specs.declared.mail.Mail.{Mail}
-use Rattle.exchange_model.specs.Areas.{Areas}
-use Rattle.exchange_model.specs.Exchange.{Exchange}
-use Rattle.protocol_models.specs.CoeMails.{CoeMail}
-use Rattle.protocol_models.specs.Tables.{Tables}
-use Rattle.protocol_models.specs.CoeServer.{Server}
-use Rattle.protocol_models.specs.CoeMeaning.{Service, Reply}
-use Rattle.protocol_models.specs.CoeModel.{coe_exchange}
-use Rattle.protocol_models.specs.CoeOctets.{coe_mail_exchange}
-use Rattle.state_model.specs.Families.{InState, in_states}
+use Rattle.slave_server.specs.of_mailbox_mail.declared.mail.Mail.{Mail}
+use Rattle.slave_server.specs.of_exchange_model.Areas.{Areas}
+use Rattle.slave_server.specs.of_exchange_model.Exchange.{Exchange}
+use Rattle.slave_server.specs.of_protocol_models.CoeMails.{CoeMail}
+use Rattle.slave_server.specs.of_protocol_models.Tables.{Tables}
+use Rattle.slave_server.specs.of_protocol_models.CoeServer.{Server}
+use Rattle.slave_server.specs.of_protocol_models.CoeMeaning.{Service, Reply}
+use Rattle.slave_server.specs.of_protocol_models.CoeModel.{coe_exchange}
+use Rattle.slave_server.specs.of_protocol_models.CoeOctets.{coe_mail_exchange}
+use Rattle.slave_server.specs.of_state_model.Families.{InState, in_states}
 
 -- access rights, codes and values may depend on the AL state, but not of which tables the laws speak
 abbrev pub AreOneKind : {S : Type 0} → (ℕ → Tables S) → Type 0

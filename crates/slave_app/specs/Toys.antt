@@ -1,17 +1,17 @@
 -- A small dictionary of one object, which may be written in one AL state alone, and a run of its slave with a state service between.
 use Rattle.std.specs.Prelude.{ℕ, ◌==◌, nat_le, nat_lt, Bool, true, false, if◌then◌else◌, List, [], ◌∷◌, length, Option, None, Some, Result, Ok, Err}
-use Rattle.mailbox_mail.specs.declared.outcome.ReplyKind.{ReplyKind}
-use Rattle.exchange_model.specs.Areas.{Areas}
-use Rattle.exchange_model.specs.Exchange.{Exchange}
-use Rattle.segment_model.specs.Ends.{Outcome}
-use Rattle.state_model.specs.States.{Table}
-use Rattle.protocol_models.specs.CoeMails.{CoeMail, mail, Expedited, Upload, DownloadAnswer, ExpeditedAnswer, Abort}
-use Rattle.protocol_models.specs.Tables.{Target, Tables}
-use Rattle.protocol_models.specs.CoeServer.{Server, idle}
-use Rattle.protocol_models.specs.CoeMeaning.{Service, download, upload, Reply}
-use Rattle.state_model.specs.Stated.{Act, Counting, with_states}
-use Rattle.state_model.specs.Stated
-use Rattle.state_model.specs.Families.{InState, states_of}
+use Rattle.slave_server.specs.of_mailbox_mail.declared.outcome.ReplyKind.{ReplyKind}
+use Rattle.slave_server.specs.of_exchange_model.Areas.{Areas}
+use Rattle.slave_server.specs.of_exchange_model.Exchange.{Exchange}
+use Rattle.slave_server.specs.of_segment_model.Ends.{Outcome}
+use Rattle.slave_server.specs.of_state_model.States.{Table}
+use Rattle.slave_server.specs.of_protocol_models.CoeMails.{CoeMail, mail, Expedited, Upload, DownloadAnswer, ExpeditedAnswer, Abort}
+use Rattle.slave_server.specs.of_protocol_models.Tables.{Target, Tables}
+use Rattle.slave_server.specs.of_protocol_models.CoeServer.{Server, idle}
+use Rattle.slave_server.specs.of_protocol_models.CoeMeaning.{Service, download, upload, Reply}
+use Rattle.slave_server.specs.of_state_model.Stated.{Act, Counting, with_states}
+use Rattle.slave_server.specs.of_state_model.Stated
+use Rattle.slave_server.specs.of_state_model.Families.{InState, states_of}
 use Rattle.slave_app.specs.States.{acknowledged, coe_states}
 
 -- what refuses a download: the index is unknown, the AL state is another than Operational, or the value is too long

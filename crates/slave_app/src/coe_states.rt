@@ -2,16 +2,16 @@
 //! AL state that stands, so that state services can stand beside. No running code: the functions here do nothing, and their contracts state
 //! the laws.
 
-ghost use Rattle.protocol_models.specs.CoeModel.{coe_exchange};
-ghost use Rattle.protocol_models.specs.CoeOctets.{AreSpelled, coe_mail_exchange};
-ghost use Rattle.protocol_models.specs.Tables.{Tables, AreLawful};
+ghost use Rattle.slave_server.specs.of_protocol_models.CoeModel.{coe_exchange};
+ghost use Rattle.slave_server.specs.of_protocol_models.CoeOctets.{AreSpelled, coe_mail_exchange};
+ghost use Rattle.slave_server.specs.of_protocol_models.Tables.{Tables, AreLawful};
 ghost use Rattle.slave_app.specs.States.{AreOneKind, acknowledged, coe_states, coe_mail_states};
 ghost use Rattle.slave_app.specs.Toys.{drawer, slave, start, tried, taken, heard, ended, replies, told};
-ghost use Rattle.exchange_model.specs.Areas.{Areas, AreMailboxes};
-ghost use Rattle.exchange_model.specs.Exchange.{IsLawful, AnswersLast, after, given};
-ghost use Rattle.exchange_model.specs.Rows.{exec_all};
-ghost use Rattle.state_model.specs.Families.{states_of};
-ghost use Rattle.state_model.specs.Stated.{IsStated};
+ghost use Rattle.slave_server.specs.of_exchange_model.Areas.{Areas, AreMailboxes};
+ghost use Rattle.slave_server.specs.of_exchange_model.Exchange.{IsLawful, AnswersLast, after, given};
+ghost use Rattle.slave_server.specs.of_exchange_model.Rows.{exec_all};
+ghost use Rattle.slave_server.specs.of_state_model.Families.{states_of};
+ghost use Rattle.slave_server.specs.of_state_model.Stated.{IsStated};
 ghost use Rattle.std.specs.Prelude.{◌≡◌, ℕ, Bool, length};
 
 /// Each mail of an SDO or information service brings a reply, so where all replies came, all mails were taken.

@@ -1,14 +1,14 @@
 ghost use Rattle.std.specs.Prelude.{◌≡◌, true, false, IfOk};
-ghost use Rattle.file_store.specs.Files.{allowed, get};
-ghost use Rattle.idn_table.specs.Idns.{read_at, write_at, target};
+ghost use Rattle.slave_server.specs.of_file_store.Files.{allowed, get};
+ghost use Rattle.slave_server.specs.of_idn_table.Idns.{read_at, write_at, target};
 ghost use Rattle.slave_app.specs.Meaning.{meant_by, file_read, file_written, element_read, element_written};
 
 use crate::app::App;
 use crate::performed::{Performed, replied, valued};
 use crate::sdo::MOST;
-use ec_fields::{NoMemory, Octets, Transfer};
-use file_store::{Name, Store};
-use mailbox_mail::ReplyKind;
+use slave_server::ec_fields::{NoMemory, Octets, Transfer};
+use slave_server::file_store::{Name, Store};
+use slave_server::mailbox_mail::ReplyKind;
 use std::alloc::Global;
 
 /// The FoE error code of a file for which there are too few free blocks (ETG.1000.6, "FoE error codes").

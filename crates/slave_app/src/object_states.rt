@@ -2,13 +2,13 @@
 //! code: the function here does nothing, and its contract states the law.
 
 ghost use Rattle.std.specs.Prelude.{◌≡◌, ℕ, Bool, true, List};
-ghost use Rattle.exchange_model.specs.Areas.{Areas, AreMailboxes};
-ghost use Rattle.exchange_model.specs.Exchange.{IsLawful};
-ghost use Rattle.exchange_model.specs.Lifted.{EachOf};
-ghost use Rattle.protocol_models.specs.CoeOctets.{is_fragment};
-ghost use Rattle.coe_server.specs.ObjectTables.{tables_with};
-ghost use Rattle.state_model.specs.Stated.{IsStated};
-ghost use Rattle.state_model.specs.Families.{states_of};
+ghost use Rattle.slave_server.specs.of_exchange_model.Areas.{Areas, AreMailboxes};
+ghost use Rattle.slave_server.specs.of_exchange_model.Exchange.{IsLawful};
+ghost use Rattle.slave_server.specs.of_exchange_model.Lifted.{EachOf};
+ghost use Rattle.slave_server.specs.of_protocol_models.CoeOctets.{is_fragment};
+ghost use Rattle.slave_server.specs.of_coe_server.ObjectTables.{tables_with};
+ghost use Rattle.slave_server.specs.of_state_model.Stated.{IsStated};
+ghost use Rattle.slave_server.specs.of_state_model.Families.{states_of};
 ghost use Rattle.slave_app.specs.States.{acknowledged, coe_states, coe_mail_states};
 
 /// CoE over the object dictionary's own tables, whose access rights depend on the AL state, keeps the laws of an exchange, and its AL state is a

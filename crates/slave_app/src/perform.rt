@@ -1,17 +1,18 @@
 ghost use Rattle.std.specs.Prelude.{◌≡◌, ◌==◌, ◌<◌, ◌≤◌, ℕ, true, false, length, Some, IfOk, OnErr};
-ghost use Rattle.segment_plan.specs.Sound.{is_target};
-ghost use Rattle.slave_model.specs.Profile.{Protocol};
-ghost use Rattle.slave_model.specs.Server.{ServiceOf};
+ghost use Rattle.slave_server.specs.of_segment_plan.Sound.{is_target};
+ghost use Rattle.slave_server.specs.of_slave_model.Profile.{Protocol};
+ghost use Rattle.slave_server.specs.of_slave_model.Server.{ServiceOf};
 ghost use Rattle.slave_app.specs.Meaning.{emission_view, meant_by, addressed, delivered, state_refusal, state_meaning, protocol_of, carries_out, refusal_of, answered, counts, meaning_of, IsPerformable};
 ghost use Rattle.slave_app.specs.Exchange.{mail_service, Fits, IsExchanged, IsStateExchanged};
 
 use crate::app::App;
 use crate::performed::{Emission, Performed, Reply, replied, valued};
-use al_state::{Al, Asked, BOOTSTRAP, INIT, PRE_OP};
-use ec_fields::{NoMemory, Octets, buffer_of};
-use eoe::Packet;
-use mailbox_mail::ReplyKind;
-use segment_plan::Service;
+use slave_server::al_state::{Al, Asked, BOOTSTRAP, INIT, PRE_OP};
+use slave_server::ec_fields::{NoMemory, Octets, buffer_of};
+use slave_server::eoe::Packet;
+use slave_server::mailbox_mail::ReplyKind;
+use slave_server::segment_plan::Service;
+use slave_server::{al_state, eoe_server};
 use std::alloc::Global;
 
 /// The mailbox error of a protocol that isn't served (ETG.1000.4, "Mailbox error").

@@ -1,15 +1,15 @@
 ghost use Rattle.std.specs.Prelude.{◌≡◌, IfOk, OnErr};
-ghost use Rattle.protocol_models.specs.CoeServer.{emission_of};
-ghost use Rattle.coe_server.specs.Serving.{target_view, ask_view, IsFitting};
-ghost use Rattle.coe_server.specs.ObjectTables.{stores, reads, tells};
+ghost use Rattle.slave_server.specs.of_protocol_models.CoeServer.{emission_of};
+ghost use Rattle.slave_server.specs.of_coe_server.Serving.{target_view, ask_view, IsFitting};
+ghost use Rattle.slave_server.specs.of_coe_server.ObjectTables.{stores, reads, tells};
 ghost use Rattle.slave_app.specs.Meaning.{emission_view, meant_by, sdo_of, downloaded, told, sdo_meaning};
 
 use crate::app::App;
 use crate::performed::{Emission, Performed, Reply, replied, valued};
-use coe_server::{Dictionary, Question, Target};
-use ec_fields::{NoMemory, Octets, Transfer, buffer_of};
-use mailbox_mail::ReplyKind;
-use object_dictionary::SdoService;
+use slave_server::coe_server::{Dictionary, Question, Target};
+use slave_server::ec_fields::{NoMemory, Octets, Transfer, buffer_of};
+use slave_server::mailbox_mail::ReplyKind;
+use slave_server::object_dictionary::SdoService;
 use std::alloc::Global;
 
 /// The most octets that an SDO service brings.

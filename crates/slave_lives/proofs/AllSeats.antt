@@ -2,9 +2,9 @@
 use Rattle.std.proofs.Common.{◌≡◌, ◌⊎◌, inl, inr, ℕ, suc, ◌+◌, ◌<◌, ◌==◌, Bool, false, List, [], ◌∷◌, ◌++◌, length, refl, ap, sym, ◌∙◌, subst, arith}
 use Rattle.std.specs.Prelude.{⊤}
 use Rattle.std.proofs.lemmas.Bool.{ne_eqb, eqb-false}
-use Rattle.segment_ring.specs.of_datagrams.Datagram as Raw
-use Rattle.slave_node.specs.of_esc_registers.declared.registers.Registers as Esc
-use Rattle.slave_node.specs.Passing.{datagrams_after}
+use Rattle.frames_seen.specs.of_datagrams.Datagram as Raw
+use Rattle.frames_seen.specs.of_esc_registers.declared.registers.Registers as Esc
+use Rattle.frames_seen.specs.of_slave_node.Passing.{datagrams_after}
 use Rattle.frames_seen.specs.of_frame_view.View.{Lens}
 use Rattle.frames_seen.specs.Own.{own_of, IsApart, IsAlone}
 use Rattle.frames_seen.specs.Ring.{all_after, AllApart}
@@ -12,10 +12,10 @@ use Rattle.frames_seen.specs.Spoken.{AllSpoken}
 use Rattle.frames_seen.proofs.Aparts.{open_apart, none_apart}
 use Rattle.frames_seen.proofs.Owns.{other_view}
 use Rattle.frames_seen.proofs.Places.{all_else_behind, open_alone}
-use Rattle.slave_node.specs.of_link_mails.Body.{Body}
+use Rattle.frames_seen.specs.of_link_mails.Body.{Body}
 use Rattle.frames_seen.specs.of_segment_model.Slaves.{Serving}
-use Rattle.slave_node.specs.Node.{Node, new_box}
-use Rattle.life_model.specs.Lives.{Opening, Stand}
+use Rattle.frames_seen.specs.of_slave_node.Node.{Node, new_box}
+use Rattle.frames_seen.specs.of_life_model.Lives.{Opening, Stand}
 use Rattle.slave_lives.specs.Opening.{Plan, IsPlan, AtMostOne, JustOne}
 use Rattle.slave_lives.specs.Lived.{IsForOpen}
 use Rattle.slave_lives.specs.Returning.{IsTurn}

@@ -1,14 +1,14 @@
 -- A FRAME COMES to a closed slave: at most the access in hand means it.
 use Rattle.std.proofs.Common.{◌≡◌, ◌⊎◌, inl, inr, ℕ, ◌<◌, ◌==◌, Bool, true, false, List, refl, ap, sym, ◌∙◌, subst, arith}
 use Rattle.std.specs.Prelude.{if◌then◌else◌, None}
-use Rattle.segment_ring.specs.of_datagrams.Datagram as Raw
-use Rattle.slave_node.specs.of_esc_registers.declared.registers.Registers as Esc
-use Rattle.slave_node.specs.of_esc_registers.Access.{row_of, passed_at}
-use Rattle.slave_node.specs.Passing.{passed}
+use Rattle.frames_seen.specs.of_datagrams.Datagram as Raw
+use Rattle.frames_seen.specs.of_esc_registers.declared.registers.Registers as Esc
+use Rattle.frames_seen.specs.of_esc_registers.Access.{row_of, passed_at}
+use Rattle.frames_seen.specs.of_slave_node.Passing.{passed}
 use Rattle.frames_seen.specs.of_frame_view.View.{Lens}
 use Rattle.frames_seen.specs.Own.{NoneMeant}
-use Rattle.slave_node.specs.Node.{Node, new_node}
-use Rattle.life_model.specs.Lives.{Opening}
+use Rattle.frames_seen.specs.of_slave_node.Node.{Node, new_node}
+use Rattle.frames_seen.specs.of_life_model.Lives.{Opening}
 use Rattle.slave_lives.specs.Opening.{Plan, IsPlan, aim, IsAccess, AtMostOne, JustOne}
 use Rattle.slave_lives.specs.Returning.{IsTurn}
 use Rattle.slave_lives.specs.Rings.{met}

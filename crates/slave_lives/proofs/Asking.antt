@@ -1,17 +1,17 @@
 -- A step acknowledges the repeat request that stands, in whatever state the slave is.
 use Rattle.std.proofs.Common.{◌≡◌, ◌==◌, Bool, true, false, Option, Some, None, refl, ap, ◌∙◌, if◌then◌else◌}
 use Rattle.frames_seen.specs.Slaves.{registers_seen}
-use Rattle.link_mails.specs.Body.{Body}
-use Rattle.link_model.specs.Mails.{LinkMail, differs, first_of}
-use Rattle.link_model.specs.Slave as Model
-use Rattle.link_model.specs.Slave.{InSide, Server, noticed, repeated, request_answered, looked, offers}
-use Rattle.mailbox_slave.specs.Node.{node_of, server_of}
-use Rattle.mailbox_slave.specs.Registers.{in_len, request_of, acknowledge_of}
+use Rattle.frames_seen.specs.of_link_mails.Body.{Body}
+use Rattle.frames_seen.specs.of_link_model.Mails.{LinkMail, differs, first_of}
+use Rattle.frames_seen.specs.of_link_model.Slave as Model
+use Rattle.frames_seen.specs.of_link_model.Slave.{InSide, Server, noticed, repeated, request_answered, looked, offers}
+use Rattle.frames_seen.specs.of_mailbox_slave.Node.{node_of, server_of}
+use Rattle.frames_seen.specs.of_mailbox_slave.Registers.{in_len, request_of, acknowledge_of}
 use Rattle.slave_lives.specs.Nodes.{IsRunning, IsRoomy, stepped}
 use Rattle.slave_lives.specs.Returning.{Clears}
 use Rattle.slave_lives.specs.Steps.{Running, node_steps, word_carried}
 use Rattle.slave_lives.proofs.NodeSteps as Stepped
-use Rattle.slave_node.specs.Node.{Node}
+use Rattle.frames_seen.specs.of_slave_node.Node.{Node}
 
 -- a side of mailbox 1 behind another: the same request, which is acknowledged
 record Answers (s t : InSide Body) : Type 0 where

@@ -2,13 +2,13 @@
 use Rattle.std.proofs.Common.{◌≡◌, inl, inr, ℕ, suc, ◌+◌, ◌%◌, ◌<◌, ◌≤◌, ◌==◌, ◌&&◌, Bool, true, false, List, [], ◌∷◌, length, refl, ap, ap₂, sym, ◌∙◌, subst, arith}
 use Rattle.std.specs.Prelude.{if◌then◌else◌, Option, Some, None}
 use Rattle.std.proofs.lemmas.Bool.{ne_eqb, eq-eqb}
-use Rattle.segment_ring.specs.of_datagrams.Datagram as Raw
-use Rattle.segment_ring.specs.of_datagrams.declared.head.Head.{Head}
-use Rattle.slave_node.specs.of_esc_registers.declared.registers.Registers as Esc
-use Rattle.slave_node.specs.of_esc_registers.declared.row.Row.{Row}
-use Rattle.slave_node.specs.of_esc_registers.Access.{is_by_place, is_by_station, is_meant, moved_on, passed_at, row_of}
-use Rattle.slave_node.specs.Passing.{passed, datagram_after, datagrams_after}
-use Rattle.slave_node.proofs.Parts.{head_kept}
+use Rattle.frames_seen.specs.of_datagrams.Datagram as Raw
+use Rattle.frames_seen.specs.of_datagrams.declared.head.Head.{Head}
+use Rattle.frames_seen.specs.of_esc_registers.declared.registers.Registers as Esc
+use Rattle.frames_seen.specs.of_esc_registers.declared.row.Row.{Row}
+use Rattle.frames_seen.specs.of_esc_registers.Access.{is_by_place, is_by_station, is_meant, moved_on, passed_at, row_of}
+use Rattle.frames_seen.specs.of_slave_node.Passing.{passed, datagram_after, datagrams_after}
+use Rattle.frames_seen.proofs.of_slave_node.Parts.{head_kept}
 use Rattle.frames_seen.specs.of_frame_view.View.{Lens, datagram_seen, station_of, access_of, register_counter, found_of}
 use Rattle.frames_seen.specs.of_segment_model.Slaves.{Access}
 use Rattle.frames_seen.specs.Own.{is_to, IsApart}

@@ -3,16 +3,16 @@ use Rattle.std.proofs.Common.{◌≡◌, ◌⊎◌, inl, inr, ℕ, ◌<◌, ◌=
 use Rattle.std.specs.Prelude.{if◌then◌else◌, Some, None}
 use Rattle.std.proofs.lemmas.Bool.{eq-eqb}
 use Rattle.byteorder.specs.Endian.{little_bytes}
-use Rattle.segment_ring.specs.of_ec_fields.Fields.{number_at}
-use Rattle.segment_ring.specs.of_datagrams.declared.command.Command.{Command}
-use Rattle.segment_ring.specs.of_datagrams.declared.command.Command.TheVariants.{Apwr, Fprd, Fpwr}
-use Rattle.segment_ring.specs.of_datagrams.Datagram as Raw
-use Rattle.slave_node.specs.of_esc_registers.declared.registers.Registers.{Registers}
-use Rattle.slave_node.specs.of_esc_registers.Manager.{is_right}
-use Rattle.slave_node.specs.Passing.{passed}
+use Rattle.frames_seen.specs.of_ec_fields.Fields.{number_at}
+use Rattle.frames_seen.specs.of_datagrams.declared.command.Command.{Command}
+use Rattle.frames_seen.specs.of_datagrams.declared.command.Command.TheVariants.{Apwr, Fprd, Fpwr}
+use Rattle.frames_seen.specs.of_datagrams.Datagram as Raw
+use Rattle.frames_seen.specs.of_esc_registers.declared.registers.Registers.{Registers}
+use Rattle.frames_seen.specs.of_esc_registers.Manager.{is_right}
+use Rattle.frames_seen.specs.of_slave_node.Passing.{passed}
 use Rattle.frames_seen.specs.of_link_model.Slave.{Node}
-use Rattle.slave_node.specs.of_link_mails.Body.{Body}
-use Rattle.slave_node.specs.of_mailbox_slave.Kept.{Kept}
+use Rattle.frames_seen.specs.of_link_mails.Body.{Body}
+use Rattle.frames_seen.specs.of_mailbox_slave.Kept.{Kept}
 use Rattle.frames_seen.specs.of_frame_view.View.{Lens}
 use Rattle.frames_seen.specs.Slaves.{registers_seen}
 use Rattle.slave_lives.specs.Opening.{Plan, IsPlan, manager_octets, IsBringing}

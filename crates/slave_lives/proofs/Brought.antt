@@ -1,13 +1,13 @@
 -- A FIRST BRING-UP is an opening whose mailboxes were never full: its steps and its end are those of a reopening.
 use Rattle.std.proofs.Common.{◌≡◌, inr, ℕ, ◌<◌, ◌==◌, Bool, false, Ok, refl, ap, ap₂, sym, ◌∙◌}
 use Rattle.std.specs.Prelude.{Option, Some, None, option_map}
-use Rattle.slave_node.specs.of_esc_registers.declared.registers.Registers as Esc
+use Rattle.frames_seen.specs.of_esc_registers.declared.registers.Registers as Esc
 use Rattle.frames_seen.specs.of_link_model.Link.{new_link}
 use Rattle.frames_seen.specs.of_link_model.Slave.{Node}
-use Rattle.slave_node.specs.of_link_mails.Body.{Body, uncounted}
-use Rattle.slave_node.specs.of_mailbox_slave.Kept.{Kept}
-use Rattle.slave_node.specs.of_mailbox_slave.Node.{node_of, server_of}
-use Rattle.slave_node.specs.of_esc_registers.Registers.{are_areas_right}
+use Rattle.frames_seen.specs.of_link_mails.Body.{Body, uncounted}
+use Rattle.frames_seen.specs.of_mailbox_slave.Kept.{Kept}
+use Rattle.frames_seen.specs.of_mailbox_slave.Node.{node_of, server_of}
+use Rattle.frames_seen.specs.of_esc_registers.Registers.{are_areas_right}
 use Rattle.frames_seen.specs.of_segment_model.Slaves.{Registers}
 use Rattle.frames_seen.specs.of_state_model.States
 use Rattle.frames_seen.specs.Shows.{slave_table}

@@ -1,8 +1,8 @@
 -- WHO IS APART from a station: a slave that is opened or returned, as long as it has no station yet or its own.
 use Rattle.std.proofs.Common.{◌≡◌, ◌⊎◌, inl, inr, ℕ, ◌==◌, false, List, [], ◌∷◌, ap, sym, ◌∙◌, subst}
-use Rattle.segment_ring.specs.of_datagrams.Datagram as Raw
-use Rattle.slave_node.specs.of_esc_registers.declared.registers.Registers as Esc
-use Rattle.slave_node.specs.Passing.{passed}
+use Rattle.frames_seen.specs.of_datagrams.Datagram as Raw
+use Rattle.frames_seen.specs.of_esc_registers.declared.registers.Registers as Esc
+use Rattle.frames_seen.specs.of_slave_node.Passing.{passed}
 use Rattle.frames_seen.specs.Own.{IsApart}
 use Rattle.frames_seen.proofs.Aparts.{apart_one, none_apart}
 use Rattle.frames_seen.proofs.Owns.{unmoved}

@@ -1,14 +1,14 @@
 -- A RING'S EXCHANGE is a frame of its closed slave's life.
 use Rattle.std.proofs.Common.{◌≡◌, ℕ, Bool, true, false, length, refl, ap, sym, subst}
 use Rattle.std.specs.Prelude.{Option, if◌then◌else◌}
-use Rattle.segment_ring.specs.of_datagrams.Datagram as Raw
+use Rattle.frames_seen.specs.of_datagrams.Datagram as Raw
 use Rattle.frames_seen.specs.of_frame_view.View.{Lens}
 use Rattle.frames_seen.specs.of_segment_model.Slaves.{Found}
-use Rattle.segment_ring.specs.declared.wire.Fate.{Fate}
-use Rattle.segment_ring.specs.declared.wire.Fate.TheVariants.{Pass}
-use Rattle.segment_ring.specs.Ring.{is_in_pace}
-use Rattle.slave_node.specs.Node.{Node}
-use Rattle.life_model.specs.Lives.{Opening, Stand, Life, opening_back}
+use Rattle.frames_seen.specs.of_segment_ring.declared.wire.Fate.{Fate}
+use Rattle.frames_seen.specs.of_segment_ring.declared.wire.Fate.TheVariants.{Pass}
+use Rattle.frames_seen.specs.of_segment_ring.Ring.{is_in_pace}
+use Rattle.frames_seen.specs.of_slave_node.Node.{Node}
+use Rattle.frames_seen.specs.of_life_model.Lives.{Opening, Stand, Life, opening_back}
 use Rattle.slave_lives.specs.Lived.{RingFrame, fate_of, is_reached, node_met, node_behind, ClosedFrame, AccessBack}
 use Rattle.slave_lives.specs.Nodes.{stepped}
 use Rattle.slave_lives.specs.Opening.{Plan, IsPlan, AtMostOne}

@@ -2,20 +2,20 @@
 use Rattle.std.proofs.Common.{◌≡◌, ◌≢◌, ◌⊎◌, inl, inr, ℕ, suc, ◌<◌, ◌==◌, ◌&&◌, Bool, true, false, List, [], ◌∷◌, length, refl, ap, ap₂, sym, ◌∙◌, subst, arith}
 use Rattle.std.specs.Prelude.{Option, Some, None, if◌then◌else◌, nat_lt}
 use Rattle.std.proofs.lemmas.Bool.{eqb-true, eqb-false, ltb-true, and_parts}
-use Rattle.segment_ring.specs.of_datagrams.Datagram as Raw
-use Rattle.segment_ring.specs.of_ec_fields.Fields.{number_at, bits_of}
-use Rattle.slave_node.specs.of_esc_registers.declared.registers.Registers as Esc
-use Rattle.segment_ring.specs.of_datagrams.declared.head.Head.{Head}
-use Rattle.slave_node.specs.Passing.{passed, datagram_after, registers_after}
-use Rattle.slave_node.proofs.Parts.{head_kept}
+use Rattle.frames_seen.specs.of_datagrams.Datagram as Raw
+use Rattle.frames_seen.specs.of_ec_fields.Fields.{number_at, bits_of}
+use Rattle.frames_seen.specs.of_esc_registers.declared.registers.Registers as Esc
+use Rattle.frames_seen.specs.of_datagrams.declared.head.Head.{Head}
+use Rattle.frames_seen.specs.of_slave_node.Passing.{passed, datagram_after, registers_after}
+use Rattle.frames_seen.proofs.of_slave_node.Parts.{head_kept}
 use Rattle.frames_seen.proofs.Rows.{access_len}
 use Rattle.frames_seen.specs.of_frame_view.View.{Lens, datagram_seen, station_of, access_of, read_access, found_of}
 use Rattle.frames_seen.proofs.Owns.{unmoved}
-use Rattle.slave_node.specs.of_mailbox_slave.Kept.{Kept}
-use Rattle.slave_node.specs.of_mailbox_slave.Registers.{in_len}
+use Rattle.frames_seen.specs.of_mailbox_slave.Kept.{Kept}
+use Rattle.frames_seen.specs.of_mailbox_slave.Registers.{in_len}
 use Rattle.frames_seen.specs.of_segment_model.Slaves.{Access, Found}
-use Rattle.slave_node.specs.Node.{Node}
-use Rattle.life_model.specs.Lives.{Opening, Stand, Life, last_step, shows_clear, is_shown, steps_on, clears, opens, opening_back}
+use Rattle.frames_seen.specs.of_slave_node.Node.{Node}
+use Rattle.frames_seen.specs.of_life_model.Lives.{Opening, Stand, Life, last_step, shows_clear, is_shown, steps_on, clears, opens, opening_back}
 use Rattle.slave_lives.specs.Nodes.{IsRunning, IsRoomy, stepped, StepsOn}
 use Rattle.slave_lives.specs.Opening.{Plan, IsPlan, aim, IsAccess, IsBring, IsBringing, IsOpened, AtMostOne, JustOne, access_behind}
 use Rattle.slave_lives.specs.Returning.{Clears, IsReturned, IsFrozen, IsTurn, turn_behind}

@@ -4,17 +4,17 @@ use Rattle.std.specs.Prelude.{Option, None, option_map}
 use Rattle.frames_seen.specs.Slaves.{registers_seen}
 use Rattle.frames_seen.specs.of_link_model.Link.{new_link}
 use Rattle.frames_seen.specs.of_link_model.Slave.{Node}
-use Rattle.slave_node.specs.of_link_mails.Body.{Body, uncounted}
+use Rattle.frames_seen.specs.of_link_mails.Body.{Body, uncounted}
 use Rattle.frames_seen.specs.of_segment_model.Slaves.{Slave, Serving, first_waiting}
 use Rattle.frames_seen.specs.of_segment_model.Record.{Frame}
-use Rattle.life_model.specs.of_state_model.Stated.{IsStated}
+use Rattle.frames_seen.specs.of_state_model.Stated.{IsStated}
 use Rattle.frames_seen.specs.Shows.{slave_table}
 use Rattle.frames_seen.proofs.Tables.{is_table}
-use Rattle.slave_node.specs.Node as Running
-use Rattle.life_model.specs.Lives.{Spot}
-use Rattle.life_model.specs.Eras.{EraIs, planned, opened_slave}
-use Rattle.life_model.specs.of_state_model.Tasks.{IsTaskPlan}
-use Rattle.life_model.proofs.Eras as Eras
+use Rattle.frames_seen.specs.of_slave_node.Node as Running
+use Rattle.frames_seen.specs.of_life_model.Lives.{Spot}
+use Rattle.frames_seen.specs.of_life_model.Eras.{EraIs, planned, opened_slave}
+use Rattle.frames_seen.specs.of_state_model.Tasks.{IsTaskPlan}
+use Rattle.frames_seen.proofs.of_life_model.Eras as Eras
 use Rattle.slave_lives.specs.Opening.{Plan}
 use Rattle.slave_lives.specs.Lived.{Behind, IsBehind, table_of, node_seen, OpensEra, opened_era, BegunEra}
 use Rattle.slave_lives.proofs.Openings.{allowed}

@@ -2,16 +2,16 @@
 use Rattle.std.proofs.Common.{◌≡◌, ℕ, suc, ◌-◌, ◌≤◌, ◌<◌, List, [], ◌∷◌, ◌++◌, length, map, take, drop, refl, ap, sym, ◌∙◌, subst, arith, length-append, length-drop}
 use Rattle.std.specs.Prelude.{replicate}
 use Rattle.std.proofs.lemmas.List.{drop-append-le, take-append-le}
-use Rattle.slave_node.specs.of_link_mails.Body.{Body}
+use Rattle.frames_seen.specs.of_link_mails.Body.{Body}
 use Rattle.frames_seen.specs.of_segment_model.Record.{Frame}
 use Rattle.frames_seen.specs.Slaves.{registers_seen}
-use Rattle.slave_node.specs.Node.{Node}
-use Rattle.life_model.specs.Own.{own_frame, blank}
-use Rattle.life_model.specs.Lives.{Spot, Era}
-use Rattle.life_model.specs.Eras.{WasOpen, Eras, Clearing, era_frames, planned}
+use Rattle.frames_seen.specs.of_slave_node.Node.{Node}
+use Rattle.frames_seen.specs.of_life_model.Own.{own_frame, blank}
+use Rattle.frames_seen.specs.of_life_model.Lives.{Spot, Era}
+use Rattle.frames_seen.specs.of_life_model.Eras.{WasOpen, Eras, Clearing, era_frames, planned}
 use Rattle.slave_lives.specs.Ends.{LeftEra, LeftEras, ClearsAs}
 use Rattle.slave_lives.specs.Lived.{Behind, LivesEra, table_of, node_seen}
-use Rattle.life_model.specs.of_state_model.Tasks.{IsTasked}
+use Rattle.frames_seen.specs.of_state_model.Tasks.{IsTasked}
 
 -- the frames of an epoch that ended stay
 frames_stay : (spot : Spot) (opened until : ℕ) (fs gs : List (Frame Body)) → opened < until → until ≤ length fs → era_frames spot opened until (fs ++ gs) ≡ era_frames spot opened until fs

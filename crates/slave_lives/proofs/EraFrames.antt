@@ -1,10 +1,10 @@
 -- AN OPEN SLAVE'S NODE lives its epoch on by each frame of its ring.
 use Rattle.std.proofs.Common.{◌≡◌, ℕ, zero, suc, ◌+◌, ◌-◌, ◌==◌, Bool, true, false, List, [], ◌∷◌, ◌++◌, length, refl, ap, ap₂, sym, ◌∙◌, subst, arith, length-append}
 use Rattle.std.specs.Prelude.{if◌then◌else◌}
-use Rattle.segment_ring.specs.of_datagrams.Datagram as Raw
-use Rattle.segment_ring.specs.of_ec_fields.Fields.{bits_of}
-use Rattle.slave_node.specs.of_esc_registers.declared.registers.Registers as Esc
-use Rattle.slave_node.specs.Passing.{registers_after}
+use Rattle.frames_seen.specs.of_datagrams.Datagram as Raw
+use Rattle.frames_seen.specs.of_ec_fields.Fields.{bits_of}
+use Rattle.frames_seen.specs.of_esc_registers.declared.registers.Registers as Esc
+use Rattle.frames_seen.specs.of_slave_node.Passing.{registers_after}
 use Rattle.frames_seen.specs.of_frame_view.Seen.{datagrams_seen}
 use Rattle.frames_seen.specs.Kept.{FrameKeeps}
 use Rattle.frames_seen.specs.Own.{own_seen}
@@ -13,22 +13,22 @@ use Rattle.frames_seen.specs.Slaves.{registers_seen, slave_of, IsOpen}
 use Rattle.frames_seen.proofs.Rings as FrameRings
 use Rattle.frames_seen.specs.of_link_model.Frames.{Ask, node_meets}
 use Rattle.frames_seen.specs.of_link_model.Slave.{Node}
-use Rattle.slave_node.specs.of_link_mails.Body.{Body}
-use Rattle.slave_node.specs.of_mailbox_slave.Node.{in_side}
-use Rattle.slave_node.specs.of_mailbox_slave.Registers.{in_len}
+use Rattle.frames_seen.specs.of_link_mails.Body.{Body}
+use Rattle.frames_seen.specs.of_mailbox_slave.Node.{in_side}
+use Rattle.frames_seen.specs.of_mailbox_slave.Registers.{in_len}
 use Rattle.frames_seen.specs.of_segment_model.Slaves.{Slave, Datagram, Ring, slave_meets, slave_after, frame_after, ring_after, ring_back, ring_steps, first_meet}
 use Rattle.frames_seen.specs.of_segment_model.Record.{Frame, News}
-use Rattle.segment_ring.specs.declared.wire.Fate.{Fate}
-use Rattle.segment_ring.specs.declared.wire.Fate.TheVariants.{Pass, Lost}
-use Rattle.segment_ring.specs.Ring.{is_in_pace}
-use Rattle.slave_node.specs.Node as Running
-use Rattle.life_model.specs.of_state_model.Accounts.{Pick}
-use Rattle.life_model.specs.Own.{own, own_fate}
-use Rattle.life_model.specs.of_exchange_model.Exchange.{Speech}
+use Rattle.frames_seen.specs.of_segment_ring.declared.wire.Fate.{Fate}
+use Rattle.frames_seen.specs.of_segment_ring.declared.wire.Fate.TheVariants.{Pass, Lost}
+use Rattle.frames_seen.specs.of_segment_ring.Ring.{is_in_pace}
+use Rattle.frames_seen.specs.of_slave_node.Node as Running
+use Rattle.frames_seen.specs.of_state_model.Accounts.{Pick}
+use Rattle.frames_seen.specs.of_life_model.Own.{own, own_fate}
+use Rattle.frames_seen.specs.of_exchange_model.Exchange.{Speech}
 use Rattle.frames_seen.specs.of_link_model.Segment.{RingFate}
-use Rattle.life_model.specs.Lives.{Spot, Era, AsksOpen, era_next, era_after}
-use Rattle.life_model.specs.Eras.{EraIs}
-use Rattle.life_model.proofs.Eras as Eras
+use Rattle.frames_seen.specs.of_life_model.Lives.{Spot, Era, AsksOpen, era_next, era_after}
+use Rattle.frames_seen.specs.of_life_model.Eras.{EraIs}
+use Rattle.frames_seen.proofs.of_life_model.Eras as Eras
 use Rattle.slave_lives.specs.Steps.{StaysUp, Stands, word_carried}
 use Rattle.slave_lives.specs.Nodes.{IsRunning, IsRoomy, stepped}
 use Rattle.slave_lives.specs.Rings.{registers_of, come_to, come_back, met, turned, is_met_at, is_among, fate_seen}

@@ -2,22 +2,22 @@
 use Rattle.std.proofs.Common.{◌≡◌, ℕ, ◌+◌, ◌&&◌, Bool, true, false, not, length, Ok, is_none, refl, ap, sym, ◌∙◌, subst, arith}
 use Rattle.std.specs.Prelude.{Option, Some, None, option_map, IsSome, if◌then◌else◌, replicate, ◌-◌}
 use Rattle.std.specs.Option.{ForSome}
-use Rattle.slave_node.specs.of_mailbox_mail.declared.mail.Mail.{Mail}
-use Rattle.slave_node.specs.of_mailbox_mail.Mail.{mail_read}
-use Rattle.slave_node.specs.of_mailbox_mail.Area.{mail_area}
-use Rattle.slave_node.proofs.of_mailbox_mail.Laws.{read-only}
-use Rattle.slave_node.specs.of_esc_registers.declared.registers.Registers as Esc
-use Rattle.slave_node.specs.of_esc_registers.Manager.{same, is_repeat_asked}
+use Rattle.frames_seen.specs.of_mailbox_mail.declared.mail.Mail.{Mail}
+use Rattle.frames_seen.specs.of_mailbox_mail.Mail.{mail_read}
+use Rattle.frames_seen.specs.of_mailbox_mail.Area.{mail_area}
+use Rattle.frames_seen.proofs.of_mailbox_mail.Laws.{read-only}
+use Rattle.frames_seen.specs.of_esc_registers.declared.registers.Registers as Esc
+use Rattle.frames_seen.specs.of_esc_registers.Manager.{same, is_repeat_asked}
 use Rattle.frames_seen.specs.of_link_model.Counters.{next_counter, repeats}
 use Rattle.frames_seen.specs.of_link_model.Mails.{LinkMail, differs, first_of}
 use Rattle.frames_seen.specs.of_link_model.Slave as Model
 use Rattle.frames_seen.specs.of_link_model.Slave.{InSide, OutSide, Node, Server}
-use Rattle.slave_node.specs.of_link_mails.Body.{Body, link_mail, link_read, uncounted, counted_as}
-use Rattle.slave_node.specs.of_mailbox_slave.Kept.{Kept, offered}
-use Rattle.slave_node.specs.of_mailbox_slave.Registers.{in_box, out_box, in_len, request_of, acknowledge_of}
-use Rattle.slave_node.specs.of_mailbox_slave.Node.{node_of, in_side, out_side, server_of}
-use Rattle.slave_node.specs.of_mailbox_slave.Exact as Exact
-use Rattle.slave_node.specs.of_mailbox_slave.Exact.{Boxes, with_mail, with_acknowledge, with_out_free, kept_noticed, last_repeated, request_answered, boxes_looked, out_mail, is_free, mail_served, next_offered, mail_offered}
+use Rattle.frames_seen.specs.of_link_mails.Body.{Body, link_mail, link_read, uncounted, counted_as}
+use Rattle.frames_seen.specs.of_mailbox_slave.Kept.{Kept, offered}
+use Rattle.frames_seen.specs.of_mailbox_slave.Registers.{in_box, out_box, in_len, request_of, acknowledge_of}
+use Rattle.frames_seen.specs.of_mailbox_slave.Node.{node_of, in_side, out_side, server_of}
+use Rattle.frames_seen.specs.of_mailbox_slave.Exact as Exact
+use Rattle.frames_seen.specs.of_mailbox_slave.Exact.{Boxes, with_mail, with_acknowledge, with_out_free, kept_noticed, last_repeated, request_answered, boxes_looked, out_mail, is_free, mail_served, next_offered, mail_offered}
 use Rattle.slave_lives.specs.Nodes.{IsPlaced, IsKept, GivesPlaced}
 use Rattle.slave_lives.specs.Steps.{Running}
 

@@ -1,14 +1,14 @@
 -- By each frame of a ring and the step behind it.
 use Rattle.std.proofs.Common.{◌≡◌, ◌⊎◌, inl, inr, ℕ, suc, ◌==◌, Bool, true, false, Option, Some, List, refl, sym, ap, ap₂, ◌∙◌, subst, arith, if◌then◌else◌, length}
 use Rattle.std.specs.Prelude.{◌||◌}
-use Rattle.datagrams.specs.Datagram as Raw
-use Rattle.slave_node.specs.Passing.{registers_after}
-use Rattle.frame_view.specs.View.{Lens}
-use Rattle.life_model.specs.Repairs.{awaits_at, awaited}
-use Rattle.life_model.specs.Lives.{Opening, shows_clear, last_step}
-use Rattle.segment_model.specs.Slaves.{Found}
-use Rattle.segment_ring.specs.Ring.{is_in_pace}
-use Rattle.segment_ring.specs.declared.wire.Fate.{Fate}
+use Rattle.frames_seen.specs.of_datagrams.Datagram as Raw
+use Rattle.frames_seen.specs.of_slave_node.Passing.{registers_after}
+use Rattle.frames_seen.specs.of_frame_view.View.{Lens}
+use Rattle.frames_seen.specs.of_life_model.Repairs.{awaits_at, awaited}
+use Rattle.frames_seen.specs.of_life_model.Lives.{Opening, shows_clear, last_step}
+use Rattle.frames_seen.specs.of_segment_model.Slaves.{Found}
+use Rattle.frames_seen.specs.of_segment_ring.Ring.{is_in_pace}
+use Rattle.frames_seen.specs.of_segment_ring.declared.wire.Fate.{Fate}
 use Rattle.slave_lives.specs.Lived.{RingFrame, is_reached, node_met, node_behind, ClosedFrame, AccessBack}
 use Rattle.slave_lives.specs.Nodes.{stepped}
 use Rattle.slave_lives.specs.Opening.{Plan, IsPlan, IsBringing, AtMostOne, JustOne}
@@ -18,7 +18,7 @@ use Rattle.slave_lives.specs.Stands.{turn_of, bring_turn, IsClosed, MayStep}
 use Rattle.slave_lives.specs.Steps.{Running}
 use Rattle.slave_lives.proofs.Brought as Brought
 use Rattle.slave_lives.proofs.Closing as Closed
-use Rattle.slave_node.specs.Node.{Node}
+use Rattle.frames_seen.specs.of_slave_node.Node.{Node}
 use Rattle.slave_lives.specs.Shown.{Shows, Waits, StandsFor}
 use Rattle.slave_lives.proofs.Reading.{word_waits}
 use Rattle.slave_lives.proofs.Standing.{Awaits, awaits_of, steps_stand, frame_stands, watch_stands}

@@ -1,6 +1,7 @@
+pub use Rattle.frames_seen.proofs.of_frame_view as of_frame_view
 pub use Rattle.frames_seen.proofs as of_frames_seen
-pub use Rattle.life_model.proofs as of_life_model
-pub use Rattle.life_model.proofs.of_state_model as of_state_model
+pub use Rattle.frames_seen.proofs.of_life_model as of_life_model
+pub use Rattle.frames_seen.proofs.of_state_model as of_state_model
 pub mod Stepping
 pub mod Opens
 pub mod Brings

@@ -1,19 +1,19 @@
 -- An open slave meets the datagram of its master's inward half.
 use Rattle.std.proofs.Common.{◌≡◌, ℕ, ◌+◌, ◌%◌, ◌==◌, Bool, true, false, List, [], ◌∷◌, refl, ap, ◌∙◌, eq-eqb, if◌then◌else◌}
-use Rattle.datagrams.specs.Datagram as Raw
-use Rattle.esc_registers.specs.declared.registers.Registers as Esc
-use Rattle.slave_node.specs.Passing.{registers_after, datagrams_after}
-use Rattle.frame_view.specs.View.{Lens}
+use Rattle.frames_seen.specs.of_datagrams.Datagram as Raw
+use Rattle.frames_seen.specs.of_esc_registers.declared.registers.Registers as Esc
+use Rattle.frames_seen.specs.of_slave_node.Passing.{registers_after, datagrams_after}
+use Rattle.frames_seen.specs.of_frame_view.View.{Lens}
 use Rattle.frames_seen.specs.Ring.{all_after, IsRingMet}
 use Rattle.frames_seen.specs.Own.{own_seen}
 use Rattle.frames_seen.specs.Slaves.{slave_of}
-use Rattle.link_mails.specs.Body.{Body}
-use Rattle.link_model.specs.Frames.{Ask, in_ask, gram_meets, node_meets}
-use Rattle.link_model.specs.Master.{InState}
-use Rattle.link_model.specs.Slave.{Node}
-use Rattle.mailbox_slave.specs.Kept.{Kept}
-use Rattle.mailbox_slave.specs.Registers.{request_of, acknowledge_of}
-use Rattle.segment_model.specs.Slaves.{Serving, Slave, Datagram, slave_meets, slave_after, datagram_meets, frame_after}
+use Rattle.frames_seen.specs.of_link_mails.Body.{Body}
+use Rattle.frames_seen.specs.of_link_model.Frames.{Ask, in_ask, gram_meets, node_meets}
+use Rattle.frames_seen.specs.of_link_model.Master.{InState}
+use Rattle.frames_seen.specs.of_link_model.Slave.{Node}
+use Rattle.frames_seen.specs.of_mailbox_slave.Kept.{Kept}
+use Rattle.frames_seen.specs.of_mailbox_slave.Registers.{request_of, acknowledge_of}
+use Rattle.frames_seen.specs.of_segment_model.Slaves.{Serving, Slave, Datagram, slave_meets, slave_after, datagram_meets, frame_after}
 use Rattle.slave_lives.specs.Asked.{IsOwn, ComesBack, is_request, NoRequest, SameBits}
 
 -- what a datagram leaves of request and acknowledge

@@ -1,9 +1,9 @@
 -- A running slave as it is switched on, and behind octets that pass it.
 use Rattle.std.proofs.Common.{◌≡◌, ℕ, Bool, List, refl, sym, ◌∙◌, subst, arith}
 use Rattle.frames_seen.proofs.Passes as Octets
-use Rattle.slave_node.specs.of_mailbox_slave.Registers.{in_len}
-use Rattle.slave_node.specs.Node as Node
-use Rattle.slave_node.specs.Node.{new_node, node_passed}
+use Rattle.frames_seen.specs.of_mailbox_slave.Registers.{in_len}
+use Rattle.frames_seen.specs.of_slave_node.Node as Node
+use Rattle.frames_seen.specs.of_slave_node.Node.{new_node, node_passed}
 use Rattle.slave_lives.specs.Steps as The
 use Rattle.slave_lives.specs.Nodes.{IsKept, IsRunning}
 use Rattle.slave_lives.proofs.NodeSteps.{kept_new}

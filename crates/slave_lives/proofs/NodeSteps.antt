@@ -3,26 +3,26 @@ use Rattle.std.proofs.Common.{◌≡◌, ℕ, ◌+◌, ◌-◌, ◌<◌, ◌==�
 use Rattle.std.specs.Prelude.{Option, Some, None, if◌then◌else◌, replicate}
 use Rattle.std.specs.Option.{ForSome}
 use Rattle.std.proofs.lemmas.List.{length-replicate}
-use Rattle.slave_node.specs.of_mailbox_mail.declared.mail.Mail.{Mail}
-use Rattle.slave_node.specs.of_mailbox_mail.Area.{mail_area}
+use Rattle.frames_seen.specs.of_mailbox_mail.declared.mail.Mail.{Mail}
+use Rattle.frames_seen.specs.of_mailbox_mail.Area.{mail_area}
 use Rattle.frames_seen.specs.of_al_state.declared.machine.Al.{Al}
-use Rattle.slave_node.specs.of_esc_registers.declared.registers.Registers as Esc
-use Rattle.slave_node.specs.of_esc_registers.Manager.{is_right, is_enabled, is_repeat_asked}
+use Rattle.frames_seen.specs.of_esc_registers.declared.registers.Registers as Esc
+use Rattle.frames_seen.specs.of_esc_registers.Manager.{is_right, is_enabled, is_repeat_asked}
 use Rattle.frames_seen.specs.of_link_model.Counters.{next_counter, repeats}
 use Rattle.frames_seen.specs.of_link_model.Slave as Model
 use Rattle.frames_seen.specs.of_link_model.Slave.{Node, Server, node_look, node_serve}
-use Rattle.segment_ring.specs.of_ec_fields.Fields.{bits_of}
-use Rattle.slave_node.specs.of_link_mails.Body.{Body, counted_as}
-use Rattle.slave_node.specs.of_mailbox_slave.Kept.{Kept}
-use Rattle.slave_node.specs.of_mailbox_slave.Registers.{in_len, in_box, out_box, request_of, acknowledge_of}
-use Rattle.slave_node.specs.of_mailbox_slave.Node.{node_of, server_of}
-use Rattle.slave_node.specs.of_mailbox_slave.Exact as Exact
-use Rattle.slave_node.specs.of_mailbox_slave.Exact.{Boxes, with_acknowledge, kept_noticed, last_repeated, request_answered, boxes_looked, out_mail, is_free, mail_served, next_offered, mail_offered, slave_served}
+use Rattle.frames_seen.specs.of_ec_fields.Fields.{bits_of}
+use Rattle.frames_seen.specs.of_link_mails.Body.{Body, counted_as}
+use Rattle.frames_seen.specs.of_mailbox_slave.Kept.{Kept}
+use Rattle.frames_seen.specs.of_mailbox_slave.Registers.{in_len, in_box, out_box, request_of, acknowledge_of}
+use Rattle.frames_seen.specs.of_mailbox_slave.Node.{node_of, server_of}
+use Rattle.frames_seen.specs.of_mailbox_slave.Exact as Exact
+use Rattle.frames_seen.specs.of_mailbox_slave.Exact.{Boxes, with_acknowledge, kept_noticed, last_repeated, request_answered, boxes_looked, out_mail, is_free, mail_served, next_offered, mail_offered, slave_served}
 use Rattle.frames_seen.specs.of_segment_model.Slaves.{Registers}
-use Rattle.slave_node.specs.Node as Running
-use Rattle.slave_node.specs.Node.{is_init, new_box}
-use Rattle.slave_node.specs.Step.{looked, shown, al_asked, al_behind, word_behind, served, returned, status_word}
-use Rattle.slave_node.proofs.Init.{stays_new}
+use Rattle.frames_seen.specs.of_slave_node.Node as Running
+use Rattle.frames_seen.specs.of_slave_node.Node.{is_init, new_box}
+use Rattle.frames_seen.specs.of_slave_node.Step.{looked, shown, al_asked, al_behind, word_behind, served, returned, status_word}
+use Rattle.frames_seen.proofs.of_slave_node.Init.{stays_new}
 use Rattle.frames_seen.specs.Slaves.{registers_seen}
 use Rattle.slave_lives.specs.Steps as The
 use Rattle.slave_lives.specs.Steps.{KeepsOthers, node_steps, node_answered, node_cleared, word_carried}

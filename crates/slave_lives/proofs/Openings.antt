@@ -2,15 +2,15 @@
 use Rattle.std.proofs.Common.{◌≡◌, ◌⊎◌, inl, inr, ℕ, ◌<◌, ◌≤◌, Bool, true, false, List, [], ◌∷◌, refl, ap, sym, ◌∙◌, subst, arith}
 use Rattle.std.specs.Prelude.{None}
 use Rattle.std.proofs.lemmas.List.{length-replicate}
-use Rattle.segment_ring.specs.of_datagrams.Datagram as Raw
-use Rattle.slave_node.specs.of_esc_registers.declared.registers.Registers as Esc
-use Rattle.slave_node.specs.of_esc_registers.Manager.{is_right}
-use Rattle.slave_node.specs.of_esc_registers.Registers.{first_registers}
-use Rattle.slave_node.specs.Passing.{passed, registers_after}
+use Rattle.frames_seen.specs.of_datagrams.Datagram as Raw
+use Rattle.frames_seen.specs.of_esc_registers.declared.registers.Registers as Esc
+use Rattle.frames_seen.specs.of_esc_registers.Manager.{is_right}
+use Rattle.frames_seen.specs.of_esc_registers.Registers.{first_registers}
+use Rattle.frames_seen.specs.of_slave_node.Passing.{passed, registers_after}
 use Rattle.frames_seen.specs.of_link_model.Link.{new_link}
 use Rattle.frames_seen.specs.of_link_model.Slave.{Server}
-use Rattle.slave_node.specs.of_link_mails.Body.{Body}
-use Rattle.slave_node.specs.of_mailbox_slave.Kept.{Kept}
+use Rattle.frames_seen.specs.of_link_mails.Body.{Body}
+use Rattle.frames_seen.specs.of_mailbox_slave.Kept.{Kept}
 use Rattle.frames_seen.specs.Shows.{slave_table}
 use Rattle.frames_seen.specs.of_frame_view.View.{Lens}
 use Rattle.slave_lives.specs.Steps.{node_steps}

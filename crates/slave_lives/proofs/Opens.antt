@@ -1,18 +1,18 @@
 -- A slave stays open over a step of its processor.
 use Rattle.std.proofs.Common.{◌≡◌, ℕ, ◌<◌, ◌==◌, ◌&&◌, Bool, true, false, length, Result, Ok, Err, refl, ap, sym, ◌∙◌, subst}
 use Rattle.std.specs.Prelude.{Option, Some, None, option_map, if◌then◌else◌}
-use Rattle.slave_node.specs.of_mailbox_mail.declared.mail.Mail.{Mail}
-use Rattle.slave_node.specs.of_mailbox_mail.declared.mail.MailFault.{MailFault}
-use Rattle.slave_node.specs.of_mailbox_mail.Mail.{mail_read}
-use Rattle.slave_node.specs.of_esc_registers.declared.registers.Registers as Esc
-use Rattle.slave_node.specs.of_esc_registers.Manager.{is_right, is_enabled}
-use Rattle.slave_node.specs.of_esc_registers.Registers.{are_areas_right}
+use Rattle.frames_seen.specs.of_mailbox_mail.declared.mail.Mail.{Mail}
+use Rattle.frames_seen.specs.of_mailbox_mail.declared.mail.MailFault.{MailFault}
+use Rattle.frames_seen.specs.of_mailbox_mail.Mail.{mail_read}
+use Rattle.frames_seen.specs.of_esc_registers.declared.registers.Registers as Esc
+use Rattle.frames_seen.specs.of_esc_registers.Manager.{is_right, is_enabled}
+use Rattle.frames_seen.specs.of_esc_registers.Registers.{are_areas_right}
 use Rattle.frames_seen.specs.of_link_model.Mails.{LinkMail, differs, first_of}
 use Rattle.frames_seen.specs.of_link_model.Slave.{InSide, Node, Server, noticed, repeated, request_answered, looked, offers, node_look, node_take, node_serve}
-use Rattle.slave_node.specs.of_link_mails.Body.{Body, link_mail, link_read, uncounted}
-use Rattle.slave_node.specs.of_mailbox_slave.Kept.{Kept, offered}
-use Rattle.slave_node.specs.of_mailbox_slave.Registers.{in_box}
-use Rattle.slave_node.specs.of_mailbox_slave.Node.{node_of, in_side, server_of}
+use Rattle.frames_seen.specs.of_link_mails.Body.{Body, link_mail, link_read, uncounted}
+use Rattle.frames_seen.specs.of_mailbox_slave.Kept.{Kept, offered}
+use Rattle.frames_seen.specs.of_mailbox_slave.Registers.{in_box}
+use Rattle.frames_seen.specs.of_mailbox_slave.Node.{node_of, in_side, server_of}
 use Rattle.frames_seen.specs.of_frame_view.View.{Lens}
 use Rattle.frames_seen.specs.Slaves.{IsOpen}
 use Rattle.slave_lives.specs.Steps.{Stands, KeepsOthers, HasStepped, Running, StaysUp, word_carried}

@@ -1,16 +1,16 @@
 -- A SLAVE'S OWN DATAGRAMS, of octets and as data, are the same.
 use Rattle.std.proofs.Common.{◌≡◌, ℕ, ◌==◌, ◌&&◌, Bool, true, false, List, [], ◌∷◌, refl, ap, ◌∙◌}
 use Rattle.std.specs.Prelude.{if◌then◌else◌, nat_le, ◌-◌}
-use Rattle.segment_ring.specs.of_datagrams.declared.command.Command.{Command}
-use Rattle.segment_ring.specs.of_datagrams.declared.command.Command.TheVariants.{Aprd, Apwr, Aprw, Fprd, Fpwr, Fprw}
-use Rattle.segment_ring.specs.of_datagrams.Datagram as Raw
-use Rattle.slave_node.specs.of_esc_registers.Access.{is_by_station}
+use Rattle.frames_seen.specs.of_datagrams.declared.command.Command.{Command}
+use Rattle.frames_seen.specs.of_datagrams.declared.command.Command.TheVariants.{Aprd, Apwr, Aprw, Fprd, Fpwr, Fprw}
+use Rattle.frames_seen.specs.of_datagrams.Datagram as Raw
+use Rattle.frames_seen.specs.of_esc_registers.Access.{is_by_station}
 use Rattle.frames_seen.specs.of_segment_model.Slaves.{Address}
 use Rattle.frames_seen.specs.of_segment_model.Record.{is_for}
 use Rattle.frames_seen.specs.of_frame_view.View.{Lens, datagram_seen, address_of, place_of}
 use Rattle.frames_seen.specs.of_frame_view.Seen.{datagrams_seen}
 use Rattle.frames_seen.specs.Own.{is_to, own_of, own_seen}
-use Rattle.life_model.specs.Own.{own}
+use Rattle.frames_seen.specs.of_life_model.Own.{own}
 
 -- none by place is for a station
 no_place : (station adp : ℕ) → is_for station (place_of adp) ≡ false

@@ -2,19 +2,19 @@
 use Rattle.std.proofs.Common.{◌≡◌, ◌⊎◌, inl, inr, ℕ, ◌&&◌, Bool, true, false, List, [], ◌∷◌, ◌++◌, length, refl, ap, sym, ◌∙◌, subst, append-nil}
 use Rattle.std.specs.Prelude.{Option, Some, None, if◌then◌else◌, option_map}
 use Rattle.std.proofs.lemmas.Bool.{eq-eqb}
-use Rattle.life_model.specs.of_exchange_model.Exchange.{Speech, plain}
-use Rattle.life_model.specs.of_exchange_model.Rows.{Row, row_heard, answer_after}
-use Rattle.slave_node.specs.of_link_mails.Body.{Body}
+use Rattle.frames_seen.specs.of_exchange_model.Exchange.{Speech, plain}
+use Rattle.frames_seen.specs.of_exchange_model.Rows.{Row, row_heard, answer_after}
+use Rattle.frames_seen.specs.of_link_mails.Body.{Body}
 use Rattle.frames_seen.specs.of_link_model.Frames.{IsFrameFor, IsSent}
 use Rattle.frames_seen.specs.of_link_model.Segment.{RingFate}
 use Rattle.frames_seen.specs.of_segment_model.Ends.{Passing}
 use Rattle.frames_seen.specs.of_segment_model.Record.{Frame, is_for}
 use Rattle.frames_seen.specs.of_segment_model.Seats.{Side, side_begins, side_holds, side_next, side_back, side_lost, next_mail}
 use Rattle.frames_seen.specs.of_segment_model.Slaves.{Datagram, Address, Access, grams}
-use Rattle.life_model.specs.of_state_model.Accounts.{Account, Duty, Pick, IsServed, account_begins, account_next, account_back, mails_begin, mails_choice, duty_access}
-use Rattle.life_model.specs.of_state_model.Stated.{Service}
-use Rattle.life_model.specs.Lives.{Spot, Era, AsksOpen, ReadsFull, granted, era_next, era_after, passing_begins, passes}
-use Rattle.life_model.specs.Own.{own}
+use Rattle.frames_seen.specs.of_state_model.Accounts.{Account, Duty, Pick, IsServed, account_begins, account_next, account_back, mails_begin, mails_choice, duty_access}
+use Rattle.frames_seen.specs.of_state_model.Stated.{Service}
+use Rattle.frames_seen.specs.of_life_model.Lives.{Spot, Era, AsksOpen, ReadsFull, granted, era_next, era_after, passing_begins, passes}
+use Rattle.frames_seen.specs.of_life_model.Own.{own}
 use Rattle.slave_lives.specs.Ends.{no_pick, IsAnswered, YetFrame}
 use Rattle.slave_lives.specs.Lived.{Behind, IsBehind, LivesEra, RingFrame, node_behind, frame_of, OpenFrame}
 use Rattle.slave_lives.proofs.RingLives.{lived_on}

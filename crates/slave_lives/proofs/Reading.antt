@@ -1,11 +1,11 @@
 -- Accesses that read leave a slave's registers; and the word of the state that is opened waits where it was met.
 use Rattle.std.proofs.Common.{◌≡◌, ◌⊎◌, inl, inr, ℕ, Bool, true, false, Some, List, [], ◌∷◌, refl, sym, ap, ◌∙◌, subst, eq-eqb}
-use Rattle.datagrams.specs.declared.command.Command.TheVariants.{Fprd, Fpwr}
-use Rattle.datagrams.specs.Datagram as Raw
-use Rattle.ec_fields.specs.Fields.{number_at}
-use Rattle.esc_registers.specs.declared.registers.Registers as Esc
-use Rattle.slave_node.specs.Passing.{passed, registers_after}
-use Rattle.frame_view.specs.View.{Lens}
+use Rattle.frames_seen.specs.of_datagrams.declared.command.Command.TheVariants.{Fprd, Fpwr}
+use Rattle.frames_seen.specs.of_datagrams.Datagram as Raw
+use Rattle.frames_seen.specs.of_ec_fields.Fields.{number_at}
+use Rattle.frames_seen.specs.of_esc_registers.declared.registers.Registers as Esc
+use Rattle.frames_seen.specs.of_slave_node.Passing.{passed, registers_after}
+use Rattle.frames_seen.specs.of_frame_view.View.{Lens}
 use Rattle.frames_seen.specs.Slaves.{registers_seen}
 use Rattle.frames_seen.proofs.Owns.{unmoved}
 use Rattle.slave_lives.specs.Opening.{Plan, IsPlan, IsAccess, AtMostOne, JustOne}

@@ -2,14 +2,14 @@
 use Rattle.std.proofs.Common.{◌≡◌, ◌⊎◌, inl, inr, ℕ, ◌<◌, ◌≤◌, ◌==◌, ◌&&◌, not, Bool, true, false, List, [], ◌∷◌, length, refl, ap, sym, ◌∙◌, subst, arith}
 use Rattle.std.specs.Prelude.{Some}
 use Rattle.std.proofs.lemmas.Bool.{eq-eqb}
-use Rattle.segment_ring.specs.of_ec_fields.Fields.{number_at}
-use Rattle.segment_ring.specs.of_datagrams.declared.command.Command.TheVariants.{Aprd, Apwr, Fprd, Fpwr}
-use Rattle.segment_ring.specs.of_datagrams.Datagram as Raw
-use Rattle.slave_node.specs.of_esc_registers.declared.registers.Registers as Esc
-use Rattle.slave_node.specs.of_esc_registers.Manager.{is_right, is_enabled}
-use Rattle.slave_node.specs.Passing.{passed, registers_after}
-use Rattle.slave_node.specs.of_mailbox_slave.Kept.{Kept}
-use Rattle.slave_node.specs.of_mailbox_slave.Registers.{request_of}
+use Rattle.frames_seen.specs.of_ec_fields.Fields.{number_at}
+use Rattle.frames_seen.specs.of_datagrams.declared.command.Command.TheVariants.{Aprd, Apwr, Fprd, Fpwr}
+use Rattle.frames_seen.specs.of_datagrams.Datagram as Raw
+use Rattle.frames_seen.specs.of_esc_registers.declared.registers.Registers as Esc
+use Rattle.frames_seen.specs.of_esc_registers.Manager.{is_right, is_enabled}
+use Rattle.frames_seen.specs.of_slave_node.Passing.{passed, registers_after}
+use Rattle.frames_seen.specs.of_mailbox_slave.Kept.{Kept}
+use Rattle.frames_seen.specs.of_mailbox_slave.Registers.{request_of}
 use Rattle.frames_seen.specs.of_frame_view.View.{Lens}
 use Rattle.frames_seen.specs.Slaves.{registers_seen}
 use Rattle.slave_lives.specs.Steps.{Running}

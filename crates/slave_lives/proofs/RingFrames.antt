@@ -1,19 +1,19 @@
 -- A RING, octet by octet: each slave meets the datagrams as those before it leave them.
 use Rattle.std.proofs.Common.{◌≡◌, ℕ, zero, suc, Bool, true, false, List, [], ◌∷◌, ◌++◌, length, refl, ap, ap₂, sym, ◌∙◌, subst}
 use Rattle.std.specs.Prelude.{if◌then◌else◌}
-use Rattle.segment_ring.specs.of_datagrams.Datagram as Raw
-use Rattle.segment_ring.specs.of_datagrams.Frame.{IsFrame}
-use Rattle.slave_node.specs.of_esc_registers.declared.registers.Registers as Esc
-use Rattle.slave_node.specs.Passing.{passed, registers_after, datagrams_after}
+use Rattle.frames_seen.specs.of_datagrams.Datagram as Raw
+use Rattle.frames_seen.specs.of_datagrams.Frame.{IsFrame}
+use Rattle.frames_seen.specs.of_esc_registers.declared.registers.Registers as Esc
+use Rattle.frames_seen.specs.of_slave_node.Passing.{passed, registers_after, datagrams_after}
 use Rattle.frames_seen.specs.Kept.{FrameKeeps}
 use Rattle.frames_seen.specs.Ring.{all_after}
 use Rattle.frames_seen.proofs.Passes as Octets
 use Rattle.frames_seen.proofs.Rows.{access_keeps, keeps_both}
-use Rattle.segment_ring.specs.declared.wire.Fate.{Fate}
-use Rattle.segment_ring.specs.declared.wire.Fate.TheVariants.{Pass, Lost}
-use Rattle.segment_ring.specs.Schedule.{fate_at}
-use Rattle.segment_ring.specs.Ring.{RingState, is_in_pace, nodes_passed, frame_met, nodes_stepped}
-use Rattle.slave_node.specs.Node.{Node, node_passed}
+use Rattle.frames_seen.specs.of_segment_ring.declared.wire.Fate.{Fate}
+use Rattle.frames_seen.specs.of_segment_ring.declared.wire.Fate.TheVariants.{Pass, Lost}
+use Rattle.frames_seen.specs.of_segment_ring.Schedule.{fate_at}
+use Rattle.frames_seen.specs.of_segment_ring.Ring.{RingState, is_in_pace, nodes_passed, frame_met, nodes_stepped}
+use Rattle.frames_seen.specs.of_slave_node.Node.{Node, node_passed}
 use Rattle.slave_lives.specs.Steps.{Running}
 use Rattle.slave_lives.specs.Nodes.{IsKept, IsRunning, stepped}
 use Rattle.slave_lives.specs.Rings.{registers_of, is_among, is_met_at, come_to, come_back, met, IsExchanged}

@@ -1,16 +1,16 @@
 -- A RING'S EXCHANGE of octets is a frame of its open slave's life.
 use Rattle.std.proofs.Common.{◌≡◌, ℕ, Bool, List, [], ◌∷◌, ◌++◌, length, refl, ap, ap₂, sym, subst}
-use Rattle.segment_ring.specs.of_datagrams.Frame.{IsFrame}
+use Rattle.frames_seen.specs.of_datagrams.Frame.{IsFrame}
 use Rattle.frames_seen.specs.of_frame_view.View.{Lens}
 use Rattle.frames_seen.specs.of_frame_view.Seen.{seen, datagrams_seen}
 use Rattle.frames_seen.proofs.of_frame_view.Octets as Octets
-use Rattle.slave_node.specs.of_link_mails.Body.{Body}
+use Rattle.frames_seen.specs.of_link_mails.Body.{Body}
 use Rattle.frames_seen.specs.of_segment_model.Slaves.{Datagram}
 use Rattle.frames_seen.specs.of_segment_model.Record.{Frame, News}
-use Rattle.segment_ring.specs.declared.wire.Fate.{Fate}
-use Rattle.segment_ring.specs.declared.wire.Fate.TheVariants.{Pass, Lost}
-use Rattle.life_model.specs.of_state_model.Accounts.{Pick}
-use Rattle.life_model.specs.Lives.{Spot, Era, AsksOpen, era_next, era_after}
+use Rattle.frames_seen.specs.of_segment_ring.declared.wire.Fate.{Fate}
+use Rattle.frames_seen.specs.of_segment_ring.declared.wire.Fate.TheVariants.{Pass, Lost}
+use Rattle.frames_seen.specs.of_state_model.Accounts.{Pick}
+use Rattle.frames_seen.specs.of_life_model.Lives.{Spot, Era, AsksOpen, era_next, era_after}
 use Rattle.slave_lives.specs.Steps.{Running}
 use Rattle.slave_lives.specs.Rings.{come_back, IsExchanged}
 use Rattle.slave_lives.specs.Lived.{Behind, IsBehind, LivesEra, RingFrame, fate_of, node_behind, octets_back, frame_of, returned, StandsBehind, OpenFrame, LivedOn}

@@ -1,15 +1,15 @@
 -- WHAT HOLDS OF A RUNNING SERVER that mails taken, mails given and a return to Init leave, a step of its slave leaves.
 use Rattle.std.proofs.Common.{ℕ, Bool, true, false}
 use Rattle.std.specs.Prelude.{if◌then◌else◌, not, Option, Some, None}
-use Rattle.slave_node.specs.of_esc_registers.declared.registers.Registers as Esc
-use Rattle.slave_node.specs.of_link_mails.Body.{Body}
+use Rattle.frames_seen.specs.of_esc_registers.declared.registers.Registers as Esc
+use Rattle.frames_seen.specs.of_link_mails.Body.{Body}
 use Rattle.frames_seen.specs.of_link_model.Counters.{repeats}
-use Rattle.slave_node.specs.of_mailbox_mail.declared.mail.Mail.{Mail}
-use Rattle.slave_node.specs.of_mailbox_slave.Kept.{Kept}
-use Rattle.slave_node.specs.of_mailbox_slave.Exact as Exact
-use Rattle.slave_node.specs.of_mailbox_slave.Exact.{with_out_free, out_mail, is_free, mail_served, next_offered, slave_served}
-use Rattle.slave_node.specs.Node.{Node, is_init}
-use Rattle.slave_node.specs.Step.{looked, al_behind, word_behind, served, returned}
+use Rattle.frames_seen.specs.of_mailbox_mail.declared.mail.Mail.{Mail}
+use Rattle.frames_seen.specs.of_mailbox_slave.Kept.{Kept}
+use Rattle.frames_seen.specs.of_mailbox_slave.Exact as Exact
+use Rattle.frames_seen.specs.of_mailbox_slave.Exact.{with_out_free, out_mail, is_free, mail_served, next_offered, slave_served}
+use Rattle.frames_seen.specs.of_slave_node.Node.{Node, is_init}
+use Rattle.frames_seen.specs.of_slave_node.Step.{looked, al_behind, word_behind, served, returned}
 use Rattle.slave_lives.specs.Nodes.{stepped}
 use Rattle.slave_lives.specs.Steps.{Running}
 

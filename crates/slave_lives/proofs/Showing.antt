@@ -3,18 +3,18 @@ use Rattle.std.proofs.Common.{◌≡◌, ℕ, ◌<◌, ◌==◌, ◌&&◌, Bool,
 use Rattle.std.specs.Prelude.{nat_lt, not}
 use Rattle.std.proofs.lemmas.Bool.{lt-ltb}
 use Rattle.byteorder.specs.Endian.{little_bytes}
-use Rattle.datagrams.specs.declared.command.Command.TheVariants.{Aprd, Fprd}
-use Rattle.datagrams.specs.declared.head.Head.{Head}
-use Rattle.datagrams.specs.Datagram as Raw
-use Rattle.ec_fields.specs.Fields.{bits_of, number_at}
-use Rattle.esc_registers.specs.declared.registers.Registers as Esc
-use Rattle.slave_node.specs.Passing.{passed, datagram_after}
-use Rattle.slave_node.proofs.Parts.{head_kept}
-use Rattle.frame_view.specs.View.{Lens, datagram_seen, station_of, access_of, read_access, found_of, state_found, register_counter}
+use Rattle.frames_seen.specs.of_datagrams.declared.command.Command.TheVariants.{Aprd, Fprd}
+use Rattle.frames_seen.specs.of_datagrams.declared.head.Head.{Head}
+use Rattle.frames_seen.specs.of_datagrams.Datagram as Raw
+use Rattle.frames_seen.specs.of_ec_fields.Fields.{bits_of, number_at}
+use Rattle.frames_seen.specs.of_esc_registers.declared.registers.Registers as Esc
+use Rattle.frames_seen.specs.of_slave_node.Passing.{passed, datagram_after}
+use Rattle.frames_seen.proofs.of_slave_node.Parts.{head_kept}
+use Rattle.frames_seen.specs.of_frame_view.View.{Lens, datagram_seen, station_of, access_of, read_access, found_of, state_found, register_counter}
 use Rattle.frames_seen.proofs.Numbers.{word_back}
 use Rattle.frames_seen.proofs.Rows.{access_len}
-use Rattle.life_model.specs.Lives.{is_shown}
-use Rattle.segment_model.specs.Slaves.{Access, Found}
+use Rattle.frames_seen.specs.of_life_model.Lives.{is_shown}
+use Rattle.frames_seen.specs.of_segment_model.Slaves.{Access, Found}
 use Rattle.slave_lives.specs.Opening.{Plan, aim, IsAccess}
 use Rattle.slave_lives.specs.Stands.{CameBack}
 use Rattle.slave_lives.proofs.Brings.{with_body, none_full}

@@ -1,16 +1,16 @@
 -- The state that an access awaits stands, or its word waits: by frames and steps.
 use Rattle.std.proofs.Common.{◌≡◌, ◌⊎◌, inl, inr, ℕ, ◌<◌, ◌==◌, ◌&&◌, Bool, true, false, Option, Some, None, List, refl, sym, ap, ap₂, ◌∙◌, subst, arith, if◌then◌else◌}
 use Rattle.std.proofs.lemmas.Bool.{eqb-true, or_cases}
-use Rattle.datagrams.specs.Datagram as Raw
-use Rattle.esc_registers.specs.declared.registers.Registers as Esc
-use Rattle.esc_registers.specs.Registers.{are_areas_right}
-use Rattle.slave_node.specs.Passing.{registers_after}
-use Rattle.frame_view.specs.View.{Lens}
+use Rattle.frames_seen.specs.of_datagrams.Datagram as Raw
+use Rattle.frames_seen.specs.of_esc_registers.declared.registers.Registers as Esc
+use Rattle.frames_seen.specs.of_esc_registers.Registers.{are_areas_right}
+use Rattle.frames_seen.specs.of_slave_node.Passing.{registers_after}
+use Rattle.frames_seen.specs.of_frame_view.View.{Lens}
 use Rattle.frames_seen.specs.Slaves.{registers_seen}
-use Rattle.life_model.specs.Repairs.{awaits_at, awaited}
-use Rattle.life_model.specs.Lives.{Opening, shows_clear, is_shown}
-use Rattle.mailbox_slave.specs.Kept.{Kept}
-use Rattle.segment_model.specs.Slaves.{Found, Registers}
+use Rattle.frames_seen.specs.of_life_model.Repairs.{awaits_at, awaited}
+use Rattle.frames_seen.specs.of_life_model.Lives.{Opening, shows_clear, is_shown}
+use Rattle.frames_seen.specs.of_mailbox_slave.Kept.{Kept}
+use Rattle.frames_seen.specs.of_segment_model.Slaves.{Found, Registers}
 use Rattle.slave_lives.specs.Nodes.{StepsOn, stepped}
 use Rattle.slave_lives.specs.Opening.{Plan, IsPlan, IsBringing, AtMostOne}
 use Rattle.slave_lives.specs.Returning.{IsFrozen, IsReturned}
@@ -22,9 +22,9 @@ use Rattle.slave_lives.proofs.Closing as Closed
 use Rattle.slave_lives.proofs.NodeSteps as Stepped
 use Rattle.slave_lives.proofs.Openings.{allowed}
 use Rattle.slave_lives.proofs.Turning as Turning
-use Rattle.slave_node.specs.Node.{Node}
+use Rattle.frames_seen.specs.of_slave_node.Node.{Node}
 use Rattle.frames_seen.specs.Shows.{slave_table}
-use Rattle.state_model.specs.States as States
+use Rattle.frames_seen.specs.of_state_model.States as States
 use Rattle.slave_lives.specs.Shown.{Shows, Waits, StandsFor}
 use Rattle.slave_lives.proofs.Reading.{Reads, reads_leave}
 use Rattle.slave_lives.proofs.Showing.{read_shows}

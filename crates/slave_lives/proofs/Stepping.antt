@@ -1,12 +1,12 @@
 -- A STEP of a running slave is the session's.
 use Rattle.std.proofs.Common.{◌≡◌, ℕ, Bool, ap, ap₂, sym, ◌∙◌}
-use Rattle.slave_node.specs.of_esc_registers.declared.registers.Registers as Esc
-use Rattle.life_model.specs.of_exchange_model.Exchange.{Exchange}
+use Rattle.frames_seen.specs.of_esc_registers.declared.registers.Registers as Esc
+use Rattle.frames_seen.specs.of_exchange_model.Exchange.{Exchange}
 use Rattle.frames_seen.specs.of_link_model.Slave.{node_look, node_serve, node_seen}
 use Rattle.frames_seen.proofs.of_link_model.Servers.{step_seen}
-use Rattle.slave_node.specs.of_link_mails.Body.{Body}
-use Rattle.slave_node.specs.of_mailbox_slave.Kept.{Kept}
-use Rattle.slave_node.specs.of_mailbox_slave.Node.{node_of, server_of}
+use Rattle.frames_seen.specs.of_link_mails.Body.{Body}
+use Rattle.frames_seen.specs.of_mailbox_slave.Kept.{Kept}
+use Rattle.frames_seen.specs.of_mailbox_slave.Node.{node_of, server_of}
 use Rattle.frames_seen.specs.of_segment_model.Slaves.{Registers, Serving, Processor, serving, slave_steps, state_told, Slave}
 use Rattle.frames_seen.specs.Slaves.{registers_seen, slave_of}
 use Rattle.slave_lives.specs.Steps.{Running, IsServedAs, HasStepped, StaysUp, word_carried, node_steps}

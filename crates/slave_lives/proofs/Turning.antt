@@ -2,20 +2,20 @@
 use Rattle.std.proofs.Common.{◌≡◌, ◌⊎◌, inl, inr, ℕ, ◌<◌, ◌==◌, ◌&&◌, ◌||◌, Bool, true, false, List, [], ◌∷◌, ◌++◌, length, Ok, refl, ap, ap₂, sym, ◌∙◌, subst, arith}
 use Rattle.std.specs.Prelude.{if◌then◌else◌, Option, Some, None, option_map}
 use Rattle.std.proofs.lemmas.Bool.{eq-eqb, eqb-true, and_parts, and_from, or_cases}
-use Rattle.segment_ring.specs.of_datagrams.Datagram as Raw
-use Rattle.slave_node.specs.of_esc_registers.declared.registers.Registers as Esc
-use Rattle.slave_node.specs.of_esc_registers.Manager.{is_right, is_enabled}
-use Rattle.slave_node.specs.of_esc_registers.Registers.{are_areas_right}
+use Rattle.frames_seen.specs.of_datagrams.Datagram as Raw
+use Rattle.frames_seen.specs.of_esc_registers.declared.registers.Registers as Esc
+use Rattle.frames_seen.specs.of_esc_registers.Manager.{is_right, is_enabled}
+use Rattle.frames_seen.specs.of_esc_registers.Registers.{are_areas_right}
 use Rattle.frames_seen.specs.of_al_state.Request.{is_state}
-use Rattle.slave_node.specs.Passing.{passed, registers_after}
+use Rattle.frames_seen.specs.of_slave_node.Passing.{passed, registers_after}
 use Rattle.frames_seen.specs.of_link_model.Mails.{LinkMail}
 use Rattle.frames_seen.specs.of_link_model.Link.{new_link}
 use Rattle.frames_seen.specs.of_link_model.Slave.{Node, Server, node_look, node_serve}
-use Rattle.slave_node.specs.of_link_mails.Body.{Body, link_read, uncounted}
-use Rattle.slave_node.specs.of_mailbox_mail.Mail.{mail_read}
-use Rattle.slave_node.specs.of_mailbox_slave.Kept.{Kept}
-use Rattle.slave_node.specs.of_mailbox_slave.Registers.{request_of, acknowledge_of, out_box, in_box}
-use Rattle.slave_node.specs.of_mailbox_slave.Node.{node_of, server_of}
+use Rattle.frames_seen.specs.of_link_mails.Body.{Body, link_read, uncounted}
+use Rattle.frames_seen.specs.of_mailbox_mail.Mail.{mail_read}
+use Rattle.frames_seen.specs.of_mailbox_slave.Kept.{Kept}
+use Rattle.frames_seen.specs.of_mailbox_slave.Registers.{request_of, acknowledge_of, out_box, in_box}
+use Rattle.frames_seen.specs.of_mailbox_slave.Node.{node_of, server_of}
 use Rattle.frames_seen.specs.of_segment_model.Slaves.{Registers}
 use Rattle.frames_seen.specs.of_state_model.States
 use Rattle.frames_seen.specs.Shows.{slave_table}
@@ -28,7 +28,7 @@ use Rattle.slave_lives.proofs.Openings.{allowed, the_access, none_moves}
 use Rattle.frames_seen.proofs.Owns.{unmoved}
 use Rattle.frames_seen.proofs.Numbers.{word_back}
 use Rattle.byteorder.specs.Endian.{little_bytes}
-use Rattle.segment_ring.specs.of_ec_fields.Fields.{number_at, bits_of}
+use Rattle.frames_seen.specs.of_ec_fields.Fields.{number_at, bits_of}
 
 -- an empty mailbox
 no_out : (r : Esc.Registers) → r.out_manager.full ≡ false → out_box r ≡ None

@@ -2,11 +2,11 @@
 use Rattle.std.proofs.Common.{◌≡◌, ◌⊎◌, inl, inr, ℕ, suc, ◌+◌, ◌-◌, ◌%◌, ◌<◌, ◌≤◌, ◌==◌, ◌&&◌, Bool, true, false, List, [], ◌∷◌, length, refl, ap, sym, ◌∙◌, subst, arith}
 use Rattle.std.specs.Prelude.{if◌then◌else◌, None}
 use Rattle.std.proofs.lemmas.Bool.{ne_eqb, eq-eqb}
-use Rattle.segment_ring.specs.of_datagrams.Datagram as Raw
-use Rattle.slave_node.specs.of_esc_registers.declared.registers.Registers as Esc
-use Rattle.slave_node.specs.of_esc_registers.Access.{is_by_place, is_by_station, moved_on, passed_at, row_of}
-use Rattle.slave_node.specs.Passing.{passed, datagram_after, datagrams_after}
-use Rattle.slave_node.specs.of_mailbox_slave.Kept.{Kept}
+use Rattle.frames_seen.specs.of_datagrams.Datagram as Raw
+use Rattle.frames_seen.specs.of_esc_registers.declared.registers.Registers as Esc
+use Rattle.frames_seen.specs.of_esc_registers.Access.{is_by_place, is_by_station, moved_on, passed_at, row_of}
+use Rattle.frames_seen.specs.of_slave_node.Passing.{passed, datagram_after, datagrams_after}
+use Rattle.frames_seen.specs.of_mailbox_slave.Kept.{Kept}
 use Rattle.frames_seen.specs.of_frame_view.View.{Lens}
 use Rattle.frames_seen.specs.Spoken.{means}
 use Rattle.frames_seen.specs.Own.{is_to, IsApart, NoneMeant}

@@ -2,17 +2,17 @@
 use Rattle.std.proofs.Common.{◌≡◌, ◌≢◌, ◌⊎◌, inl, inr, ℕ, ◌+◌, ◌<◌, ◌==◌, ◌&&◌, ◌||◌, Bool, true, false, not, refl, ap, ap₂, sym, ◌∙◌, arith}
 use Rattle.std.specs.Prelude.{Option, Some, None, if◌then◌else◌}
 use Rattle.std.proofs.lemmas.Bool.{eqb-true, or_cases}
-use Rattle.segment_ring.specs.of_ec_fields.Fields.{bits_of}
+use Rattle.frames_seen.specs.of_ec_fields.Fields.{bits_of}
 use Rattle.frames_seen.specs.of_al_state.declared.machine.Al.{Al}
 use Rattle.frames_seen.specs.of_al_state.declared.machine.Asked.TheVariants.{Ignored}
 use Rattle.frames_seen.specs.of_al_state.Request.{is_state, is_change, refusal_of, carried, request_of}
-use Rattle.slave_node.specs.of_esc_registers.declared.registers.Registers as Esc
-use Rattle.slave_node.specs.of_esc_registers.Registers.{are_areas_right}
+use Rattle.frames_seen.specs.of_esc_registers.declared.registers.Registers as Esc
+use Rattle.frames_seen.specs.of_esc_registers.Registers.{are_areas_right}
 use Rattle.frames_seen.specs.of_segment_model.Slaves.{Registers}
 use Rattle.frames_seen.specs.of_state_model.States as States
 use Rattle.frames_seen.specs.Shows.{Shows, slave_table, error_of, word_seen}
 use Rattle.frames_seen.proofs.Carries.{carries, not_zero}
-use Rattle.slave_node.specs.Step.{status_word, shown, al_asked, al_behind, word_behind}
+use Rattle.frames_seen.specs.of_slave_node.Step.{status_word, shown, al_asked, al_behind, word_behind}
 use Rattle.frames_seen.specs.Slaves.{registers_seen}
 use Rattle.slave_lives.specs.Steps.{KeepsOthers, word_carried}
 use Rattle.slave_lives.specs.Nodes.{IsShown}

@@ -1,18 +1,18 @@
 -- A frame of 60 octets round a ring of two slaves: a mail for the first, which is open, and the first access of a reopening for the second.
 use Rattle.std.proofs.Common.{◌≡◌, ℕ, true, false, List, [], ◌∷◌, refl}
 use Rattle.std.specs.Prelude.{None, Ok, map, replicate, zero, suc}
-use Rattle.segment_ring.specs.of_datagrams.declared.command.Command.TheVariants.{Fpwr, Apwr}
-use Rattle.segment_ring.specs.of_datagrams.Datagram as Raw
-use Rattle.segment_ring.specs.of_datagrams.Frame.{frame_text}
-use Rattle.slave_node.specs.of_esc_registers.declared.registers.Registers as Esc
-use Rattle.slave_node.specs.of_mailbox_mail.declared.mail.Kind.TheVariants.{CoE}
+use Rattle.frames_seen.specs.of_datagrams.declared.command.Command.TheVariants.{Fpwr, Apwr}
+use Rattle.frames_seen.specs.of_datagrams.Datagram as Raw
+use Rattle.frames_seen.specs.of_datagrams.Frame.{frame_text}
+use Rattle.frames_seen.specs.of_esc_registers.declared.registers.Registers as Esc
+use Rattle.frames_seen.specs.of_mailbox_mail.declared.mail.Kind.TheVariants.{CoE}
 use Rattle.frames_seen.specs.of_link_model.Frames.{Ask}
 use Rattle.frames_seen.specs.of_segment_model.Slaves.{Address, Access}
-use Rattle.segment_ring.specs.Ring.{ring_behind, RingState}
+use Rattle.frames_seen.specs.of_segment_ring.Ring.{ring_behind, RingState}
 use Rattle.frames_seen.specs.of_frame_view.View.{Lens, asking}
 use Rattle.frames_seen.specs.of_frame_view.Seen.{seen}
 use Rattle.frames_seen.specs.Slaves.{registers_seen}
-use Rattle.slave_node.specs.Node.{Node, new_box, node_passed}
+use Rattle.frames_seen.specs.of_slave_node.Node.{Node, new_box, node_passed}
 use Rattle.slave_lives.specs.Nodes.{stepped}
 use Rattle.slave_lives.specs.Steps.{Running}
 

@@ -1,15 +1,15 @@
 -- WHAT AN OPEN SLAVE ANSWERS THE INWARD HALF of its master: the write of the repeat request, and the read of its acknowledge.
 use Rattle.std.specs.Prelude.{◌≡◌, ◌==◌, ℕ, Bool, true, false, List, [], ◌∷◌, ⊤}
-use Rattle.datagrams.specs.Datagram as Raw
-use Rattle.esc_registers.specs.declared.registers.Registers as Esc
-use Rattle.slave_node.specs.Passing.{datagrams_after}
-use Rattle.frame_view.specs.View.{Lens}
+use Rattle.frames_seen.specs.of_datagrams.Datagram as Raw
+use Rattle.frames_seen.specs.of_esc_registers.declared.registers.Registers as Esc
+use Rattle.frames_seen.specs.of_slave_node.Passing.{datagrams_after}
+use Rattle.frames_seen.specs.of_frame_view.View.{Lens}
 use Rattle.frames_seen.specs.Own.{own_seen}
 use Rattle.frames_seen.specs.Ring.{all_after}
-use Rattle.link_mails.specs.Body.{Body}
-use Rattle.link_model.specs.Frames.{Ask}
-use Rattle.mailbox_slave.specs.Registers.{request_of, acknowledge_of}
-use Rattle.segment_model.specs.Slaves.{Datagram}
+use Rattle.frames_seen.specs.of_link_mails.Body.{Body}
+use Rattle.frames_seen.specs.of_link_model.Frames.{Ask}
+use Rattle.frames_seen.specs.of_mailbox_slave.Registers.{request_of, acknowledge_of}
+use Rattle.frames_seen.specs.of_segment_model.Slaves.{Datagram}
 
 -- the one datagram to its station, as no slave has met it
 pub record IsOwn (lens : ℕ → Lens) (station : ℕ) (sent : List Raw.Datagram) (x : Datagram Body) : Type 0 where

@@ -1,16 +1,16 @@
 -- THE EPOCHS OF A LIFE that are over, each with the server that its slave left.
 use Rattle.std.specs.Prelude.{◌≡◌, ◌≤◌, ◌<◌, ◌∷◌, ◌++◌, ℕ, true, false, Option, Some, None, List, [], length, ⊤}
-use Rattle.life_model.specs.of_exchange_model.Exchange.{Speech, plain}
-use Rattle.life_model.specs.of_exchange_model.Rows.{Row, answer_after}
+use Rattle.frames_seen.specs.of_exchange_model.Exchange.{Speech, plain}
+use Rattle.frames_seen.specs.of_exchange_model.Rows.{Row, answer_after}
 use Rattle.frames_seen.specs.of_frame_view.Seen.{seen}
-use Rattle.slave_node.specs.of_link_mails.Body.{Body}
+use Rattle.frames_seen.specs.of_link_mails.Body.{Body}
 use Rattle.frames_seen.specs.of_segment_model.Record.{Frame}
 use Rattle.frames_seen.specs.of_segment_model.Slaves.{Registers, Slave}
-use Rattle.life_model.specs.Lives.{Spot, Era}
-use Rattle.life_model.specs.Eras.{EraIs, Clearing, IsClearing}
-use Rattle.life_model.specs.Own.{own}
-use Rattle.life_model.specs.of_state_model.Accounts.{Pick}
-use Rattle.segment_ring.specs.Ring.{is_in_pace}
+use Rattle.frames_seen.specs.of_life_model.Lives.{Spot, Era}
+use Rattle.frames_seen.specs.of_life_model.Eras.{EraIs, Clearing, IsClearing}
+use Rattle.frames_seen.specs.of_life_model.Own.{own}
+use Rattle.frames_seen.specs.of_state_model.Accounts.{Pick}
+use Rattle.frames_seen.specs.of_segment_ring.Ring.{is_in_pace}
 use Rattle.slave_lives.specs.Lived.{Behind, table_of, RingFrame, octets_back, is_reached, node_met, LivesEra, IsForOpen, StepsUp}
 
 -- AN EPOCH THAT ENDED: it was open up to one of these frames, from this application on, and its slave left this server

@@ -1,31 +1,31 @@
 -- A SLAVE'S LIFE AS ITS NODE LIVES IT: the node's registers, box and server, as the exchange's, are the slave of the epoch that is open.
 use Rattle.std.specs.Prelude.{◌≡◌, ◌≢◌, ◌<◌, ◌∷◌, ◌++◌, ℕ, Bool, true, List, [], length, Option, Some, None}
-use Rattle.segment_ring.specs.of_datagrams.Datagram as Raw
-use Rattle.segment_ring.specs.of_datagrams.Frame.{IsFrame}
-use Rattle.life_model.specs.of_exchange_model.Exchange.{Exchange}
+use Rattle.frames_seen.specs.of_datagrams.Datagram as Raw
+use Rattle.frames_seen.specs.of_datagrams.Frame.{IsFrame}
+use Rattle.frames_seen.specs.of_exchange_model.Exchange.{Exchange}
 use Rattle.frames_seen.specs.of_frame_view.View.{Lens}
 use Rattle.frames_seen.specs.of_frame_view.Seen.{seen, datagrams_seen}
 use Rattle.frames_seen.specs.Own.{own_of, IsAlone}
 use Rattle.frames_seen.specs.Ring.{AllApart}
 use Rattle.frames_seen.specs.Slaves.{registers_seen, slave_of, IsOpen}
 use Rattle.frames_seen.specs.Spoken.{AllSpoken}
-use Rattle.slave_node.specs.Passing.{datagrams_after}
-use Rattle.slave_node.specs.of_link_mails.Body.{Body}
-use Rattle.slave_node.specs.of_mailbox_slave.Node.{in_side}
-use Rattle.slave_node.specs.of_mailbox_slave.Registers.{in_len}
+use Rattle.frames_seen.specs.of_slave_node.Passing.{datagrams_after}
+use Rattle.frames_seen.specs.of_link_mails.Body.{Body}
+use Rattle.frames_seen.specs.of_mailbox_slave.Node.{in_side}
+use Rattle.frames_seen.specs.of_mailbox_slave.Registers.{in_len}
 use Rattle.frames_seen.specs.of_segment_model.Slaves.{Registers, Slave, Serving, Processor, Found}
 use Rattle.frames_seen.specs.of_segment_model.Record.{Frame, News}
-use Rattle.segment_ring.specs.declared.wire.Fate.{Fate}
-use Rattle.segment_ring.specs.declared.wire.Fate.TheVariants.{Pass, Lost}
-use Rattle.life_model.specs.of_state_model.Stated.{Stated}
+use Rattle.frames_seen.specs.of_segment_ring.declared.wire.Fate.{Fate}
+use Rattle.frames_seen.specs.of_segment_ring.declared.wire.Fate.TheVariants.{Pass, Lost}
+use Rattle.frames_seen.specs.of_state_model.Stated.{Stated}
 use Rattle.frames_seen.specs.Shows.{slave_table}
 use Rattle.frames_seen.specs.of_state_model.States as States
-use Rattle.segment_ring.specs.Schedule.{fate_at}
-use Rattle.segment_ring.specs.Ring.{RingState, is_in_pace, ring_behind, ring_returned}
-use Rattle.life_model.specs.of_state_model.Accounts.{Pick}
-use Rattle.slave_node.specs.Node.{Node, node_passed}
-use Rattle.life_model.specs.Lives.{Spot, Era, Opening, AsksOpen, era_next, era_after, new_era}
-use Rattle.life_model.specs.Eras.{EraIs}
+use Rattle.frames_seen.specs.of_segment_ring.Schedule.{fate_at}
+use Rattle.frames_seen.specs.of_segment_ring.Ring.{RingState, is_in_pace, ring_behind, ring_returned}
+use Rattle.frames_seen.specs.of_state_model.Accounts.{Pick}
+use Rattle.frames_seen.specs.of_slave_node.Node.{Node, node_passed}
+use Rattle.frames_seen.specs.of_life_model.Lives.{Spot, Era, Opening, AsksOpen, era_next, era_after, new_era}
+use Rattle.frames_seen.specs.of_life_model.Eras.{EraIs}
 use Rattle.slave_lives.specs.Nodes.{IsRunning, IsRoomy, stepped}
 use Rattle.slave_lives.specs.Opening.{Plan, IsPlan, IsOpened, AtMostOne, JustOne}
 use Rattle.slave_lives.specs.Returning.{Clears}

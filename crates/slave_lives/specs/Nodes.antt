@@ -1,16 +1,16 @@
 -- A RUNNING SLAVE, octet by octet: what always holds of it, and what its frames and steps leave.
 use Rattle.std.specs.Prelude.{◌≡◌, ℕ, ◌+◌, ◌<◌, ◌≤◌, true, Some, None, IsSome, length}
 use Rattle.std.specs.Option.{ForSome}
-use Rattle.slave_node.specs.of_mailbox_mail.declared.mail.Mail.{Mail}
+use Rattle.frames_seen.specs.of_mailbox_mail.declared.mail.Mail.{Mail}
 use Rattle.frames_seen.specs.of_al_state.declared.machine.Al.{Al}
 use Rattle.frames_seen.specs.of_al_state.Request.{is_state}
-use Rattle.slave_node.specs.of_esc_registers.declared.registers.Registers as Esc
-use Rattle.slave_node.specs.of_link_mails.Body.{Body}
-use Rattle.slave_node.specs.of_mailbox_slave.Kept.{Kept}
-use Rattle.slave_node.specs.of_mailbox_slave.Registers.{in_len}
-use Rattle.slave_node.specs.Node as Running
-use Rattle.slave_node.specs.Node.{is_init, new_box}
-use Rattle.slave_node.specs.Step.{status_word, pdi_step}
+use Rattle.frames_seen.specs.of_esc_registers.declared.registers.Registers as Esc
+use Rattle.frames_seen.specs.of_link_mails.Body.{Body}
+use Rattle.frames_seen.specs.of_mailbox_slave.Kept.{Kept}
+use Rattle.frames_seen.specs.of_mailbox_slave.Registers.{in_len}
+use Rattle.frames_seen.specs.of_slave_node.Node as Running
+use Rattle.frames_seen.specs.of_slave_node.Node.{is_init, new_box}
+use Rattle.frames_seen.specs.of_slave_node.Step.{status_word, pdi_step}
 use Rattle.slave_lives.specs.Steps as The
 
 -- a mail that stands in mailbox 1 of this length as it is: counter, address and body are those of a mail, and it fits

@@ -1,15 +1,15 @@
 -- A SLAVE THAT IS OPENED, over its registers: the accesses of bring-up and of a reopening, and what holds of the slave while each is in hand.
 use Rattle.std.specs.Prelude.{◌≡◌, ◌⊎◌, ℕ, ◌<◌, ◌==◌, Bool, true, false, if◌then◌else◌, Some, None, List, [], ◌∷◌, ◌++◌, length, ⊤}
 use Rattle.byteorder.specs.Endian.{little_bytes}
-use Rattle.segment_ring.specs.of_datagrams.declared.command.Command.{Command}
-use Rattle.segment_ring.specs.of_datagrams.declared.command.Command.TheVariants.{Aprd, Apwr, Fprd, Fpwr}
-use Rattle.segment_ring.specs.of_datagrams.Datagram as Raw
-use Rattle.slave_node.specs.of_esc_registers.declared.registers.Registers as Esc
-use Rattle.slave_node.specs.of_esc_registers.Manager.{is_right}
-use Rattle.slave_node.specs.Passing.{passed}
+use Rattle.frames_seen.specs.of_datagrams.declared.command.Command.{Command}
+use Rattle.frames_seen.specs.of_datagrams.declared.command.Command.TheVariants.{Aprd, Apwr, Fprd, Fpwr}
+use Rattle.frames_seen.specs.of_datagrams.Datagram as Raw
+use Rattle.frames_seen.specs.of_esc_registers.declared.registers.Registers as Esc
+use Rattle.frames_seen.specs.of_esc_registers.Manager.{is_right}
+use Rattle.frames_seen.specs.of_slave_node.Passing.{passed}
 use Rattle.frames_seen.specs.of_link_model.Link.{new_link}
-use Rattle.slave_node.specs.of_mailbox_slave.Kept.{Kept}
-use Rattle.slave_node.specs.of_mailbox_slave.Node.{node_of, in_side}
+use Rattle.frames_seen.specs.of_mailbox_slave.Kept.{Kept}
+use Rattle.frames_seen.specs.of_mailbox_slave.Node.{node_of, in_side}
 use Rattle.frames_seen.specs.of_frame_view.View.{Lens}
 use Rattle.frames_seen.specs.Slaves.{registers_seen, IsOpen}
 use Rattle.slave_lives.specs.Steps.{Stands}

@@ -1,12 +1,12 @@
 -- A SLAVE THAT IS RETURNED TO INIT AND OPENED ANEW, over its registers, while access 1 to 9 of a reopening is in hand. At access 1 it is open as
 -- it stands, or frozen, or where an opening before was given up it is as that one left it; at access 2 frozen or in Init; behind it in Init.
 use Rattle.std.specs.Prelude.{◌≡◌, ◌⊎◌, ℕ, suc, ◌<◌, ◌==◌, Bool, true, false, if◌then◌else◌, Some, None, option_map, length}
-use Rattle.slave_node.specs.of_esc_registers.declared.registers.Registers as Esc
-use Rattle.slave_node.specs.of_esc_registers.Manager.{is_right, is_enabled}
+use Rattle.frames_seen.specs.of_esc_registers.declared.registers.Registers as Esc
+use Rattle.frames_seen.specs.of_esc_registers.Manager.{is_right, is_enabled}
 use Rattle.frames_seen.specs.of_al_state.Request.{is_state}
-use Rattle.slave_node.specs.of_mailbox_slave.Kept.{Kept, offered}
-use Rattle.slave_node.specs.of_mailbox_slave.Registers.{request_of, acknowledge_of}
-use Rattle.slave_node.specs.of_link_mails.Body.{link_mail}
+use Rattle.frames_seen.specs.of_mailbox_slave.Kept.{Kept, offered}
+use Rattle.frames_seen.specs.of_mailbox_slave.Registers.{request_of, acknowledge_of}
+use Rattle.frames_seen.specs.of_link_mails.Body.{link_mail}
 use Rattle.frames_seen.specs.of_frame_view.View.{Lens}
 use Rattle.frames_seen.specs.Slaves.{registers_seen, IsOpen}
 use Rattle.slave_lives.specs.Steps.{Running}

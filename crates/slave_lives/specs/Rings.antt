@@ -1,16 +1,16 @@
 -- ONE FRAME OF A RING, for the slave at one place of it: whether it meets it, and the step behind it.
 use Rattle.std.specs.Prelude.{◌≡◌, ℕ, zero, suc, Bool, true, false, if◌then◌else◌, List, [], ◌∷◌, ◌++◌, map, length}
-use Rattle.segment_ring.specs.of_datagrams.Datagram as Raw
-use Rattle.segment_ring.specs.of_datagrams.Frame.{IsFrame}
-use Rattle.slave_node.specs.of_esc_registers.declared.registers.Registers as Esc
-use Rattle.slave_node.specs.Passing.{registers_after, datagrams_after}
+use Rattle.frames_seen.specs.of_datagrams.Datagram as Raw
+use Rattle.frames_seen.specs.of_datagrams.Frame.{IsFrame}
+use Rattle.frames_seen.specs.of_esc_registers.declared.registers.Registers as Esc
+use Rattle.frames_seen.specs.of_slave_node.Passing.{registers_after, datagrams_after}
 use Rattle.frames_seen.specs.Ring.{all_after}
 use Rattle.frames_seen.specs.of_link_model.Segment.{RingFate}
-use Rattle.segment_ring.specs.declared.wire.Fate.{Fate}
-use Rattle.segment_ring.specs.declared.wire.Fate.TheVariants.{Pass, Lost}
-use Rattle.segment_ring.specs.Schedule.{fate_at}
-use Rattle.segment_ring.specs.Ring.{RingState, is_in_pace, ring_behind, ring_returned}
-use Rattle.slave_node.specs.Node.{Node, node_passed}
+use Rattle.frames_seen.specs.of_segment_ring.declared.wire.Fate.{Fate}
+use Rattle.frames_seen.specs.of_segment_ring.declared.wire.Fate.TheVariants.{Pass, Lost}
+use Rattle.frames_seen.specs.of_segment_ring.Schedule.{fate_at}
+use Rattle.frames_seen.specs.of_segment_ring.Ring.{RingState, is_in_pace, ring_behind, ring_returned}
+use Rattle.frames_seen.specs.of_slave_node.Node.{Node, node_passed}
 use Rattle.slave_lives.specs.Steps.{Running}
 use Rattle.slave_lives.specs.Nodes.{stepped}
 

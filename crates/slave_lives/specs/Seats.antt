@@ -1,15 +1,15 @@
 -- ALL SLAVES OF A RING and one frame of its master: what the frame has for each, by how the master stands to it.
 use Rattle.std.specs.Prelude.{◌≡◌, ◌⊎◌, ◌==◌, ℕ, suc, Bool, true, false, List, [], ◌∷◌, map, ⊤}
-use Rattle.segment_ring.specs.of_datagrams.Datagram as Raw
-use Rattle.slave_node.specs.of_esc_registers.declared.registers.Registers as Esc
-use Rattle.slave_node.specs.Passing.{datagrams_after}
+use Rattle.frames_seen.specs.of_datagrams.Datagram as Raw
+use Rattle.frames_seen.specs.of_esc_registers.declared.registers.Registers as Esc
+use Rattle.frames_seen.specs.of_slave_node.Passing.{datagrams_after}
 use Rattle.frames_seen.specs.of_frame_view.View.{Lens}
 use Rattle.frames_seen.specs.Own.{own_of, IsApart, IsAlone, NoneMeant}
 use Rattle.frames_seen.specs.Places.{AllElse}
 use Rattle.frames_seen.specs.Slaves.{IsOpen}
 use Rattle.frames_seen.specs.Spoken.{AllSpoken}
-use Rattle.slave_node.specs.Node.{Node}
-use Rattle.life_model.specs.Lives.{Opening, Stand}
+use Rattle.frames_seen.specs.of_slave_node.Node.{Node}
+use Rattle.frames_seen.specs.of_life_model.Lives.{Opening, Stand}
 use Rattle.slave_lives.specs.Opening.{Plan, IsPlan, AtMostOne}
 use Rattle.slave_lives.specs.Stands.{turn_of, IsClosed, OpenUp}
 use Rattle.slave_lives.specs.Steps.{Running}

@@ -1,9 +1,9 @@
 -- WHAT A SLAVE THAT IS OPENED SHOWS, while an access of its opening is in hand that awaits a step.
 use Rattle.std.specs.Prelude.{◌≡◌, ◌⊎◌, ℕ, Bool, true, Some, None}
-use Rattle.esc_registers.specs.declared.registers.Registers as Esc
+use Rattle.frames_seen.specs.of_esc_registers.declared.registers.Registers as Esc
 use Rattle.frames_seen.specs.Slaves.{registers_seen}
-use Rattle.life_model.specs.Repairs.{awaits_at, awaited}
-use Rattle.life_model.specs.Lives.{Opening, shows_clear}
+use Rattle.frames_seen.specs.of_life_model.Repairs.{awaits_at, awaited}
+use Rattle.frames_seen.specs.of_life_model.Lives.{Opening, shows_clear}
 
 -- a state stands, without the error flag
 pub record Shows (state : ℕ) (r : Esc.Registers) : Type 0 where

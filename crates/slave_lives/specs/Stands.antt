@@ -1,15 +1,15 @@
 -- A SLAVE THAT ISN'T OPEN, as its master stands to it: what is known of its node while an access of an opening is in hand.
 use Rattle.std.specs.Prelude.{◌≡◌, ◌⊎◌, ◌==◌, ℕ, not, Bool, true, false, if◌then◌else◌, Option, None, ⊤}
-use Rattle.segment_ring.specs.of_datagrams.Datagram as Raw
-use Rattle.slave_node.specs.of_esc_registers.declared.registers.Registers as Esc
-use Rattle.slave_node.specs.Passing.{datagram_after}
+use Rattle.frames_seen.specs.of_datagrams.Datagram as Raw
+use Rattle.frames_seen.specs.of_esc_registers.declared.registers.Registers as Esc
+use Rattle.frames_seen.specs.of_slave_node.Passing.{datagram_after}
 use Rattle.frames_seen.specs.of_frame_view.View.{Lens, datagram_seen}
 use Rattle.frames_seen.specs.of_al_state.Request.{is_state}
 use Rattle.frames_seen.specs.Slaves.{registers_seen, IsOpen}
-use Rattle.slave_node.specs.of_mailbox_slave.Registers.{in_len}
+use Rattle.frames_seen.specs.of_mailbox_slave.Registers.{in_len}
 use Rattle.frames_seen.specs.of_segment_model.Slaves.{Found}
-use Rattle.slave_node.specs.Node.{Node}
-use Rattle.life_model.specs.Lives.{Opening, Stand}
+use Rattle.frames_seen.specs.of_slave_node.Node.{Node}
+use Rattle.frames_seen.specs.of_life_model.Lives.{Opening, Stand}
 use Rattle.slave_lives.specs.Opening.{Plan, IsPlan, IsAccess, IsBringing}
 use Rattle.slave_lives.specs.Nodes.{IsRunning, IsRoomy}
 use Rattle.slave_lives.specs.Returning.{Clears, IsReturned, IsFrozen, IsTurn}

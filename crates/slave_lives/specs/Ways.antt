@@ -1,9 +1,9 @@
 -- A frame of the master on its way to a slave that it opens.
 use Rattle.std.specs.Prelude.{◌≡◌, ◌⊎◌, if◌then◌else◌, ℕ, ◌+◌, ◌-◌, ◌%◌, false, List, [], ◌∷◌, ⊤}
-use Rattle.segment_ring.specs.of_datagrams.Datagram as Raw
-use Rattle.slave_node.specs.of_esc_registers.declared.registers.Registers as Esc
-use Rattle.slave_node.specs.of_esc_registers.Access.{is_by_place}
-use Rattle.slave_node.specs.Passing.{datagram_after}
+use Rattle.frames_seen.specs.of_datagrams.Datagram as Raw
+use Rattle.frames_seen.specs.of_esc_registers.declared.registers.Registers as Esc
+use Rattle.frames_seen.specs.of_esc_registers.Access.{is_by_place}
+use Rattle.frames_seen.specs.of_slave_node.Passing.{datagram_after}
 use Rattle.frames_seen.specs.of_frame_view.View.{Lens, datagram_seen}
 use Rattle.frames_seen.specs.Own.{is_to}
 use Rattle.frames_seen.specs.Places.{IsElse}

@@ -1,17 +1,17 @@
 //! What a ring's frames make of its slaves' lives.
 
 ghost use Rattle.std.specs.Prelude.{◌≡◌, ◌<◌, ◌≤◌, ◌==◌, ◌⊎◌, ◌+◌, ◌∷◌, ◌++◌, ℕ, [], suc, Bool, true, false, List, Option, None, length};
-ghost use Rattle.segment_ring.specs.of_datagrams.Datagram as Raw;
-ghost use Rattle.slave_node.specs.Passing.{datagrams_after};
+ghost use Rattle.frames_seen.specs.of_datagrams.Datagram as Raw;
+ghost use Rattle.frames_seen.specs.of_slave_node.Passing.{datagrams_after};
 ghost use Rattle.frames_seen.specs.of_frame_view.View.{Lens};
 ghost use Rattle.frames_seen.specs.of_frame_view.Seen.{datagrams_seen};
-ghost use Rattle.slave_node.specs.of_esc_registers.declared.registers.Registers.{Registers};
+ghost use Rattle.frames_seen.specs.of_esc_registers.declared.registers.Registers.{Registers};
 ghost use Rattle.frames_seen.specs.Own.{own_seen, NoneMeant};
 ghost use Rattle.frames_seen.specs.Ring.{all_after, AllApart};
-ghost use Rattle.life_model.specs.Lives.{Spot, Era, Opening, Stand, Life, opening_back};
-ghost use Rattle.life_model.specs.Eras.{Eras, Clearing};
-ghost use Rattle.life_model.specs.Own.{own};
-ghost use Rattle.slave_node.specs.of_link_mails.Body.{Body};
+ghost use Rattle.frames_seen.specs.of_life_model.Lives.{Spot, Era, Opening, Stand, Life, opening_back};
+ghost use Rattle.frames_seen.specs.of_life_model.Eras.{Eras, Clearing};
+ghost use Rattle.frames_seen.specs.of_life_model.Own.{own};
+ghost use Rattle.frames_seen.specs.of_link_mails.Body.{Body};
 ghost use Rattle.frames_seen.specs.of_segment_model.Record.{Frame, News};
 ghost use Rattle.frames_seen.specs.of_segment_model.Slaves.{Found};
 ghost use Rattle.slave_lives.specs.Lived.{Behind, IsBehind, RingFrame, OpenFrame, LivedOn, StandsBehind, node_behind, OpensEra, BegunEra, ClosedFrame, AccessBack, IsForOpen, LivesEra, table_of, frame_of};
@@ -23,10 +23,10 @@ ghost use Rattle.slave_lives.specs.Rings.{met, come_to};
 ghost use Rattle.slave_lives.specs.Seats.{Seat, AllSeats, AreDistinct, AllCome, AllMeet, MeetsOne, nodes_of};
 ghost use Rattle.slave_lives.specs.Stands.{turn_of, IsClosed, IsUp, ClosedAs, CameBack, Closing, MayStep, OpenUp, first_opening, opening_again};
 ghost use Rattle.slave_lives.specs.Ways.{OneOnWay, JustOnWay, AllNotFor, ComesBack};
-ghost use Rattle.slave_node.specs.Node.{Node, new_node};
-ghost use Rattle.life_model.specs.of_state_model.Stated.{IsStated};
+ghost use Rattle.frames_seen.specs.of_slave_node.Node.{Node, new_node};
+ghost use Rattle.frames_seen.specs.of_state_model.Stated.{IsStated};
 ghost use Rattle.slave_lives.specs.Steps.{Running};
-ghost use Rattle.life_model.specs.of_state_model.Accounts.{Pick};
+ghost use Rattle.frames_seen.specs.of_state_model.Accounts.{Pick};
 
 /// A slave's own datagrams among those of a frame are the same of octets and as data.
 pub fn own_law()

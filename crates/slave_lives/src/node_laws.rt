@@ -1,11 +1,11 @@
 //! The running slave, octet by octet.
 
 ghost use Rattle.std.specs.Prelude.{◌≡◌, ◌∷◌, ◌++◌, ℕ, Bool, List, length};
-ghost use Rattle.segment_ring.specs.of_datagrams.Datagram as Raw;
-ghost use Rattle.segment_ring.specs.of_datagrams.Frame.{IsFrame};
-ghost use Rattle.slave_node.specs.of_mailbox_slave.Registers.{in_len};
-ghost use Rattle.segment_ring.specs.Ring.{RingState};
-ghost use Rattle.slave_node.specs.Node.{Node, new_node, node_passed};
+ghost use Rattle.frames_seen.specs.of_datagrams.Datagram as Raw;
+ghost use Rattle.frames_seen.specs.of_datagrams.Frame.{IsFrame};
+ghost use Rattle.frames_seen.specs.of_mailbox_slave.Registers.{in_len};
+ghost use Rattle.frames_seen.specs.of_segment_ring.Ring.{RingState};
+ghost use Rattle.frames_seen.specs.of_slave_node.Node.{Node, new_node, node_passed};
 ghost use Rattle.slave_lives.specs.Nodes.{IsRunning, IsRoomy, StepsOn, stepped};
 ghost use Rattle.slave_lives.specs.Returning.{Clears};
 ghost use Rattle.slave_lives.specs.Rings.{met, IsExchanged};

@@ -1,17 +1,17 @@
 //! The accesses by which a slave is opened, and returned to Init and opened anew.
 
 ghost use Rattle.std.specs.Prelude.{◌≡◌, ◌<◌, ◌≤◌, ◌==◌, ◌⊎◌, ◌+◌, ℕ, Bool, List, None, true, false, length};
-ghost use Rattle.segment_ring.specs.of_datagrams.Datagram as Raw;
+ghost use Rattle.frames_seen.specs.of_datagrams.Datagram as Raw;
 ghost use Rattle.frames_seen.specs.of_al_state.Request.{is_state};
-ghost use Rattle.segment_ring.specs.of_ec_fields.Fields.{number_at};
-ghost use Rattle.slave_node.specs.of_esc_registers.declared.registers.Registers.{Registers};
-ghost use Rattle.slave_node.specs.of_esc_registers.Registers.{first_registers};
-ghost use Rattle.slave_node.specs.Passing.{passed, registers_after};
+ghost use Rattle.frames_seen.specs.of_ec_fields.Fields.{number_at};
+ghost use Rattle.frames_seen.specs.of_esc_registers.declared.registers.Registers.{Registers};
+ghost use Rattle.frames_seen.specs.of_esc_registers.Registers.{first_registers};
+ghost use Rattle.frames_seen.specs.of_slave_node.Passing.{passed, registers_after};
 ghost use Rattle.frames_seen.specs.of_frame_view.View.{Lens};
 ghost use Rattle.frames_seen.specs.Own.{IsApart};
 ghost use Rattle.frames_seen.specs.Ring.{all_after, AllApart};
 ghost use Rattle.frames_seen.specs.Slaves.{IsOpen, registers_seen};
-ghost use Rattle.slave_node.specs.of_mailbox_slave.Kept.{Kept};
+ghost use Rattle.frames_seen.specs.of_mailbox_slave.Kept.{Kept};
 ghost use Rattle.slave_lives.specs.Opening.{Plan, IsPlan, IsAccess, IsBring, IsBringing, IsOpened, AtMostOne, JustOne, access_behind};
 ghost use Rattle.slave_lives.specs.Returning.{Clears, IsFrozen, IsReturned, IsTurn, turn_behind};
 ghost use Rattle.slave_lives.specs.Steps.{Running, HasStepped, KeepsOthers};

@@ -1,14 +1,14 @@
 //! A step of a slave's processor.
 
 ghost use Rattle.std.specs.Prelude.{◌≡◌, ◌<◌, ℕ, Bool};
-ghost use Rattle.slave_node.specs.of_esc_registers.declared.registers.Registers.{Registers};
-ghost use Rattle.life_model.specs.of_exchange_model.Exchange.{Exchange};
+ghost use Rattle.frames_seen.specs.of_esc_registers.declared.registers.Registers.{Registers};
+ghost use Rattle.frames_seen.specs.of_exchange_model.Exchange.{Exchange};
 ghost use Rattle.frames_seen.specs.of_frame_view.View.{Lens};
 ghost use Rattle.frames_seen.specs.Slaves.{IsOpen, registers_seen, slave_of};
 ghost use Rattle.frames_seen.specs.of_link_model.Slave.{node_look, node_serve};
-ghost use Rattle.slave_node.specs.of_link_mails.Body.{Body};
-ghost use Rattle.slave_node.specs.of_mailbox_slave.Kept.{Kept};
-ghost use Rattle.slave_node.specs.of_mailbox_slave.Node.{in_side, node_of, server_of};
+ghost use Rattle.frames_seen.specs.of_link_mails.Body.{Body};
+ghost use Rattle.frames_seen.specs.of_mailbox_slave.Kept.{Kept};
+ghost use Rattle.frames_seen.specs.of_mailbox_slave.Node.{in_side, node_of, server_of};
 ghost use Rattle.frames_seen.specs.of_segment_model.Slaves.{Serving, Processor, slave_steps};
 ghost use Rattle.slave_lives.specs.Steps.{Running, IsServedAs, HasStepped, StaysUp, Stands, KeepsOthers, word_carried};
 

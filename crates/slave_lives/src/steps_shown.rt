@@ -2,28 +2,28 @@
 //! nothing, and its contract states the law.
 
 ghost use Rattle.std.specs.Prelude.{◌≡◌, ◌==◌, ◌||◌, ◌&&◌, ℕ, suc, Bool, true, false, Option, List};
-ghost use Rattle.datagrams.specs.Datagram as Raw;
-ghost use Rattle.frame_view.specs.View.{Lens};
-ghost use Rattle.life_model.specs.Repairs.{awaits_at, awaited};
-ghost use Rattle.life_model.specs.Lives.{Opening, shows_clear, last_step, is_shown};
-ghost use Rattle.segment_model.specs.Slaves.{Found, Datagram, Serving};
-ghost use Rattle.segment_ring.specs.Ring.{is_in_pace};
+ghost use Rattle.frames_seen.specs.of_datagrams.Datagram as Raw;
+ghost use Rattle.frames_seen.specs.of_frame_view.View.{Lens};
+ghost use Rattle.frames_seen.specs.of_life_model.Repairs.{awaits_at, awaited};
+ghost use Rattle.frames_seen.specs.of_life_model.Lives.{Opening, shows_clear, last_step, is_shown};
+ghost use Rattle.frames_seen.specs.of_segment_model.Slaves.{Found, Datagram, Serving};
+ghost use Rattle.frames_seen.specs.of_segment_ring.Ring.{is_in_pace};
 ghost use Rattle.slave_lives.specs.Lived.{RingFrame, node_behind, ClosedFrame, AccessBack};
-ghost use Rattle.mailbox_slave.specs.Registers.{in_len, request_of, acknowledge_of};
+ghost use Rattle.frames_seen.specs.of_mailbox_slave.Registers.{in_len, request_of, acknowledge_of};
 ghost use Rattle.slave_lives.specs.Nodes.{IsRunning, IsRoomy, stepped};
 ghost use Rattle.slave_lives.specs.Returning.{Clears};
 ghost use Rattle.slave_lives.specs.Opening.{Plan};
 ghost use Rattle.slave_lives.specs.Stands.{Closing, MayStep, CameBack, turn_of};
 ghost use Rattle.slave_lives.specs.Steps.{Running};
-ghost use Rattle.slave_node.specs.Node.{Node};
-ghost use Rattle.esc_registers.specs.declared.registers.Registers.{Registers};
-ghost use Rattle.slave_node.specs.Passing.{registers_after};
+ghost use Rattle.frames_seen.specs.of_slave_node.Node.{Node};
+ghost use Rattle.frames_seen.specs.of_esc_registers.declared.registers.Registers.{Registers};
+ghost use Rattle.frames_seen.specs.of_slave_node.Passing.{registers_after};
 ghost use Rattle.frames_seen.specs.Own.{own_seen};
 ghost use Rattle.frames_seen.specs.Ring.{all_after, IsRingMet};
-ghost use Rattle.link_mails.specs.Body.{Body};
-ghost use Rattle.link_model.specs.Frames.{in_ask};
-ghost use Rattle.link_model.specs.Master.{InState};
-ghost use Rattle.mailbox_slave.specs.Kept.{Kept};
+ghost use Rattle.frames_seen.specs.of_link_mails.Body.{Body};
+ghost use Rattle.frames_seen.specs.of_link_model.Frames.{in_ask};
+ghost use Rattle.frames_seen.specs.of_link_model.Master.{InState};
+ghost use Rattle.frames_seen.specs.of_mailbox_slave.Kept.{Kept};
 ghost use Rattle.slave_lives.specs.Asked.{IsOwn, ComesBack, NoRequest, SameBits};
 ghost use Rattle.slave_lives.specs.Shown.{Shows, StandsFor};
 

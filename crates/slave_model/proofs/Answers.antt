@@ -1,18 +1,18 @@
 -- A row that is answered, and whose service has no acknowledgement, was told and taken whole.
 use Rattle.std.proofs.Common.{◌≡◌, ◌&&◌, nat_lt, inl, inr, ℕ, Bool, true, false, Some, None, List, [], ◌++◌, length, sym, ap, ap₂, ◌∙◌, subst, append-nil, append_assoc}
 use Rattle.std.specs.Prelude.{drop}
-use Rattle.exchange_model.specs.Exchange.{Exchange, IsLawful, AnswersLast, after, given, outnumbers, plain}
-use Rattle.exchange_model.specs.Prefix.{IsPrefixOf}
-use Rattle.exchange_model.specs.Rows.{Row, ends_unheard, left, told_all, heard_all}
-use Rattle.exchange_model.specs.Laws.{Moment}
-use Rattle.exchange_model.proofs.Lasts.{answered_unheard}
-use Rattle.exchange_model.proofs.Lists.{append_none, append_cancel, both_ways, drop_behind, filter_both}
-use Rattle.exchange_model.proofs.Nows.{complete, reached_or_waits}
-use Rattle.exchange_model.proofs.Settles.{settled_heard, settled_ready}
-use Rattle.exchange_model.proofs.Words.{given_part, plain-append, plain_given-append}
-use Rattle.state_model.specs.Stated.{Stated, IsStated, Service, acts, mails, with_states}
-use Rattle.state_model.proofs.Acts.{acts_length, acts_same, cut_mails, front_acts, rest_acts, plain_given_acts}
-use Rattle.state_model.specs.States.{Table}
+use Rattle.protocol_models.specs.of_exchange_model.Exchange.{Exchange, IsLawful, AnswersLast, after, given, outnumbers, plain}
+use Rattle.protocol_models.specs.of_exchange_model.Prefix.{IsPrefixOf}
+use Rattle.protocol_models.specs.of_exchange_model.Rows.{Row, ends_unheard, left, told_all, heard_all}
+use Rattle.protocol_models.specs.of_exchange_model.Laws.{Moment}
+use Rattle.protocol_models.proofs.of_exchange_model.Lasts.{answered_unheard}
+use Rattle.protocol_models.proofs.of_exchange_model.Lists.{append_none, append_cancel, both_ways, drop_behind, filter_both}
+use Rattle.protocol_models.proofs.of_exchange_model.Nows.{complete, reached_or_waits}
+use Rattle.protocol_models.proofs.of_exchange_model.Settles.{settled_heard, settled_ready}
+use Rattle.protocol_models.proofs.of_exchange_model.Words.{given_part, plain-append, plain_given-append}
+use Rattle.life_model.specs.of_state_model.Stated.{Stated, IsStated, Service, acts, mails, with_states}
+use Rattle.life_model.proofs.of_state_model.Acts.{acts_length, acts_same, cut_mails, front_acts, rest_acts, plain_given_acts}
+use Rattle.life_model.specs.of_state_model.States.{Table}
 use Rattle.slave_model.specs.Waits.{NeverWaits}
 
 module _ {V A M Q R : Type 0} (x : Exchange V A M Q R) (law : IsLawful x) (v : V) (ready : x.ready v ≡ true) (front last : List (Row M Q R)) (now : Row M Q R) (held taken accepted : List M)

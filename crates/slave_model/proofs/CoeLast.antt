@@ -1,7 +1,7 @@
 -- Each mail of a CoE service brings a reply at least.
 use Rattle.std.proofs.Common.{Bool, false}
-use Rattle.exchange_model.specs.Areas.{Areas, AreMailboxes}
-use Rattle.exchange_model.specs.Exchange.{AnswersLast}
+use Rattle.protocol_models.specs.of_exchange_model.Areas.{Areas, AreMailboxes}
+use Rattle.protocol_models.specs.of_exchange_model.Exchange.{AnswersLast}
 use Rattle.protocol_models.specs.Tables.{Tables, AreLawful}
 use Rattle.protocol_models.specs.CoeModel.{coe_exchange}
 use Rattle.protocol_models.proofs.CoeLasts.{none_behind}

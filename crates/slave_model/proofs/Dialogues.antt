@@ -1,10 +1,10 @@
 -- A client that goes by the answers never waits in vain.
 use Rattle.std.proofs.Common.{◌≡◌, ℕ, zero, suc, Bool, List, [], ◌∷◌, ◌++◌, Option, None, Some, refl, sym, ap, ◌∙◌}
 use Rattle.std.specs.Prelude.{drop, length}
-use Rattle.exchange_model.specs.Exchange.{given, plain}
-use Rattle.exchange_model.specs.Dialogue.{Turn, next, again, stop, chosen, first_turn, turn_at, rest_at, said, sent, Decides}
-use Rattle.exchange_model.proofs.Lists.{append_none, drop_behind}
-use Rattle.exchange_model.proofs.Words.{plain-append}
+use Rattle.protocol_models.specs.of_exchange_model.Exchange.{given, plain}
+use Rattle.protocol_models.specs.of_exchange_model.Dialogue.{Turn, next, again, stop, chosen, first_turn, turn_at, rest_at, said, sent, Decides}
+use Rattle.protocol_models.proofs.of_exchange_model.Lists.{append_none, drop_behind}
+use Rattle.protocol_models.proofs.of_exchange_model.Words.{plain-append}
 
 -- nothing is left of an empty list
 pub rest_none : {M : Type 0} (p r : List M) → [] ≡ p ++ r → r ≡ []

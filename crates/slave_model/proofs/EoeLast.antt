@@ -1,7 +1,7 @@
 -- Each mail of an EoE service brings a reply at last.
 use Rattle.std.proofs.Common.{false, [], ◌∷◌, refl, sym, ap, ◌∙◌}
-use Rattle.exchange_model.specs.Areas.{Areas, AreMailboxes}
-use Rattle.exchange_model.specs.Exchange.{AnswersLast, plain}
+use Rattle.protocol_models.specs.of_exchange_model.Areas.{Areas, AreMailboxes}
+use Rattle.protocol_models.specs.of_exchange_model.Exchange.{AnswersLast, plain}
 use Rattle.protocol_models.specs.Network as Network
 use Rattle.protocol_models.specs.EoeMails as EoeMails
 use Rattle.protocol_models.specs.EoeClient as EoeClient

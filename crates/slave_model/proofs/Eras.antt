@@ -1,21 +1,21 @@
 -- What is kept of the one slave of an open epoch.
 use Rattle.std.proofs.Common.{◌≡◌, ℕ, true, false, Bool, List, [], ◌∷◌, subst}
-use Rattle.exchange_model.specs.Exchange.{Exchange, IsLawful}
+use Rattle.protocol_models.specs.of_exchange_model.Exchange.{Exchange, IsLawful}
 use Rattle.life_model.specs.Eras.{EraIs, era_frames, planned}
 use Rattle.life_model.specs.Lives.{Spot, Era}
-use Rattle.link_model.proofs.Law.{new_agrees}
-use Rattle.segment_model.specs.Record.{Frame}
-use Rattle.segment_model.specs.Seats.{Seat, Side, Planned, sides_of, ring_of}
-use Rattle.segment_model.specs.Slaves.{Processor, Registers, Ring, Slave}
-use Rattle.state_model.specs.Stated.{Stated, IsStated}
-use Rattle.state_model.specs.Promises.{IsTable}
-use Rattle.state_model.specs.States.{Table}
-use Rattle.state_model.proofs.Newest.{Holds}
-use Rattle.state_model.proofs.Sessions.{Whole, holds, session_keeps}
-use Rattle.state_model.proofs.Walks.{EachOne}
-use Rattle.state_model.specs.Accounts.{Account}
-use Rattle.state_model.specs.Promise.{EachTask}
-use Rattle.state_model.specs.Tasks.{TaskSession, TaskTurn, IsTasked, IsTaskPlan, MayRun, happens, mails_turn, run, new_tasks}
+use Rattle.life_model.proofs.of_link_model.Law.{new_agrees}
+use Rattle.life_model.specs.of_segment_model.Record.{Frame}
+use Rattle.life_model.specs.of_segment_model.Seats.{Seat, Side, Planned, sides_of, ring_of}
+use Rattle.life_model.specs.of_segment_model.Slaves.{Processor, Registers, Ring, Slave}
+use Rattle.life_model.specs.of_state_model.Stated.{Stated, IsStated}
+use Rattle.life_model.specs.of_state_model.Promises.{IsTable}
+use Rattle.life_model.specs.of_state_model.States.{Table}
+use Rattle.life_model.proofs.of_state_model.Newest.{Holds}
+use Rattle.life_model.proofs.of_state_model.Sessions.{Whole, holds, session_keeps}
+use Rattle.life_model.proofs.of_state_model.Walks.{EachOne}
+use Rattle.life_model.specs.of_state_model.Accounts.{Account}
+use Rattle.life_model.specs.of_state_model.Promise.{EachTask}
+use Rattle.life_model.specs.of_state_model.Tasks.{TaskSession, TaskTurn, IsTasked, IsTaskPlan, MayRun, happens, mails_turn, run, new_tasks}
 use Rattle.slave_model.proofs.Unsent.{One, Unsent, turn_one}
 
 module _ {V A M Q R : Type 0} (x : Exchange V A M Q R) (law : IsLawful x) (s : Stated V A Q) (stated : IsStated x s) (processor : Processor V) (table : ℕ → Table) where

@@ -2,17 +2,17 @@
 use Rattle.std.proofs.Common.{◌≡◌, ℕ, Bool, true, false, not, List, [], ◌∷◌, ◌++◌, map, refl, sym, ap, ◌∙◌, subst, inl, inr}
 use Rattle.std.specs.Prelude.{drop, length}
 use Rattle.std.proofs.lemmas.List.{map-append, drop-map, length-map}
-use Rattle.exchange_model.specs.Exchange.{Exchange, given, plain}
-use Rattle.exchange_model.specs.Lifted.{EachOf, ReadsBack, Spells, lifted, lifted_serve}
-use Rattle.exchange_model.proofs.Lifting.{all_back}
-use Rattle.exchange_model.proofs.Lists.{drop_behind, filter_mapped}
-use Rattle.exchange_model.proofs.Words.{given_part}
-use Rattle.exchange_model.specs.Refusing.{Refusal, IsRefusal, refusing, gated}
-use Rattle.exchange_model.specs.Sides.{Slave, IsSide, joined}
-use Rattle.exchange_model.proofs.Refusals.{snoc_cut, each_front, Quiet, quiet_given}
-use Rattle.exchange_model.proofs.SumLaw.{each_left, plain_same, told_part}
-use Rattle.state_model.specs.Families.{AreOneClient, in_states}
-use Rattle.state_model.proofs.FamilyLaw.{plain_given_in}
+use Rattle.protocol_models.specs.of_exchange_model.Exchange.{Exchange, given, plain}
+use Rattle.protocol_models.specs.of_exchange_model.Lifted.{EachOf, ReadsBack, Spells, lifted, lifted_serve}
+use Rattle.protocol_models.proofs.of_exchange_model.Lifting.{all_back}
+use Rattle.protocol_models.proofs.of_exchange_model.Lists.{drop_behind, filter_mapped}
+use Rattle.protocol_models.proofs.of_exchange_model.Words.{given_part}
+use Rattle.protocol_models.specs.of_exchange_model.Refusing.{Refusal, IsRefusal, refusing, gated}
+use Rattle.protocol_models.specs.of_exchange_model.Sides.{Slave, IsSide, joined}
+use Rattle.protocol_models.proofs.of_exchange_model.Refusals.{snoc_cut, each_front, Quiet, quiet_given}
+use Rattle.protocol_models.proofs.of_exchange_model.SumLaw.{each_left, plain_same, told_part}
+use Rattle.life_model.specs.of_state_model.Families.{AreOneClient, in_states}
+use Rattle.life_model.proofs.of_state_model.FamilyLaw.{plain_given_in}
 use Rattle.slave_model.specs.Waits.{NeverWaits, TellsAll}
 
 none_mapped : {M N : Type 0} (f : M → N) (ns : List M) → map f ns ≡ [] → ns ≡ []

@@ -1,11 +1,11 @@
 -- A client that goes by the answers hears first.
 use Rattle.std.proofs.Common.{◌≡◌, inl, inr, ℕ, zero, suc, Bool, List, [], ◌∷◌, ◌++◌, Option, None, Some, refl, sym, ap, ◌∙◌, append-nil}
 use Rattle.std.specs.Prelude.{drop, length}
-use Rattle.exchange_model.specs.Prefix.{IsPrefixOf}
-use Rattle.exchange_model.specs.Exchange.{given, plain}
-use Rattle.exchange_model.specs.Dialogue.{Turn, next, again, stop, chosen, turn_at, rest_at, said, sent, Decides}
-use Rattle.exchange_model.proofs.Lists.{append_none, cut, drop_past}
-use Rattle.exchange_model.proofs.Words.{plain-append}
+use Rattle.protocol_models.specs.of_exchange_model.Prefix.{IsPrefixOf}
+use Rattle.protocol_models.specs.of_exchange_model.Exchange.{given, plain}
+use Rattle.protocol_models.specs.of_exchange_model.Dialogue.{Turn, next, again, stop, chosen, turn_at, rest_at, said, sent, Decides}
+use Rattle.protocol_models.proofs.of_exchange_model.Lists.{append_none, cut, drop_past}
+use Rattle.protocol_models.proofs.of_exchange_model.Words.{plain-append}
 use Rattle.slave_model.proofs.Dialogues.{turn_more}
 
 pub drop_none : {M : Type 0} (n : ℕ) → (let none : List M = [] in drop n none ≡ [])

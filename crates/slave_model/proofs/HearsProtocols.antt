@@ -1,10 +1,10 @@
 -- The client of each protocol hears first.
 use Rattle.std.proofs.Common.{◌≡◌, suc, ◌+◌, ◌<◌, Bool, true, List, [], ◌∷◌, ◌++◌, length, refl, sym, ap, ◌∙◌, arith, append_assoc, length-append}
 use Rattle.std.specs.Prelude.{drop}
-use Rattle.exchange_model.specs.Areas.{Areas, AreMailboxes}
-use Rattle.exchange_model.specs.Exchange.{after, given, plain}
-use Rattle.exchange_model.proofs.Lists.{prefix_refl}
-use Rattle.exchange_model.proofs.Words.{plain_given-append}
+use Rattle.protocol_models.specs.of_exchange_model.Areas.{Areas, AreMailboxes}
+use Rattle.protocol_models.specs.of_exchange_model.Exchange.{after, given, plain}
+use Rattle.protocol_models.proofs.of_exchange_model.Lists.{prefix_refl}
+use Rattle.protocol_models.proofs.of_exchange_model.Words.{plain_given-append}
 use Rattle.protocol_models.specs.CoeMails as CoeMails
 use Rattle.protocol_models.specs.CoeMeaning as CoeMeaning
 use Rattle.protocol_models.specs.CoeClient as CoeClient

@@ -1,11 +1,11 @@
 -- With state services beside a client hears first too: a control word has no reply by mails.
 use Rattle.std.proofs.Common.{◌≡◌, true, ℕ, List, [], ◌∷◌, ◌++◌, refl, sym, ap, ◌∙◌}
 use Rattle.std.specs.Prelude.{drop, length}
-use Rattle.exchange_model.specs.Exchange.{Exchange, given, plain}
-use Rattle.exchange_model.proofs.Lists.{append_none}
-use Rattle.state_model.specs.States.{Table}
-use Rattle.state_model.specs.Stated.{Stated, Act, Service, Counting, acts, mails, all_mails, planned_by, with_states}
-use Rattle.state_model.proofs.Acts.{acts_drop, acts_length, all_acts, front_acts, rest_acts, cut_mails, plain_given_acts}
+use Rattle.protocol_models.specs.of_exchange_model.Exchange.{Exchange, given, plain}
+use Rattle.protocol_models.proofs.of_exchange_model.Lists.{append_none}
+use Rattle.life_model.specs.of_state_model.States.{Table}
+use Rattle.life_model.specs.of_state_model.Stated.{Stated, Act, Service, Counting, acts, mails, all_mails, planned_by, with_states}
+use Rattle.life_model.proofs.of_state_model.Acts.{acts_drop, acts_length, all_acts, front_acts, rest_acts, cut_mails, plain_given_acts}
 use Rattle.slave_model.specs.Hears.{HearsFirst}
 use Rattle.slave_model.proofs.HearsDialogues.{not_none}
 

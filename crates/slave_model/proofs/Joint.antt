@@ -3,11 +3,11 @@ use Rattle.std.proofs.Common.{◌≡◌, ℕ, ◌+◌, ◌≤◌, Bool, true, fa
 use Rattle.link_mails.specs.of_mailbox_mail.declared.mail.Kind.{Kind}
 use Rattle.link_mails.specs.of_mailbox_mail.declared.mail.MailFault.TheVariants.{Short, LengthPastArea, UnknownKind}
 use Rattle.link_mails.specs.Body.{Body}
-use Rattle.exchange_model.specs.Exchange.{Exchange, IsLawful, after}
-use Rattle.exchange_model.specs.Lifted.{EachOf}
-use Rattle.exchange_model.specs.Sides.{Spares, IsSide}
-use Rattle.exchange_model.specs.Refusing.{Refusal, gated}
-use Rattle.exchange_model.proofs.SumLaw.{joined_law, seat_after}
+use Rattle.protocol_models.specs.of_exchange_model.Exchange.{Exchange, IsLawful, after}
+use Rattle.protocol_models.specs.of_exchange_model.Lifted.{EachOf}
+use Rattle.protocol_models.specs.of_exchange_model.Sides.{Spares, IsSide}
+use Rattle.protocol_models.specs.of_exchange_model.Refusing.{Refusal, gated}
+use Rattle.protocol_models.proofs.of_exchange_model.SumLaw.{joined_law, seat_after}
 use Rattle.slave_model.specs.Profile.{Protocol, Profile, serves}
 use Rattle.slave_model.specs.Application.{Parts, station_valid}
 use Rattle.slave_model.specs.Server.{Server, Seat, seat, reseated}

@@ -1,11 +1,11 @@
 -- But for an acknowledgement of a file read no mail is left behind the last reply.
 use Rattle.std.proofs.Common.{◌≡◌, ◌&&◌, Bool, true, false, sym, ap, ◌∙◌, subst}
-use Rattle.exchange_model.specs.Exchange.{Exchange, IsLawful, outnumbers, plain, AnswersLast}
-use Rattle.exchange_model.specs.Lifted.{EachOf}
-use Rattle.exchange_model.specs.Sides.{Slave, joined, IsSide}
-use Rattle.exchange_model.specs.Refusing.{Refusal, IsRefusal, refusing, gated}
-use Rattle.exchange_model.proofs.Refusals.{all_taken}
-use Rattle.exchange_model.proofs.SumLaw.{each_left, plain_same, told_full, told_part}
+use Rattle.protocol_models.specs.of_exchange_model.Exchange.{Exchange, IsLawful, outnumbers, plain, AnswersLast}
+use Rattle.protocol_models.specs.of_exchange_model.Lifted.{EachOf}
+use Rattle.protocol_models.specs.of_exchange_model.Sides.{Slave, joined, IsSide}
+use Rattle.protocol_models.specs.of_exchange_model.Refusing.{Refusal, IsRefusal, refusing, gated}
+use Rattle.protocol_models.proofs.of_exchange_model.Refusals.{all_taken}
+use Rattle.protocol_models.proofs.of_exchange_model.SumLaw.{each_left, plain_same, told_full, told_part}
 
 -- where a protocol is refused
 module _ {V A M Q R : Type 0} (x : Exchange V A M Q R) (r : Refusal V M Q R) (law : IsLawful x) (is : IsRefusal x r) (acknowledged : Q → Bool) where

@@ -1,18 +1,18 @@
 -- The laws at the life of a slave.
 use Rattle.std.proofs.Common.{◌≡◌, ℕ, false, Bool, Option, Some, None, List, [], refl, sym, ap, ◌∙◌, subst}
-use Rattle.exchange_model.specs.Exchange.{Exchange, Speech, IsLawful}
-use Rattle.exchange_model.specs.Rows.{Row, ends_unheard, left}
+use Rattle.protocol_models.specs.of_exchange_model.Exchange.{Exchange, Speech, IsLawful}
+use Rattle.protocol_models.specs.of_exchange_model.Rows.{Row, ends_unheard, left}
 use Rattle.life_model.specs.Eras.{EraIs}
 use Rattle.life_model.specs.Lives.{Spot, Era, era_next, granted}
 use Rattle.slave_model.specs.Waits.{NeverWaits}
-use Rattle.segment_model.specs.Ends.{Passing}
-use Rattle.segment_model.specs.Laws.{IsSettled}
-use Rattle.segment_model.specs.Record.{Frame}
-use Rattle.segment_model.specs.Seats.{Side, side_back, side_next}
-use Rattle.segment_model.specs.Slaves.{Datagram, Processor, Registers, Slave}
-use Rattle.state_model.specs.Stated.{Stated, IsStated, Service}
-use Rattle.state_model.specs.States.{Table}
-use Rattle.state_model.specs.Accounts.{Account, Pick, account_begins, mails_begin, starts}
+use Rattle.life_model.specs.of_segment_model.Ends.{Passing}
+use Rattle.life_model.specs.of_segment_model.Laws.{IsSettled}
+use Rattle.life_model.specs.of_segment_model.Record.{Frame}
+use Rattle.life_model.specs.of_segment_model.Seats.{Side, side_back, side_next}
+use Rattle.life_model.specs.of_segment_model.Slaves.{Datagram, Processor, Registers, Slave}
+use Rattle.life_model.specs.of_state_model.Stated.{Stated, IsStated, Service}
+use Rattle.life_model.specs.of_state_model.States.{Table}
+use Rattle.life_model.specs.of_state_model.Accounts.{Account, Pick, account_begins, mails_begin, starts}
 use Rattle.slave_model.specs.Moments.{IsFree, HasNothing, HeldStill, IsMailsLast, NowAnswered, NoneLeft, WasHeard}
 use Rattle.slave_model.proofs.Eras.{of_era}
 use Rattle.slave_model.proofs.Ready.{ready, begun_none, state_free}

@@ -1,4 +1,8 @@
+pub use Rattle.protocol_models.proofs.of_exchange_model as of_exchange_model
+pub use Rattle.life_model.proofs as of_life_model
+pub use Rattle.life_model.proofs.of_link_model as of_link_model
 pub use Rattle.protocol_models.proofs as of_protocol_models
+pub use Rattle.life_model.proofs.of_segment_model as of_segment_model
 pub mod Stations
 pub mod CoeLast
 pub mod Sides

@@ -5,15 +5,15 @@ use Rattle.link_mails.specs.Body.{Body}
 use Rattle.protocol_models.specs.of_eoe.declared.message.Eoe.{Eoe}
 use Rattle.protocol_models.specs.of_eoe.declared.message.EoeFault.{EoeFault}
 use Rattle.protocol_models.specs.of_eoe.Message.{eoe_read, eoe_text}
-use Rattle.exchange_model.specs.Exchange.{Exchange, given}
-use Rattle.exchange_model.specs.Lifted.{EachOf, ReadsBack, lifted}
-use Rattle.exchange_model.specs.Refusing.{refused_serve, gated}
+use Rattle.protocol_models.specs.of_exchange_model.Exchange.{Exchange, given}
+use Rattle.protocol_models.specs.of_exchange_model.Lifted.{EachOf, ReadsBack, lifted}
+use Rattle.protocol_models.specs.of_exchange_model.Refusing.{refused_serve, gated}
 use Rattle.protocol_models.specs.CoeMails as CoeMails
 use Rattle.protocol_models.specs.CoeOctets as CoeOctets
 use Rattle.protocol_models.specs.FoeMails as FoeMails
 use Rattle.std.proofs.lemmas.List.{map-append}
 use Rattle.protocol_models.specs.of_eoe.Cutting.{fragments_of}
-use Rattle.exchange_model.proofs.Turns.{sent_each}
+use Rattle.protocol_models.proofs.of_exchange_model.Turns.{sent_each}
 use Rattle.protocol_models.specs.Tables as Tables
 use Rattle.protocol_models.specs.Tables.{Ask}
 use Rattle.protocol_models.specs.CoeMeaning as CoeMeaning

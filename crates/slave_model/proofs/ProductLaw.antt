@@ -1,10 +1,10 @@
 -- The one exchange of a session keeps the laws.
 use Rattle.std.proofs.Common.{◌≡◌, ℕ, refl, sym, ap, ◌∙◌}
-use Rattle.exchange_model.specs.Exchange.{IsLawful}
-use Rattle.exchange_model.specs.Refusing.{IsRefusal}
-use Rattle.exchange_model.proofs.RefusingLaw.{gated_law}
-use Rattle.state_model.specs.Families.{AreOneClient}
-use Rattle.state_model.proofs.FamilyLaw.{family_law}
+use Rattle.protocol_models.specs.of_exchange_model.Exchange.{IsLawful}
+use Rattle.protocol_models.specs.of_exchange_model.Refusing.{IsRefusal}
+use Rattle.protocol_models.proofs.of_exchange_model.RefusingLaw.{gated_law}
+use Rattle.life_model.specs.of_state_model.Families.{AreOneClient}
+use Rattle.life_model.proofs.of_state_model.FamilyLaw.{family_law}
 use Rattle.slave_model.specs.Profile.{Protocol, Profile, IsProfile, serves}
 use Rattle.slave_model.specs.Application.{Parts, ArePartsLawful}
 use Rattle.slave_model.specs.Product.{served, refusal, side, protocols, product}

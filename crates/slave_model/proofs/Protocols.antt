@@ -1,11 +1,11 @@
 -- The client of each protocol never waits in vain.
 use Rattle.std.proofs.Common.{◌≡◌, inl, inr, ℕ, zero, suc, ◌+◌, ◌<◌, ◌≤◌, Bool, true, List, [], ◌∷◌, ◌++◌, length, refl, sym, ap, ◌∙◌, arith, append-nil, length-append}
 use Rattle.std.specs.Prelude.{drop}
-use Rattle.exchange_model.specs.Areas.{Areas, AreMailboxes}
-use Rattle.exchange_model.specs.Exchange.{given, plain}
-use Rattle.exchange_model.specs.Prefix.{IsPrefixOf}
-use Rattle.exchange_model.specs.Dialogue.{said}
-use Rattle.exchange_model.proofs.Turns.{said_more}
+use Rattle.protocol_models.specs.of_exchange_model.Areas.{Areas, AreMailboxes}
+use Rattle.protocol_models.specs.of_exchange_model.Exchange.{given, plain}
+use Rattle.protocol_models.specs.of_exchange_model.Prefix.{IsPrefixOf}
+use Rattle.protocol_models.specs.of_exchange_model.Dialogue.{said}
+use Rattle.protocol_models.proofs.of_exchange_model.Turns.{said_more}
 use Rattle.protocol_models.specs.Tables as Tables
 use Rattle.protocol_models.specs.CoeModel as CoeModel
 use Rattle.protocol_models.proofs.Progress.{goes_on}

@@ -1,13 +1,13 @@
 -- Whether a service may begin behind a visit that brought nothing.
 use Rattle.std.proofs.Common.{◌≡◌, ◌≢◌, ℕ, ◌&&◌, ◌||◌, Bool, true, false, not, is_none, is_some, Option, Some, None, option_map, List, [], ◌∷◌, ◌++◌, length, length-append, refl, sym, ap, ◌∙◌, arith, append-nil, if◌then◌else◌}
-use Rattle.exchange_model.specs.Exchange.{Speech, outnumbers, plain}
-use Rattle.exchange_model.specs.Rows.{Row, answer_after, begun, ends_unheard, left, row_heard, row_told}
+use Rattle.protocol_models.specs.of_exchange_model.Exchange.{Speech, outnumbers, plain}
+use Rattle.protocol_models.specs.of_exchange_model.Rows.{Row, answer_after, begun, ends_unheard, left, row_heard, row_told}
 use Rattle.life_model.specs.Lives.{Era}
-use Rattle.link_model.specs.Mails.{LinkMail}
-use Rattle.segment_model.specs.Seats.{Side, is_over, is_none_left, side_back, side_begins, side_holds, side_next, next_mail}
-use Rattle.segment_model.specs.Slaves.{Datagram}
-use Rattle.state_model.specs.Stated.{Service}
-use Rattle.state_model.specs.Accounts.{Account, Duty, account_begins, is_free, is_acknowledged, mails_begin, starts, state_begins}
+use Rattle.link_mails.specs.of_link_model.Mails.{LinkMail}
+use Rattle.life_model.specs.of_segment_model.Seats.{Side, is_over, is_none_left, side_back, side_begins, side_holds, side_next, next_mail}
+use Rattle.life_model.specs.of_segment_model.Slaves.{Datagram}
+use Rattle.life_model.specs.of_state_model.Stated.{Service}
+use Rattle.life_model.specs.of_state_model.Accounts.{Account, Duty, account_begins, is_free, is_acknowledged, mails_begin, starts, state_begins}
 use Rattle.slave_model.specs.Moments.{IsFree, HeldStill, NowAnswered}
 
 and_parts : (a b : Bool) → (a && b) ≡ true → (a ≡ true) × (b ≡ true)

@@ -4,9 +4,9 @@ use Rattle.std.specs.Prelude.{if◌then◌else◌}
 use Rattle.std.proofs.lemmas.Bool.{leb-false}
 use Rattle.link_mails.specs.Body.{Body}
 use Rattle.protocol_models.specs.of_eoe.Cutting.{fragment_at, fragments_from}
-use Rattle.exchange_model.specs.Dialogue.{said}
-use Rattle.exchange_model.specs.Lifted.{EachOf, ReadsBack}
-use Rattle.exchange_model.specs.Refusing.{Refusal, IsAsked, IsRefusal}
+use Rattle.protocol_models.specs.of_exchange_model.Dialogue.{said}
+use Rattle.protocol_models.specs.of_exchange_model.Lifted.{EachOf, ReadsBack}
+use Rattle.protocol_models.specs.of_exchange_model.Refusing.{Refusal, IsAsked, IsRefusal}
 use Rattle.protocol_models.specs.CoeMails as CoeMails
 use Rattle.protocol_models.specs.CoeMeaning as CoeMeaning
 use Rattle.protocol_models.specs.CoeClient as CoeClient

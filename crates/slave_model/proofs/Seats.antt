@@ -1,26 +1,26 @@
 -- The newest row of a slave with no state service in hand.
 use Rattle.std.proofs.Common.{◌≡◌, inl, inr, ℕ, ◌&&◌, ◌||◌, Bool, true, false, not, is_none, is_some, Option, Some, None, option_map, List, [], ◌∷◌, ◌++◌, length, nat_lt, refl, sym, ap, ◌∙◌, subst, append-nil, arith, if◌then◌else◌}
-use Rattle.exchange_model.specs.Exchange.{Exchange, IsLawful, given, plain}
-use Rattle.exchange_model.specs.Rows.{Row, answer_after, ends_unheard, left}
-use Rattle.exchange_model.proofs.Lists.{append_cancel, append_none}
-use Rattle.link_model.specs.Mails.{news, seen}
-use Rattle.link_model.specs.Master.{InState}
+use Rattle.protocol_models.specs.of_exchange_model.Exchange.{Exchange, IsLawful, given, plain}
+use Rattle.protocol_models.specs.of_exchange_model.Rows.{Row, answer_after, ends_unheard, left}
+use Rattle.protocol_models.proofs.of_exchange_model.Lists.{append_cancel, append_none}
+use Rattle.link_mails.specs.of_link_model.Mails.{news, seen}
+use Rattle.link_mails.specs.of_link_model.Master.{InState}
 use Rattle.slave_model.specs.Waits.{NeverWaits}
 use Rattle.slave_model.proofs.States.{states_never}
-use Rattle.segment_model.specs.Ends.{Outcome}
-use Rattle.segment_model.specs.Laws.{IsSettled, as_outcome}
-use Rattle.segment_model.specs.Record.{Frame}
-use Rattle.segment_model.specs.Seats.{Seat, is_over, is_none_left, link_of}
-use Rattle.segment_model.proofs.Rests.{all_taken, all_offered}
-use Rattle.state_model.specs.Stated.{Stated, IsStated, Act, Service, Counting, acts, all_mails, ends_by, planned_by, with_states, service_handed}
-use Rattle.state_model.proofs.Acts.{acts_length, acts_same, all_acts, left_mails, plain_acts, plain_given_acts}
-use Rattle.state_model.proofs.StatedLaw.{stated_law}
-use Rattle.state_model.specs.Promises.{IsTable}
-use Rattle.state_model.specs.States.{Table}
-use Rattle.state_model.specs.Accounts.{Account, Started, is_free, is_acknowledged}
-use Rattle.state_model.proofs.Ghosts.{MailsNow, Rested, RestedRow, Rowed, Staged, StateNow, counting, starts_append, starts_of}
-use Rattle.state_model.proofs.Newest.{Holds}
-use Rattle.state_model.proofs.Stately.{state_over}
+use Rattle.life_model.specs.of_segment_model.Ends.{Outcome}
+use Rattle.life_model.specs.of_segment_model.Laws.{IsSettled, as_outcome}
+use Rattle.life_model.specs.of_segment_model.Record.{Frame}
+use Rattle.life_model.specs.of_segment_model.Seats.{Seat, is_over, is_none_left, link_of}
+use Rattle.life_model.proofs.of_segment_model.Rests.{all_taken, all_offered}
+use Rattle.life_model.specs.of_state_model.Stated.{Stated, IsStated, Act, Service, Counting, acts, all_mails, ends_by, planned_by, with_states, service_handed}
+use Rattle.life_model.proofs.of_state_model.Acts.{acts_length, acts_same, all_acts, left_mails, plain_acts, plain_given_acts}
+use Rattle.life_model.proofs.of_state_model.StatedLaw.{stated_law}
+use Rattle.life_model.specs.of_state_model.Promises.{IsTable}
+use Rattle.life_model.specs.of_state_model.States.{Table}
+use Rattle.life_model.specs.of_state_model.Accounts.{Account, Started, is_free, is_acknowledged}
+use Rattle.life_model.proofs.of_state_model.Ghosts.{MailsNow, Rested, RestedRow, Rowed, Staged, StateNow, counting, starts_append, starts_of}
+use Rattle.life_model.proofs.of_state_model.Newest.{Holds}
+use Rattle.life_model.proofs.of_state_model.Stately.{state_over}
 use Rattle.slave_model.specs.Moments.{IsMailsLast, WasHeard}
 use Rattle.slave_model.proofs.Answers.{acknowledges, answered_all, before, on, replied, states_last, whole_heard}
 use Rattle.slave_model.proofs.Unsent.{Unsent}

@@ -1,10 +1,10 @@
 -- Each protocol, served or refused, keeps the laws.
 use Rattle.std.proofs.Common.{ℕ, List, [], ◌∷◌}
 use Rattle.link_mails.specs.of_mailbox_mail.declared.mail.Mail.{Mail}
-use Rattle.exchange_model.specs.Areas.{AreMailboxes}
-use Rattle.exchange_model.specs.Exchange.{Exchange, IsLawful, given}
-use Rattle.exchange_model.specs.Lifted.{EachOf, ReadsBack, Spells}
-use Rattle.exchange_model.proofs.Lifting.{lifted_law}
+use Rattle.protocol_models.specs.of_exchange_model.Areas.{AreMailboxes}
+use Rattle.protocol_models.specs.of_exchange_model.Exchange.{Exchange, IsLawful, given}
+use Rattle.protocol_models.specs.of_exchange_model.Lifted.{EachOf, ReadsBack, Spells}
+use Rattle.protocol_models.proofs.of_exchange_model.Lifting.{lifted_law}
 use Rattle.protocol_models.specs.CoeMails as CoeMails
 use Rattle.protocol_models.specs.CoeModel as CoeModel
 use Rattle.protocol_models.specs.CoeOctets as CoeOctets

@@ -1,6 +1,6 @@
 -- The client of a slave's one exchange never waits in vain.
 use Rattle.std.proofs.Common.{◌≡◌, ℕ, Bool, true, false, List, [], ◌∷◌, map, take, refl, if◌then◌else◌}
-use Rattle.exchange_model.specs.Dialogue.{said}
+use Rattle.protocol_models.specs.of_exchange_model.Dialogue.{said}
 use Rattle.protocol_models.specs.CoeServer.{is_expedited}
 use Rattle.protocol_models.specs.CoeMails as CoeMails
 use Rattle.protocol_models.specs.CoeOctets as CoeOctets

@@ -1,10 +1,10 @@
 -- The AL state is a part of the application of the one exchange.
 use Rattle.std.proofs.Common.{ℕ, [], refl}
-use Rattle.exchange_model.specs.Exchange.{AnswersLast}
-use Rattle.state_model.specs.Stated.{IsStated}
-use Rattle.state_model.specs.Families.{states_of}
-use Rattle.state_model.proofs.FamilyLaw.{family_is_stated}
-use Rattle.exchange_model.proofs.Lasts.{lifted_last}
+use Rattle.protocol_models.specs.of_exchange_model.Exchange.{AnswersLast}
+use Rattle.life_model.specs.of_state_model.Stated.{IsStated}
+use Rattle.life_model.specs.of_state_model.Families.{states_of}
+use Rattle.life_model.proofs.of_state_model.FamilyLaw.{family_is_stated}
+use Rattle.protocol_models.proofs.of_exchange_model.Lasts.{lifted_last}
 use Rattle.slave_model.proofs.CoeLast.{coe_last}
 use Rattle.protocol_models.specs.CoeMails as CoeMails
 use Rattle.protocol_models.specs.CoeOctets as CoeOctets

@@ -5,7 +5,7 @@ use Rattle.protocol_models.specs.of_eoe.declared.message.Eoe.TheVariants.{Fragme
 use Rattle.protocol_models.specs.of_eoe.declared.message.Fragment.{Fragment}
 use Rattle.protocol_models.specs.of_eoe.Message.{eoe_text}
 use Rattle.protocol_models.specs.of_eoe.Cutting.{fragments_of}
-use Rattle.exchange_model.specs.Lifted.{EachOf}
+use Rattle.protocol_models.specs.of_exchange_model.Lifted.{EachOf}
 use Rattle.protocol_models.specs.Tables as Tables
 use Rattle.protocol_models.specs.CoeOctets as CoeOctets
 use Rattle.protocol_models.specs.CoeOctets.{is_fragment}

@@ -1,22 +1,22 @@
 -- A mail that was taken up and not yet sent is not in its slave.
 use Rattle.std.proofs.Common.{◌≡◌, ℕ, zero, suc, ◌==◌, ◌&&◌, ◌||◌, Bool, true, false, not, Option, Some, None, List, [], ◌∷◌, ◌++◌, refl, sym, ap, ◌∙◌, subst, arith, if◌then◌else◌, eqb-true}
 use Rattle.std.proofs.lemmas.Bool.Decides.{nat_tests}
-use Rattle.exchange_model.specs.Exchange.{Exchange}
-use Rattle.exchange_model.specs.Rows.{Row, begun, left}
-use Rattle.link_model.specs.Agree.{OutAgree}
-use Rattle.link_model.specs.Counters.{next_counter}
-use Rattle.link_model.specs.Frames.{Ask, Gram, node_meets, node_after, halves_answered, halves_after}
-use Rattle.link_model.specs.Link.{Halves}
-use Rattle.link_model.specs.Mails.{LinkMail, is_repeat, news, seen}
-use Rattle.link_model.specs.Master.{OutHalf, out_hold}
-use Rattle.link_model.specs.Segment.{RingFate}
-use Rattle.link_model.specs.Slave.{Node, OutSide, served, is_free, node_look}
-use Rattle.segment_model.specs.Seats.{Side, Seat, Choice, Turn, is_write, writes, is_over, side_begins, side_holds, side_lost, next_mail, first_left, ring_of, seat_next, seats_next, seat_back, seats_after, seat_steps, seat_steps_at, seats_step, IsFrame}
-use Rattle.segment_model.specs.Slaves.{Serving, serving, Processor, Datagram, Slave, grams, slave_after, all_back, state_told}
-use Rattle.segment_model.proofs.Posts.{writes-all_back}
-use Rattle.segment_model.proofs.Sounds.{SeatAgrees, began_halves, next_agrees, frame_agrees, steps_agree}
-use Rattle.segment_model.proofs.Views.{node-slave_after}
-use Rattle.segment_model.proofs.Written.{losts_out}
+use Rattle.protocol_models.specs.of_exchange_model.Exchange.{Exchange}
+use Rattle.protocol_models.specs.of_exchange_model.Rows.{Row, begun, left}
+use Rattle.link_mails.specs.of_link_model.Agree.{OutAgree}
+use Rattle.link_mails.specs.of_link_model.Counters.{next_counter}
+use Rattle.link_mails.specs.of_link_model.Frames.{Ask, Gram, node_meets, node_after, halves_answered, halves_after}
+use Rattle.link_mails.specs.of_link_model.Link.{Halves}
+use Rattle.link_mails.specs.of_link_model.Mails.{LinkMail, is_repeat, news, seen}
+use Rattle.link_mails.specs.of_link_model.Master.{OutHalf, out_hold}
+use Rattle.link_mails.specs.of_link_model.Segment.{RingFate}
+use Rattle.link_mails.specs.of_link_model.Slave.{Node, OutSide, served, is_free, node_look}
+use Rattle.life_model.specs.of_segment_model.Seats.{Side, Seat, Choice, Turn, is_write, writes, is_over, side_begins, side_holds, side_lost, next_mail, first_left, ring_of, seat_next, seats_next, seat_back, seats_after, seat_steps, seat_steps_at, seats_step, IsFrame}
+use Rattle.life_model.specs.of_segment_model.Slaves.{Serving, serving, Processor, Datagram, Slave, grams, slave_after, all_back, state_told}
+use Rattle.life_model.proofs.of_segment_model.Posts.{writes-all_back}
+use Rattle.life_model.proofs.of_segment_model.Sounds.{SeatAgrees, began_halves, next_agrees, frame_agrees, steps_agree}
+use Rattle.life_model.proofs.of_segment_model.Views.{node-slave_after}
+use Rattle.life_model.proofs.of_segment_model.Written.{losts_out}
 
 -- the mail held is news to the slave
 pub record IsNew {M : Type 0} (o : OutSide M) (holding : Option (LinkMail M)) : Type 0 where

@@ -1,7 +1,7 @@
 -- Worked rows, computed: what clients have left to tell behind a first part of their mails, before and behind a reply to it.
 use Rattle.std.proofs.Common.{◌≡◌, ℕ, List, [], ◌∷◌, replicate, refl}
 use Rattle.std.specs.Prelude.{drop}
-use Rattle.exchange_model.specs.Toy.{adder, second, held, sum}
+use Rattle.protocol_models.specs.of_exchange_model.Toy.{adder, second, held, sum}
 use Rattle.protocol_models.specs.FoeMails.{FoeMail, mail, Read, Data, Ack, Busy}
 use Rattle.protocol_models.specs.FoeMeaning.{read, write}
 use Rattle.protocol_models.specs.FoeModel.{planned}

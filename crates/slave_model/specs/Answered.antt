@@ -1,16 +1,16 @@
 -- What the laws say of the newest service of an open slave.
 use Rattle.std.specs.Prelude.{◌≡◌, ℕ, false, Bool, Some, None, List, []}
-use Rattle.exchange_model.specs.Exchange.{Exchange, Speech, IsLawful}
-use Rattle.exchange_model.specs.Rows.{Row, ends_unheard, left}
+use Rattle.protocol_models.specs.of_exchange_model.Exchange.{Exchange, Speech, IsLawful}
+use Rattle.protocol_models.specs.of_exchange_model.Rows.{Row, ends_unheard, left}
 use Rattle.life_model.specs.Eras.{EraIs}
 use Rattle.life_model.specs.Lives.{Spot, Era, era_next}
 use Rattle.slave_model.specs.Waits.{NeverWaits}
-use Rattle.segment_model.specs.Record.{Frame}
-use Rattle.segment_model.specs.Seats.{side_back}
-use Rattle.segment_model.specs.Slaves.{Datagram, Processor, Registers, Slave}
-use Rattle.state_model.specs.Stated.{Stated, IsStated, Service}
-use Rattle.state_model.specs.States.{Table}
-use Rattle.state_model.specs.Accounts.{Pick, starts}
+use Rattle.life_model.specs.of_segment_model.Record.{Frame}
+use Rattle.life_model.specs.of_segment_model.Seats.{side_back}
+use Rattle.life_model.specs.of_segment_model.Slaves.{Datagram, Processor, Registers, Slave}
+use Rattle.life_model.specs.of_state_model.Stated.{Stated, IsStated, Service}
+use Rattle.life_model.specs.of_state_model.States.{Table}
+use Rattle.life_model.specs.of_state_model.Accounts.{Pick, starts}
 use Rattle.slave_model.specs.Moments.{IsFree, IsMailsLast, HasNothing, HeldStill, NowAnswered, WasHeard}
 
 -- the newest service has its answer, and ends with no acknowledgement: it was told whole, and each of its mails was sent

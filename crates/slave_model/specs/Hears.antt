@@ -1,6 +1,6 @@
 -- A client that hears the replies to what it told before it goes on.
 use Rattle.std.specs.Prelude.{◌≡◌, true, List, [], ◌∷◌, ◌++◌, drop, length}
-use Rattle.exchange_model.specs.Exchange.{Exchange, given, plain}
+use Rattle.protocol_models.specs.of_exchange_model.Exchange.{Exchange, given, plain}
 
 -- A CLIENT HEARS FIRST: while a reply to a first part of a service's mails isn't heard yet, it has no mail behind that part to tell. The laws of exchanges
 -- don't say so of themselves

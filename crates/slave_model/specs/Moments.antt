@@ -1,15 +1,15 @@
 -- A moment of an open epoch, with what was heard and what is left of the newest service.
 use Rattle.std.specs.Prelude.{◌≡◌, ◌≢◌, ℕ, true, Bool, Some, None, List, [], ◌∷◌, ◌++◌}
-use Rattle.exchange_model.specs.Exchange.{Exchange, Speech, given, plain}
-use Rattle.exchange_model.specs.Rows.{Row, answer_after, left}
-use Rattle.link_model.specs.Frames.{all_accepted}
-use Rattle.link_model.specs.Master.{InState}
+use Rattle.protocol_models.specs.of_exchange_model.Exchange.{Exchange, Speech, given, plain}
+use Rattle.protocol_models.specs.of_exchange_model.Rows.{Row, answer_after, left}
+use Rattle.link_mails.specs.of_link_model.Frames.{all_accepted}
+use Rattle.link_mails.specs.of_link_model.Master.{InState}
 use Rattle.life_model.specs.Lives.{Era}
-use Rattle.segment_model.specs.Laws.{IsSettled}
-use Rattle.segment_model.specs.Seats.{Side}
-use Rattle.segment_model.specs.Slaves.{Datagram, Slave, grams}
-use Rattle.state_model.specs.Stated.{Service}
-use Rattle.state_model.specs.Accounts.{Started, is_free, is_acknowledged}
+use Rattle.life_model.specs.of_segment_model.Laws.{IsSettled}
+use Rattle.life_model.specs.of_segment_model.Seats.{Side}
+use Rattle.life_model.specs.of_segment_model.Slaves.{Datagram, Slave, grams}
+use Rattle.life_model.specs.of_state_model.Stated.{Service}
+use Rattle.life_model.specs.of_state_model.Accounts.{Started, is_free, is_acknowledged}
 
 -- the newest service by mails has the answer that the mails heard for it are
 abbrev pub NowAnswered : {M Q R : Type 0} → Speech M Q R → Side M Q R → Type 0

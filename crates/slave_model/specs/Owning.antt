@@ -1,8 +1,8 @@
 -- What a protocol owes to stand beside the others: its clients' mails are its own, and what it gives is told apart by the slave as by itself.
 use Rattle.std.specs.Prelude.{◌≡◌, ℕ, Bool, true, false, Option, Some, None, Ok, Err}
 use Rattle.link_mails.specs.Body.{Body}
-use Rattle.exchange_model.specs.Exchange.{given}
-use Rattle.exchange_model.specs.Lifted.{EachOf}
+use Rattle.protocol_models.specs.of_exchange_model.Exchange.{given}
+use Rattle.protocol_models.specs.of_exchange_model.Lifted.{EachOf}
 use Rattle.slave_model.specs.Profile.{Protocol, Profile}
 use Rattle.slave_model.specs.Application.{Parts}
 use Rattle.slave_model.specs.Server.{Seat, ServiceOf}

@@ -4,11 +4,11 @@ use Rattle.link_mails.specs.of_mailbox_mail.declared.mail.MailFault.TheVariants.
 use Rattle.link_mails.specs.of_mailbox_mail.declared.mail.Kind.{Kind}
 use Rattle.link_mails.specs.of_mailbox_mail.declared.outcome.ReplyKind.{ReplyKind}
 use Rattle.link_mails.specs.Body.{Body}
-use Rattle.exchange_model.specs.Exchange.{Exchange}
-use Rattle.exchange_model.specs.Lifted.{lifted}
-use Rattle.exchange_model.specs.Sides.{Slave, joined}
-use Rattle.exchange_model.specs.Refusing.{Refusal, gated}
-use Rattle.state_model.specs.Families.{InState, in_states}
+use Rattle.protocol_models.specs.of_exchange_model.Exchange.{Exchange}
+use Rattle.protocol_models.specs.of_exchange_model.Lifted.{lifted}
+use Rattle.protocol_models.specs.of_exchange_model.Sides.{Slave, joined}
+use Rattle.protocol_models.specs.of_exchange_model.Refusing.{Refusal, gated}
+use Rattle.life_model.specs.of_state_model.Families.{InState, in_states}
 use Rattle.protocol_models.specs.CoeMails as CoeMails
 use Rattle.protocol_models.specs.CoeClient as CoeClient
 use Rattle.protocol_models.specs.CoeModel as CoeModel

@@ -1,6 +1,6 @@
 -- What a slave is that never changes: the lengths of its mailboxes, the protocols that it serves, and its addresses.
 use Rattle.std.specs.Prelude.{◌≡◌, ◌≤◌, ℕ, ◌==◌, ◌&&◌, ◌||◌, not, Bool, true, false, List, length}
-use Rattle.exchange_model.specs.Areas.{Areas}
+use Rattle.protocol_models.specs.of_exchange_model.Areas.{Areas}
 
 -- the protocols behind a mailbox
 pub data Protocol : Type 0 where

@@ -1,7 +1,7 @@
 -- A client that has told and heard all that it can goes on.
 use Rattle.std.specs.Prelude.{◌≡◌, true, List, [], ◌++◌, drop, length}
-use Rattle.exchange_model.specs.Exchange.{Exchange, given, plain}
-use Rattle.exchange_model.specs.Refusing.{Refusal}
+use Rattle.protocol_models.specs.of_exchange_model.Exchange.{Exchange, given, plain}
+use Rattle.protocol_models.specs.of_exchange_model.Refusing.{Refusal}
 
 -- A CLIENT NEVER WAITS IN VAIN: one that has told a first part of a service's mails, has heard all that replies to it and has none left to tell, has told
 -- all. The laws of exchanges don't say so of themselves

@@ -2,14 +2,14 @@
 //! and their contracts state the laws.
 
 ghost use Rattle.std.specs.Prelude.{ℕ, Bool};
-ghost use Rattle.exchange_model.specs.Areas.{Areas, AreMailboxes};
-ghost use Rattle.exchange_model.specs.Exchange.{Exchange};
-ghost use Rattle.exchange_model.specs.Lifted.{Spells, lifted};
-ghost use Rattle.exchange_model.specs.Refusing.{Refusal, IsRefusal, gated};
-ghost use Rattle.exchange_model.specs.Sides.{Slave, IsSide, joined};
-ghost use Rattle.state_model.specs.Families.{AreOneClient, in_states};
-ghost use Rattle.state_model.specs.Stated.{Stated, with_states};
-ghost use Rattle.state_model.specs.States.{Table};
+ghost use Rattle.protocol_models.specs.of_exchange_model.Areas.{Areas, AreMailboxes};
+ghost use Rattle.protocol_models.specs.of_exchange_model.Exchange.{Exchange};
+ghost use Rattle.protocol_models.specs.of_exchange_model.Lifted.{Spells, lifted};
+ghost use Rattle.protocol_models.specs.of_exchange_model.Refusing.{Refusal, IsRefusal, gated};
+ghost use Rattle.protocol_models.specs.of_exchange_model.Sides.{Slave, IsSide, joined};
+ghost use Rattle.life_model.specs.of_state_model.Families.{AreOneClient, in_states};
+ghost use Rattle.life_model.specs.of_state_model.Stated.{Stated, with_states};
+ghost use Rattle.life_model.specs.of_state_model.States.{Table};
 ghost use Rattle.protocol_models.specs.Tables as Tables;
 ghost use Rattle.protocol_models.specs.CoeModel.{coe_exchange};
 ghost use Rattle.protocol_models.specs.Files as Files;

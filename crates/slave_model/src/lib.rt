@@ -7,13 +7,13 @@ pub mod hears_first;
 pub mod never_waits;
 
 ghost use Rattle.std.specs.Prelude.{ℕ};
-ghost use Rattle.exchange_model.specs.Exchange.{IsLawful};
-ghost use Rattle.state_model.specs.Stated.{IsStated};
-ghost use Rattle.state_model.specs.Families.{states_of};
+ghost use Rattle.protocol_models.specs.of_exchange_model.Exchange.{IsLawful};
+ghost use Rattle.life_model.specs.of_state_model.Stated.{IsStated};
+ghost use Rattle.life_model.specs.of_state_model.Families.{states_of};
 ghost use Rattle.slave_model.specs.Acknowledged.{acknowledged};
 ghost use Rattle.slave_model.specs.Profile.{Protocol, Profile, IsProfile};
 ghost use Rattle.slave_model.specs.Application.{Parts, ArePartsLawful};
-ghost use Rattle.exchange_model.specs.Refusing.{IsRefusal};
+ghost use Rattle.protocol_models.specs.of_exchange_model.Refusing.{IsRefusal};
 ghost use Rattle.slave_model.specs.Product.{served, refusal, protocols, product};
 
 /// Each protocol keeps the laws over the one application, at each AL state, where it is served.

@@ -1,10 +1,10 @@
 -- A step of a slave's processor carries out one service at most.
 use Rattle.std.proofs.Common.{◌≡◌, ◌≤◌, ℕ, suc, Bool, true, false, Option, Some, None, arith}
 use Rattle.std.specs.Prelude.{if◌then◌else◌, not}
-use Rattle.mailbox_mail.specs.declared.mail.Mail.{Mail}
-use Rattle.link_mails.specs.Body.{Body}
-use Rattle.link_model.specs.Counters.{repeats}
-use Rattle.esc_registers.specs.declared.registers.Registers.{Registers}
+use Rattle.mailbox_slave.specs.of_mailbox_mail.declared.mail.Mail.{Mail}
+use Rattle.mailbox_slave.specs.of_link_mails.Body.{Body}
+use Rattle.mailbox_slave.specs.of_link_model.Counters.{repeats}
+use Rattle.mailbox_slave.specs.of_esc_registers.declared.registers.Registers.{Registers}
 use Rattle.mailbox_slave.specs.Kept.{Kept}
 use Rattle.mailbox_slave.specs.Exact.{Slave, out_mail, is_free, mail_served, next_offered, mail_offered}
 use Rattle.slave_node.specs.Node.{Node, is_init}

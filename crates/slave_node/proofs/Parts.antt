@@ -1,17 +1,17 @@
 -- One datagram of a frame passes: its body is where its part says, and the frame with what came back is a frame again.
 use Rattle.std.proofs.Common.{◌≡◌, ℕ, ◌+◌, ◌≤◌, ◌%◌, Bool, true, false, List, [], ◌∷◌, ◌++◌, length, take, drop, Option, None, Some, refl, sym, ap, ap₂, ◌∙◌, subst, arith, append_assoc, length-append}
 use Rattle.std.specs.Prelude.{if◌then◌else◌, ◌*◌}
-use Rattle.datagrams.specs.declared.frame.Part.{Part}
-use Rattle.datagrams.specs.declared.head.Head.{Head}
+use Rattle.al_state.specs.of_datagrams.declared.frame.Part.{Part}
+use Rattle.al_state.specs.of_datagrams.declared.head.Head.{Head}
 use Rattle.std.proofs.lemmas.List.{drop_at, take_at}
 use Rattle.byteorder.specs.Endian.{little_bytes}
-use Rattle.datagrams.specs.Datagram.{Datagram, IsDatagram, front_text}
-use Rattle.datagrams.specs.Frame.{IsFrame, IsPart, Each, text_of, header_text, reset, octets_set}
-use Rattle.datagrams.proofs.Spelled.{datagram_text-behind}
-use Rattle.datagrams.proofs.Changing.{front_of, frame_parted, IsFrame-body, IsPart-inside}
-use Rattle.esc_registers.specs.declared.registers.Registers.{Registers}
-use Rattle.esc_registers.specs.declared.row.Row.{Row}
-use Rattle.esc_registers.specs.Access.{Passed, access, passed_at, is_by_place, row_of, is_meant}
+use Rattle.al_state.specs.of_datagrams.Datagram.{Datagram, IsDatagram, front_text}
+use Rattle.al_state.specs.of_datagrams.Frame.{IsFrame, IsPart, Each, text_of, header_text, reset, octets_set}
+use Rattle.al_state.proofs.of_datagrams.Spelled.{datagram_text-behind}
+use Rattle.al_state.proofs.of_datagrams.Changing.{front_of, frame_parted, IsFrame-body, IsPart-inside}
+use Rattle.mailbox_slave.specs.of_esc_registers.declared.registers.Registers.{Registers}
+use Rattle.mailbox_slave.specs.of_esc_registers.declared.row.Row.{Row}
+use Rattle.mailbox_slave.specs.of_esc_registers.Access.{Passed, access, passed_at, is_by_place, row_of, is_meant}
 use Rattle.slave_node.specs.Passing.{passed, datagram_after, replaced, part_passed}
 
 pub each_at : (front behind : List Datagram) (d : Datagram) → Each IsDatagram (front ++ d ∷ behind) → IsDatagram d

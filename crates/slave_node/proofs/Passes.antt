@@ -1,17 +1,17 @@
 -- All datagrams of a frame pass, one after the other.
 use Rattle.std.proofs.Common.{◌≡◌, ℕ, true, ◌+◌, ◌*◌, ◌≤◌, ◌<◌, ◌-◌, List, [], ◌∷◌, ◌++◌, length, take, Option, Some, None, Err, refl, sym, ap, ◌∙◌, subst, arith, append_assoc, length-append}
 use Rattle.std.specs.Prelude.{slice_get, IfSome, is_some}
-use Rattle.datagrams.specs.declared.frame.FrameFault.{FrameFault}
+use Rattle.al_state.specs.of_datagrams.declared.frame.FrameFault.{FrameFault}
 use Rattle.std.specs.Option.{option_to_list}
-use Rattle.datagrams.specs.declared.frame.Part.{Part}
-use Rattle.datagrams.specs.declared.head.Head.{Head}
-use Rattle.datagrams.specs.Datagram.{Datagram, datagram_text, size_of}
-use Rattle.datagrams.specs.Frame.{IsFrame, IsPart, text_of, parts_of, frame_read, header_text}
-use Rattle.datagrams.proofs.Building.{text_of-append}
-use Rattle.datagrams.proofs.Header.{frame_read-only}
-use Rattle.datagrams.proofs.Spelled.{length-datagram_text}
-use Rattle.esc_registers.specs.declared.registers.Registers.{Registers}
-use Rattle.esc_registers.specs.Access.{KeepsLengths}
+use Rattle.al_state.specs.of_datagrams.declared.frame.Part.{Part}
+use Rattle.al_state.specs.of_datagrams.declared.head.Head.{Head}
+use Rattle.al_state.specs.of_datagrams.Datagram.{Datagram, datagram_text, size_of}
+use Rattle.al_state.specs.of_datagrams.Frame.{IsFrame, IsPart, text_of, parts_of, frame_read, header_text}
+use Rattle.al_state.proofs.of_datagrams.Building.{text_of-append}
+use Rattle.al_state.proofs.of_datagrams.Header.{frame_read-only}
+use Rattle.al_state.proofs.of_datagrams.Spelled.{length-datagram_text}
+use Rattle.mailbox_slave.specs.of_esc_registers.declared.registers.Registers.{Registers}
+use Rattle.mailbox_slave.specs.of_esc_registers.Access.{KeepsLengths}
 use Rattle.slave_node.specs.Passing.{datagram_after, registers_after, datagrams_after, part_passed, parts_passed, passed_as, frame_passed, IsPassed, IsPassing, PartPasses}
 use Rattle.slave_node.proofs.Parts.{each_at, head_kept}
 

@@ -2,14 +2,14 @@
 use Rattle.std.proofs.Common.{◌≡◌, ℕ, ◌+◌, ◌≤◌, ◌%◌, Bool, true, false, List, [], ◌∷◌, ◌++◌, length, take, drop, None, Some, refl, sym, ap, ◌∙◌, subst, arith, length-drop}
 use Rattle.std.specs.Prelude.{◌||◌, if◌then◌else◌}
 use Rattle.std.proofs.lemmas.List.{length-take-le, take-append-drop, drop-drop}
-use Rattle.datagrams.specs.declared.frame.Part.{Part}
-use Rattle.datagrams.specs.declared.head.Head.{Head}
-use Rattle.datagrams.specs.Datagram.{head_read, size_of}
-use Rattle.datagrams.specs.Frame.{IsFrame, IsPart, parts_of, part_at, octets_set}
-use Rattle.datagrams.proofs.Changing.{set_same}
-use Rattle.datagrams.proofs.Walking.{next_found}
-use Rattle.esc_registers.specs.declared.registers.Registers.{Registers}
-use Rattle.esc_registers.specs.Access.{Passed, access, passed_at, is_by_place, row_of, is_meant, is_concerned}
+use Rattle.al_state.specs.of_datagrams.declared.frame.Part.{Part}
+use Rattle.al_state.specs.of_datagrams.declared.head.Head.{Head}
+use Rattle.al_state.specs.of_datagrams.Datagram.{head_read, size_of}
+use Rattle.al_state.specs.of_datagrams.Frame.{IsFrame, IsPart, parts_of, part_at, octets_set}
+use Rattle.al_state.proofs.of_datagrams.Changing.{set_same}
+use Rattle.al_state.proofs.of_datagrams.Walking.{next_found}
+use Rattle.mailbox_slave.specs.of_esc_registers.declared.registers.Registers.{Registers}
+use Rattle.mailbox_slave.specs.of_esc_registers.Access.{Passed, access, passed_at, is_by_place, row_of, is_meant, is_concerned}
 use Rattle.slave_node.specs.Passing.{passed, datagram_after, replaced, part_passed, PartPasses}
 use Rattle.slave_node.proofs.Parts.{inside, head_kept}
 use Rattle.slave_node.proofs.Passes.{NextIs, AllPassing, sized}

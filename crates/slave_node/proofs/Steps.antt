@@ -3,7 +3,7 @@ use Rattle.std.proofs.Common.{◌≡◌, ℕ, Bool, false, Option, sym, ap, ap�
 use Rattle.std.specs.Prelude.{if◌then◌else◌}
 use Rattle.mailbox_slave.specs.of_mailbox_mail.declared.mail.Mail.{Mail}
 use Rattle.al_state.specs.declared.machine.Al.{Al}
-use Rattle.esc_registers.specs.declared.registers.Registers.{Registers}
+use Rattle.mailbox_slave.specs.of_esc_registers.declared.registers.Registers.{Registers}
 use Rattle.mailbox_slave.specs.of_link_mails.Body.{Body}
 use Rattle.mailbox_slave.specs.Kept.{Kept}
 use Rattle.mailbox_slave.specs.Exact.{Boxes, Slave, slave_served}

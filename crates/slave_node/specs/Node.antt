@@ -2,8 +2,8 @@
 use Rattle.std.specs.Prelude.{◌≡◌, ℕ, ◌==◌, ◌&&◌, not, is_none, Bool, true, false, List, Option, None}
 use Rattle.mailbox_slave.specs.of_mailbox_mail.declared.mail.Mail.{Mail}
 use Rattle.al_state.specs.declared.machine.Al.{Al}
-use Rattle.esc_registers.specs.declared.registers.Registers.{Registers}
-use Rattle.esc_registers.specs.Registers.{first_registers}
+use Rattle.mailbox_slave.specs.of_esc_registers.declared.registers.Registers.{Registers}
+use Rattle.mailbox_slave.specs.of_esc_registers.Registers.{first_registers}
 use Rattle.mailbox_slave.specs.Kept.{Kept, KeptFits, is_at_rest}
 use Rattle.mailbox_slave.specs.Registers.{in_len}
 use Rattle.slave_node.specs.Passing.{frame_passed}

@@ -1,12 +1,12 @@
 -- A slave's registers and a whole frame: datagram by datagram, in the order in which they stand.
 use Rattle.std.specs.Prelude.{◌≡◌, ℕ, ◌+◌, List, [], ◌∷◌, ◌++◌, length, take, drop, Result, Ok, Err}
-use Rattle.datagrams.specs.Datagram.{Datagram}
-use Rattle.datagrams.specs.declared.frame.Part.{Part}
-use Rattle.datagrams.specs.declared.frame.Frame.{Frame}
-use Rattle.datagrams.specs.declared.frame.FrameFault.{FrameFault}
-use Rattle.datagrams.specs.Frame.{IsFrame, text_of, parts_of, frame_read, octets_set}
-use Rattle.esc_registers.specs.declared.registers.Registers.{Registers}
-use Rattle.esc_registers.specs.Access.{Passed, access}
+use Rattle.al_state.specs.of_datagrams.Datagram.{Datagram}
+use Rattle.al_state.specs.of_datagrams.declared.frame.Part.{Part}
+use Rattle.al_state.specs.of_datagrams.declared.frame.Frame.{Frame}
+use Rattle.al_state.specs.of_datagrams.declared.frame.FrameFault.{FrameFault}
+use Rattle.al_state.specs.of_datagrams.Frame.{IsFrame, text_of, parts_of, frame_read, octets_set}
+use Rattle.mailbox_slave.specs.of_esc_registers.declared.registers.Registers.{Registers}
+use Rattle.mailbox_slave.specs.of_esc_registers.Access.{Passed, access}
 
 -- a datagram at the slave: the registers behind it, and what becomes of it
 abbrev pub passed : Registers → Datagram → Passed

@@ -4,8 +4,8 @@ use Rattle.mailbox_slave.specs.of_mailbox_mail.declared.mail.Mail.{Mail}
 use Rattle.al_state.specs.declared.machine.Al.{Al}
 use Rattle.al_state.specs.Request.{request_of}
 use Rattle.mailbox_slave.specs.of_link_mails.Body.{Body}
-use Rattle.esc_registers.specs.declared.registers.Registers.{Registers}
-use Rattle.esc_registers.specs.Registers.{are_areas_right}
+use Rattle.mailbox_slave.specs.of_esc_registers.declared.registers.Registers.{Registers}
+use Rattle.mailbox_slave.specs.of_esc_registers.Registers.{are_areas_right}
 use Rattle.mailbox_slave.specs.Kept.{Kept}
 use Rattle.mailbox_slave.specs.Exact.{Boxes, with_acknowledge, request_answered, boxes_looked, slave_served}
 use Rattle.slave_node.specs.Node.{Node, new_box, is_init}

@@ -1,13 +1,14 @@
 //! A frame passes the registers of one slave: its datagrams are carried out in the order in which they stand, in place (ETG.1000.4, 5.4).
 
 ghost use Rattle.std.specs.Prelude.{◌≡◌, ◌+◌, ◌≤◌, List, length, take, drop};
-ghost use Rattle.datagrams.specs.Datagram.{Datagram};
-ghost use Rattle.datagrams.specs.Frame.{IsFrame, IsPart};
-ghost use Rattle.esc_registers.specs.Access.{access, KeepsLengths};
+ghost use Rattle.al_state.specs.of_datagrams.Datagram.{Datagram};
+ghost use Rattle.al_state.specs.of_datagrams.Frame.{IsFrame, IsPart};
+ghost use Rattle.mailbox_slave.specs.of_esc_registers.Access.{access, KeepsLengths};
 ghost use Rattle.slave_node.specs.Passing.{part_passed, frame_passed, replaced, IsPassed, PartPasses};
 
-use datagrams::{FrameBuf, Head, Part};
-use esc_registers::Esc;
+use al_state::datagrams;
+use al_state::datagrams::{FrameBuf, Head, Part};
+use mailbox_slave::esc_registers::Esc;
 
 // Where the first datagram of a frame stands.
 const FIRST: usize = 16;

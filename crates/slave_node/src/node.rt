@@ -4,9 +4,9 @@ ghost use Rattle.slave_node.specs.Step.{pdi_step};
 
 use crate::slave_steps::Clear;
 use al_state::Al;
-use datagrams::FrameBuf;
-use ec_fields::NoMemory;
-use esc_registers::Esc;
+use al_state::datagrams::FrameBuf;
+use al_state::ec_fields::NoMemory;
+use mailbox_slave::esc_registers::Esc;
 use mailbox_slave::{Server, SlaveBox};
 use segment_ring::Slave;
 use std::alloc::Global;
@@ -15,7 +15,7 @@ use std::marker::Model;
 /// The services of one slave, which count those that they carried out.
 pub trait Services: Clear + Drop {
     ghost use Rattle.std.specs.Prelude.{◌≡◌, ◌≤◌, ◌<◌, ℕ, suc, ◌+◌};
-    ghost use Rattle.link_mails.specs.Body.{Body};
+    ghost use Rattle.mailbox_slave.specs.of_link_mails.Body.{Body};
 
     ghost handled: { Self → ℕ };
 

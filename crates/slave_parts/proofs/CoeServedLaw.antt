@@ -1,12 +1,12 @@
 -- CoE services from whatever server, with an unfinished transfer or without one.
 use Rattle.std.proofs.Common.{◌≡◌, suc, Bool, true, length, refl, sym, ◌∙◌, ap, arith}
-use Rattle.exchange_model.specs.Areas.{Areas, AreMailboxes}
-use Rattle.exchange_model.specs.Exchange.{after}
-use Rattle.idn_table.specs.of_protocol_models.Tables.{Tables, AreLawful}
-use Rattle.idn_table.specs.of_protocol_models.CoeServer.{Server, serve}
-use Rattle.idn_table.specs.of_protocol_models.CoeMeaning.{Service, download, upload, information}
-use Rattle.idn_table.specs.of_protocol_models.CoeModel.{turns, full, value_length, coe_exchange}
-use Rattle.eoe_server.proofs.of_protocol_models.CoeLaw.{coe_law}
+use Rattle.idn_table.specs.of_exchange_model.Areas.{Areas, AreMailboxes}
+use Rattle.idn_table.specs.of_exchange_model.Exchange.{after}
+use Rattle.eoe_server.specs.of_protocol_models.Tables.{Tables, AreLawful}
+use Rattle.eoe_server.specs.of_protocol_models.CoeServer.{Server, serve}
+use Rattle.eoe_server.specs.of_protocol_models.CoeMeaning.{Service, download, upload, information}
+use Rattle.eoe_server.specs.of_protocol_models.CoeModel.{turns, full, value_length, coe_exchange}
+use Rattle.idn_table.proofs.of_protocol_models.CoeLaw.{coe_law}
 use Rattle.serving_model.specs.Tagged.{IsServed}
 use Rattle.slave_parts.proofs.WholeLaw.{whole_served}
 use Rattle.slave_parts.specs.CoeServed.{transfer_behind, server_behind, coe_served, tables_of}

@@ -1,14 +1,14 @@
 -- What packets and address blocks keep of a station, any mail keeps.
 use Rattle.std.proofs.Common.{◌≡◌, ℕ, ◌-◌, ◌&&◌, nat_le, Bool, true, false, List, length, Option, None, Some, refl}
 use Rattle.std.specs.Prelude.{if◌then◌else◌}
-use Rattle.eoe.specs.declared.joining.Joined.{Joined}
-use Rattle.eoe.specs.declared.joining.Joined.TheVariants.{More, Whole, Dropped}
-use Rattle.eoe.specs.declared.joining.Unfinished.{Unfinished}
-use Rattle.eoe.specs.Joining.{taken}
-use Rattle.eoe.specs.Address.{is_block}
-use Rattle.idn_table.specs.of_protocol_models.EoeMails.{Eoe, Part, SetIp, SetIpAnswer, GetIp, GetIpAnswer, EoeFault, Short, WrongType, Offset, EoeMail, mail, unread, unsupported, failed, other}
-use Rattle.idn_table.specs.of_protocol_models.Network.{Network, Station}
-use Rattle.idn_table.specs.of_protocol_models.EoeServer.{Server, Outcome, delivered, joined, addressed, set_answer, eoe_takes, takes_unread, eoe_outcome, serve}
+use Rattle.eoe_server.specs.of_eoe.declared.joining.Joined.{Joined}
+use Rattle.eoe_server.specs.of_eoe.declared.joining.Joined.TheVariants.{More, Whole, Dropped}
+use Rattle.eoe_server.specs.of_eoe.declared.joining.Unfinished.{Unfinished}
+use Rattle.eoe_server.specs.of_eoe.Joining.{taken}
+use Rattle.eoe_server.specs.of_eoe.Address.{is_block}
+use Rattle.eoe_server.specs.of_protocol_models.EoeMails.{Eoe, Part, SetIp, SetIpAnswer, GetIp, GetIpAnswer, EoeFault, Short, WrongType, Offset, EoeMail, mail, unread, unsupported, failed, other}
+use Rattle.eoe_server.specs.of_protocol_models.Network.{Network, Station}
+use Rattle.eoe_server.specs.of_protocol_models.EoeServer.{Server, Outcome, delivered, joined, addressed, set_answer, eoe_takes, takes_unread, eoe_outcome, serve}
 
 module _ {S : Type 0} (o : Network S) (room : ℕ) (P : Station S → Type 0) (sent : (station : Station S) (octets : List ℕ) → P station → P (delivered o room station octets).0)
     (set : (station : Station S) (app : S) (block : List ℕ) → P station → o.set_ip station.app block ≡ Some app → P (record station { app = app })) where

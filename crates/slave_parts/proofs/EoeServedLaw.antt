@@ -1,21 +1,21 @@
 -- EoE services from whatever server, with an unfinished packet or without one.
 use Rattle.std.proofs.Common.{◌≡◌, ℕ, ◌+◌, ◌-◌, ◌*◌, ◌/◌, ◌%◌, ◌<◌, nat_le, nat_lt, Bool, true, false, List, [], ◌∷◌, map, length, Option, None, Some, refl, sym, ◌∙◌, ap, arith, leb-true, ltb-true, lt-ltb}
 use Rattle.std.specs.Prelude.{if◌then◌else◌}
-use Rattle.eoe.specs.declared.message.Fragment.{Fragment}
-use Rattle.eoe.specs.declared.joining.Joined.{Joined}
-use Rattle.eoe.specs.declared.joining.Joined.TheVariants.{More, Whole, Dropped}
-use Rattle.eoe.specs.declared.joining.Unfinished.{Unfinished}
-use Rattle.eoe.specs.Joining.{Taken, awaited, ended, added, payload_of, taken, taken_by, joins, GivesWhole}
-use Rattle.eoe.specs.Cutting.{fragments_of}
-use Rattle.eoe.proofs.Whole.{every_area_gives_the_packet}
-use Rattle.exchange_model.specs.Areas.{Areas, AreMailboxes}
-use Rattle.exchange_model.specs.Exchange.{after}
-use Rattle.idn_table.specs.of_protocol_models.EoeMails.{EoeMail, part}
-use Rattle.idn_table.specs.of_protocol_models.Network.{Network, IsSound, Station, is_ready}
-use Rattle.idn_table.specs.of_protocol_models.EoeServer.{Server, sends, joined, addressed, set_answer, serve}
-use Rattle.idn_table.specs.of_protocol_models.EoeClient.{Service, packet, set_ip, get_ip, is_service, mails_of, meaning_of}
-use Rattle.idn_table.specs.of_protocol_models.EoeModel.{eoe_exchange}
-use Rattle.eoe_server.proofs.of_protocol_models.EoeLaw.{eoe_law, both, both_are}
+use Rattle.eoe_server.specs.of_eoe.declared.message.Fragment.{Fragment}
+use Rattle.eoe_server.specs.of_eoe.declared.joining.Joined.{Joined}
+use Rattle.eoe_server.specs.of_eoe.declared.joining.Joined.TheVariants.{More, Whole, Dropped}
+use Rattle.eoe_server.specs.of_eoe.declared.joining.Unfinished.{Unfinished}
+use Rattle.eoe_server.specs.of_eoe.Joining.{Taken, awaited, ended, added, payload_of, taken, taken_by, joins, GivesWhole}
+use Rattle.eoe_server.specs.of_eoe.Cutting.{fragments_of}
+use Rattle.eoe_server.proofs.of_eoe.Whole.{every_area_gives_the_packet}
+use Rattle.idn_table.specs.of_exchange_model.Areas.{Areas, AreMailboxes}
+use Rattle.idn_table.specs.of_exchange_model.Exchange.{after}
+use Rattle.eoe_server.specs.of_protocol_models.EoeMails.{EoeMail, part}
+use Rattle.eoe_server.specs.of_protocol_models.Network.{Network, IsSound, Station, is_ready}
+use Rattle.eoe_server.specs.of_protocol_models.EoeServer.{Server, sends, joined, addressed, set_answer, serve}
+use Rattle.eoe_server.specs.of_protocol_models.EoeClient.{Service, packet, set_ip, get_ip, is_service, mails_of, meaning_of}
+use Rattle.eoe_server.specs.of_protocol_models.EoeModel.{eoe_exchange}
+use Rattle.idn_table.proofs.of_protocol_models.EoeLaw.{eoe_law, both, both_are}
 use Rattle.serving_model.specs.Tagged.{IsServed}
 use Rattle.slave_parts.proofs.WholeLaw.{whole_served}
 use Rattle.slave_parts.specs.EoeServed.{unfinished_behind, server_behind, eoe_served, station_of}

@@ -3,8 +3,8 @@ use Rattle.std.proofs.Common.{◌≡◌, ℕ, ◌+◌, ◌≤◌, ◌&&◌, nat_
 use Rattle.std.specs.List.{list_all}
 use Rattle.std.proofs.lemmas.Bool.{le-leb, leb-true, and_parts, and_from}
 use Rattle.std.proofs.lemmas.List.Sums.{sum_by-cons}
-use Rattle.block_pool.specs.Region.{blocks_for}
-use Rattle.file_store.specs.Files.{Filed, Kept, taken, free_of, is_named, has_room, is_valid, rewritten, put}
+use Rattle.foe_server.specs.of_block_pool.Region.{blocks_for}
+use Rattle.foe_server.specs.of_file_store.Files.{Filed, Kept, taken, free_of, is_named, has_room, is_valid, rewritten, put}
 
 abbrev calm : List Filed → Bool
 calm files = list_all (λ (file : Filed). nat_le file.spec.busy 15) files

@@ -1,12 +1,12 @@
 -- FoE services from whatever server, with an unfinished transfer or without one.
 use Rattle.std.proofs.Common.{◌≡◌, suc, ◌+◌, true, false, length, refl, sym, ◌∙◌, ap, arith}
-use Rattle.exchange_model.specs.Areas.{Areas, AreMailboxes}
-use Rattle.exchange_model.specs.Exchange.{after}
-use Rattle.idn_table.specs.of_protocol_models.Files.{Files, AreLawful}
-use Rattle.idn_table.specs.of_protocol_models.FoeServer.{Server, serve}
-use Rattle.idn_table.specs.of_protocol_models.FoeMeaning.{Service, read, write, meaning_of}
-use Rattle.idn_table.specs.of_protocol_models.FoeModel.{turns, full, read_length, foe_exchange}
-use Rattle.eoe_server.proofs.of_protocol_models.FoeLaw.{foe_law}
+use Rattle.idn_table.specs.of_exchange_model.Areas.{Areas, AreMailboxes}
+use Rattle.idn_table.specs.of_exchange_model.Exchange.{after}
+use Rattle.eoe_server.specs.of_protocol_models.Files.{Files, AreLawful}
+use Rattle.eoe_server.specs.of_protocol_models.FoeServer.{Server, serve}
+use Rattle.eoe_server.specs.of_protocol_models.FoeMeaning.{Service, read, write, meaning_of}
+use Rattle.eoe_server.specs.of_protocol_models.FoeModel.{turns, full, read_length, foe_exchange}
+use Rattle.idn_table.proofs.of_protocol_models.FoeLaw.{foe_law}
 use Rattle.serving_model.specs.Tagged.{IsServed}
 use Rattle.slave_parts.proofs.WholeLaw.{whole_served}
 use Rattle.slave_parts.specs.FoeServed.{has_its_room, is_ready, server_behind, foe_served, files_of, StaysValid}

@@ -1,15 +1,15 @@
 -- A service leaves no transfer, whatever stood before.
 use Rattle.std.proofs.Common.{◌≡◌, inl, inr, ℕ, zero, suc, ◌+◌, ◌-◌, ◌==◌, ◌<◌, ◌≤◌, Bool, true, false, nat_lt, List, [], ◌∷◌, ◌++◌, length, take, drop, Option, None, Some, refl, ap, ◌∙◌, arith, length-drop, length-take, lt-ltb, le-ltb, ltb-true}
 use Rattle.std.proofs.lemmas.Bool.{cases_lt}
-use Rattle.exchange_model.specs.Areas.{Areas}
-use Rattle.exchange_model.specs.Exchange.{after, plain}
-use Rattle.exchange_model.specs.Dialogue.{next, again, stop, sent, turn_at}
-use Rattle.exchange_model.proofs.Turns.{sent_none, sent_onward, sent_repeated, sent_over, sent_waits}
-use Rattle.idn_table.specs.of_protocol_models.FoeMails.{FoeMail, mail, Read, Write, Data, Ack, Busy, is_emission}
-use Rattle.idn_table.specs.of_protocol_models.Files.{Files}
-use Rattle.idn_table.specs.of_protocol_models.FoeServer.{Transfer, idle, reading, writing, closing, Server, Outcome, foe_outcome, behind, serve, ended, goes_on, silent, refusal, ack, packet_room, packet_of, is_last, opened, begun, closes}
-use Rattle.idn_table.specs.of_protocol_models.FoeClient.{decide, turn_behind, write_turn, acks, packets}
-use Rattle.idn_table.specs.of_protocol_models.FoeModel.{read_length}
+use Rattle.idn_table.specs.of_exchange_model.Areas.{Areas}
+use Rattle.idn_table.specs.of_exchange_model.Exchange.{after, plain}
+use Rattle.idn_table.specs.of_exchange_model.Dialogue.{next, again, stop, sent, turn_at}
+use Rattle.idn_table.proofs.of_exchange_model.Turns.{sent_none, sent_onward, sent_repeated, sent_over, sent_waits}
+use Rattle.eoe_server.specs.of_protocol_models.FoeMails.{FoeMail, mail, Read, Write, Data, Ack, Busy, is_emission}
+use Rattle.eoe_server.specs.of_protocol_models.Files.{Files}
+use Rattle.eoe_server.specs.of_protocol_models.FoeServer.{Transfer, idle, reading, writing, closing, Server, Outcome, foe_outcome, behind, serve, ended, goes_on, silent, refusal, ack, packet_room, packet_of, is_last, opened, begun, closes}
+use Rattle.eoe_server.specs.of_protocol_models.FoeClient.{decide, turn_behind, write_turn, acks, packets}
+use Rattle.eoe_server.specs.of_protocol_models.FoeModel.{read_length}
 
 -- all mails of an FoE server are replies
 all_plain : (ms : List FoeMail) → plain is_emission ms ≡ ms

@@ -1,11 +1,11 @@
 -- Protocols of one slave are served together.
 use Rattle.std.proofs.Common.{◌≡◌, inl, inr, suc, ◌≤◌, Bool, true, not, List, [], ◌∷◌, ◌++◌, filter, cond, refl, sym, ap, ap₂, ◌∙◌, subst}
-use Rattle.exchange_model.specs.Prefix.{IsPrefixOf}
-use Rattle.exchange_model.specs.Exchange.{Exchange, after, given, plain, emitted}
-use Rattle.exchange_model.specs.Lifted.{EachOf}
-use Rattle.exchange_model.proofs.Words.{given-append}
-use Rattle.exchange_model.specs.Sides.{Slave}
-use Rattle.exchange_model.proofs.SumLaw.{each_left}
+use Rattle.idn_table.specs.of_exchange_model.Prefix.{IsPrefixOf}
+use Rattle.idn_table.specs.of_exchange_model.Exchange.{Exchange, after, given, plain, emitted}
+use Rattle.idn_table.specs.of_exchange_model.Lifted.{EachOf}
+use Rattle.idn_table.proofs.of_exchange_model.Words.{given-append}
+use Rattle.idn_table.specs.of_exchange_model.Sides.{Slave}
+use Rattle.idn_table.proofs.of_exchange_model.SumLaw.{each_left}
 use Rattle.serving_model.specs.Tagged.{IsServed, Untouched, Touched}
 use Rattle.slave_parts.specs.Sides.{IsWholeSide, joined_whole}
 

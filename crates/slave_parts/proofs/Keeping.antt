@@ -1,10 +1,10 @@
 -- What downloads and emitted packets keep of the tables, any mail keeps.
 use Rattle.std.proofs.Common.{◌≡◌, ℕ, ◌-◌, ◌==◌, ◌||◌, not, nat_lt, nat_le, Bool, true, false, List, ◌++◌, length, Option, None, Some, Result, Ok, Err, refl}
 use Rattle.std.specs.Prelude.{if◌then◌else◌}
-use Rattle.exchange_model.specs.Areas.{Areas}
-use Rattle.idn_table.specs.of_protocol_models.CoeMails.{Coe, CoeMail, mail, unread, failed, fragment, other, CoeFault, Short, Service, Command, Size, Emergency, Expedited, First, Upload, DownloadAnswer, ExpeditedAnswer, FirstAnswer, Segment, SegmentAnswer, UploadSegment, UploadSegmentAnswer, Abort, ListRequest, ObjectRequest, EntryRequest, Information, InformationError}
-use Rattle.idn_table.specs.of_protocol_models.Tables.{Target, Ask, list, object, entry, Tables}
-use Rattle.idn_table.specs.of_protocol_models.CoeServer.{Transfer, idle, downloading, uploading, Server, Emission, emergency, packet, issued, Outcome, coe_outcome, coe_takes, serve, stored, begins, takes_first, takes_segment, takes_upload_segment, opened, informed, takes_unread, unknown_command, same, is_expedited}
+use Rattle.idn_table.specs.of_exchange_model.Areas.{Areas}
+use Rattle.eoe_server.specs.of_protocol_models.CoeMails.{Coe, CoeMail, mail, unread, failed, fragment, other, CoeFault, Short, Service, Command, Size, Emergency, Expedited, First, Upload, DownloadAnswer, ExpeditedAnswer, FirstAnswer, Segment, SegmentAnswer, UploadSegment, UploadSegmentAnswer, Abort, ListRequest, ObjectRequest, EntryRequest, Information, InformationError}
+use Rattle.eoe_server.specs.of_protocol_models.Tables.{Target, Ask, list, object, entry, Tables}
+use Rattle.eoe_server.specs.of_protocol_models.CoeServer.{Transfer, idle, downloading, uploading, Server, Emission, emergency, packet, issued, Outcome, coe_outcome, coe_takes, serve, stored, begins, takes_first, takes_segment, takes_upload_segment, opened, informed, takes_unread, unknown_command, same, is_expedited}
 
 either : {X : Type 0} (P : X → Type 0) (b : Bool) (x y : X) → P x → P y → P (if b then x else y)
 either P true x y p q = p

@@ -1,17 +1,17 @@
 -- Each mail of a service brings a reply at last, but for the acknowledgement of a file that is read, whatever server it meets.
 use Rattle.std.proofs.Common.{◌&&◌, Bool, true, false, [], ◌∷◌, refl, sym, ap, ◌∙◌}
-use Rattle.exchange_model.specs.Areas.{Areas, AreMailboxes}
-use Rattle.exchange_model.specs.Exchange.{Exchange, AnswersLast, given, outnumbers, plain}
-use Rattle.exchange_model.specs.Refusing.{Refusal}
-use Rattle.exchange_model.specs.Sides.{Slave}
-use Rattle.exchange_model.proofs.Refusals.{all_taken}
+use Rattle.idn_table.specs.of_exchange_model.Areas.{Areas, AreMailboxes}
+use Rattle.idn_table.specs.of_exchange_model.Exchange.{Exchange, AnswersLast, given, outnumbers, plain}
+use Rattle.idn_table.specs.of_exchange_model.Refusing.{Refusal}
+use Rattle.idn_table.specs.of_exchange_model.Sides.{Slave}
+use Rattle.idn_table.proofs.of_exchange_model.Refusals.{all_taken}
 use Rattle.serving_model.specs.Tagged.{IsServed}
 use Rattle.slave_parts.specs.Whole.{refusing_whole, gated_whole, IsRefusedWhole}
 use Rattle.slave_parts.specs.Sides.{IsWholeSide, joined_whole}
 use Rattle.slave_parts.proofs.JoinedLaw.{plain_whole, mine_full, mine_part, told_full, told_part}
-use Rattle.idn_table.specs.of_protocol_models.Elements.{Elements, AreLawful}
-use Rattle.idn_table.specs.of_protocol_models.SoeMails.{is_emission}
-use Rattle.idn_table.specs.of_protocol_models.SoeClient.{ends}
+use Rattle.eoe_server.specs.of_protocol_models.Elements.{Elements, AreLawful}
+use Rattle.eoe_server.specs.of_protocol_models.SoeMails.{is_emission}
+use Rattle.eoe_server.specs.of_protocol_models.SoeClient.{ends}
 use Rattle.slave_parts.specs.SoeServed.{soe_served}
 use Rattle.slave_parts.proofs.ServedLaw.{kept, soe_is_served}
 

@@ -2,14 +2,14 @@
 use Rattle.std.proofs.Common.{◌≡◌, ℕ, ◌+◌, ◌-◌, ◌==◌, ◌||◌, not, nat_le, nat_lt, Bool, true, false, List, ◌++◌, length, Option, Some, None, Result, Ok, Err, refl}
 use Rattle.std.specs.Prelude.{if◌then◌else◌}
 use Rattle.eoe_server.specs.of_protocol_models.Network.{Station}
-use Rattle.coe_server.specs.of_protocol_models.Tables as CoeTables
-use Rattle.coe_server.specs.of_protocol_models.CoeMails as CoeMails
-use Rattle.coe_server.specs.of_protocol_models.CoeServer as Coe
-use Rattle.foe_server.specs.of_protocol_models.FoeMails as FoeMails
-use Rattle.foe_server.specs.of_protocol_models.FoeServer as Foe
-use Rattle.idn_table.specs.of_protocol_models.Elements as SoeElements
-use Rattle.idn_table.specs.of_protocol_models.SoeMails as SoeMails
-use Rattle.idn_table.specs.of_protocol_models.SoeServer as Soe
+use Rattle.eoe_server.specs.of_protocol_models.Tables as CoeTables
+use Rattle.eoe_server.specs.of_protocol_models.CoeMails as CoeMails
+use Rattle.eoe_server.specs.of_protocol_models.CoeServer as Coe
+use Rattle.eoe_server.specs.of_protocol_models.FoeMails as FoeMails
+use Rattle.eoe_server.specs.of_protocol_models.FoeServer as Foe
+use Rattle.eoe_server.specs.of_protocol_models.Elements as SoeElements
+use Rattle.eoe_server.specs.of_protocol_models.SoeMails as SoeMails
+use Rattle.eoe_server.specs.of_protocol_models.SoeServer as Soe
 use Rattle.slave_model.specs.Application.{Core, Parts, station_tables, station_files, station_elements, stored, written}
 
 -- of two ways, each seen through f

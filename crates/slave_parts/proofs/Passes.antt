@@ -1,10 +1,10 @@
 -- Any mail leaves files of which the laws speak.
 use Rattle.std.proofs.Common.{◌≡◌, ℕ, ◌+◌, ◌==◌, ◌&&◌, nat_lt, Bool, true, false, List, ◌++◌, length, Option, None, Some, refl}
 use Rattle.std.specs.Prelude.{if◌then◌else◌}
-use Rattle.exchange_model.specs.Areas.{Areas}
-use Rattle.idn_table.specs.of_protocol_models.FoeMails.{Foe, Read, Write, Data, Ack, Error, Busy, FoeFault, Short, Opcode, Name, FoeMail, mail, unread, failed, other}
-use Rattle.idn_table.specs.of_protocol_models.Files.{Files}
-use Rattle.idn_table.specs.of_protocol_models.FoeServer.{Transfer, idle, reading, writing, closing, Server, Outcome, foe_outcome, foe_takes, serve, opened, begun, closes, stores, takes_data, takes_ack, takes_unread, packet_room, is_last}
+use Rattle.idn_table.specs.of_exchange_model.Areas.{Areas}
+use Rattle.eoe_server.specs.of_protocol_models.FoeMails.{Foe, Read, Write, Data, Ack, Error, Busy, FoeFault, Short, Opcode, Name, FoeMail, mail, unread, failed, other}
+use Rattle.eoe_server.specs.of_protocol_models.Files.{Files}
+use Rattle.eoe_server.specs.of_protocol_models.FoeServer.{Transfer, idle, reading, writing, closing, Server, Outcome, foe_outcome, foe_takes, serve, opened, begun, closes, stores, takes_data, takes_ack, takes_unread, packet_room, is_last}
 use Rattle.slave_parts.specs.FoeServed.{has_its_room, is_ready, StaysValid}
 
 either : {X : Type 0} (P : X → Type 0) (b : Bool) (x y : X) → P x → P y → P (if b then x else y)

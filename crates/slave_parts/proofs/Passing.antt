@@ -1,26 +1,26 @@
 -- Any mail leaves a slave of which the laws speak: a protocol leaves the files of the others' servers, and FoE its own.
 use Rattle.std.proofs.Common.{◌≡◌, ℕ, ◌+◌, ◌%◌, ◌&&◌, nat_lt, Bool, true, false, List, [], length, Option, Some, None, Result, Ok, Err, refl, sym, ap, ◌∙◌, subst, lt-ltb, arith}
 use Rattle.std.specs.Prelude.{if◌then◌else◌}
-use Rattle.mailbox_mail.specs.declared.mail.Kind.{Kind}
-use Rattle.mailbox_mail.specs.declared.mail.MailFault.TheVariants.{Short, LengthPastArea, UnknownKind}
-use Rattle.link_mails.specs.Body.{Body}
-use Rattle.idn_table.specs.of_protocol_models.CoeMails as CoeMails
-use Rattle.idn_table.specs.of_protocol_models.CoeOctets as CoeOctets
-use Rattle.idn_table.specs.of_protocol_models.FoeMails as FoeMails
-use Rattle.idn_table.specs.of_protocol_models.FoeOctets as FoeOctets
-use Rattle.idn_table.specs.of_protocol_models.FoeServer.{Transfer, idle, reading, writing, closing}
-use Rattle.idn_table.specs.of_protocol_models.SoeMails as SoeMails
-use Rattle.idn_table.specs.of_protocol_models.SoeOctets as SoeOctets
-use Rattle.idn_table.specs.of_protocol_models.EoeMails as EoeMails
-use Rattle.idn_table.specs.of_protocol_models.EoeOctets as EoeOctets
-use Rattle.idn_table.specs.of_protocol_models.Network.{Station}
-use Rattle.idn_table.specs.of_protocol_models.EoeServer.{sends}
-use Rattle.idn_table.specs.of_protocol_models.Echo.{echo_of}
+use Rattle.eoe_server.specs.of_mailbox_mail.declared.mail.Kind.{Kind}
+use Rattle.eoe_server.specs.of_mailbox_mail.declared.mail.MailFault.TheVariants.{Short, LengthPastArea, UnknownKind}
+use Rattle.slave_model.specs.of_link_mails.Body.{Body}
+use Rattle.eoe_server.specs.of_protocol_models.CoeMails as CoeMails
+use Rattle.eoe_server.specs.of_protocol_models.CoeOctets as CoeOctets
+use Rattle.eoe_server.specs.of_protocol_models.FoeMails as FoeMails
+use Rattle.eoe_server.specs.of_protocol_models.FoeOctets as FoeOctets
+use Rattle.eoe_server.specs.of_protocol_models.FoeServer.{Transfer, idle, reading, writing, closing}
+use Rattle.eoe_server.specs.of_protocol_models.SoeMails as SoeMails
+use Rattle.eoe_server.specs.of_protocol_models.SoeOctets as SoeOctets
+use Rattle.eoe_server.specs.of_protocol_models.EoeMails as EoeMails
+use Rattle.eoe_server.specs.of_protocol_models.EoeOctets as EoeOctets
+use Rattle.eoe_server.specs.of_protocol_models.Network.{Station}
+use Rattle.eoe_server.specs.of_protocol_models.EoeServer.{sends}
+use Rattle.eoe_server.specs.of_protocol_models.Echo.{echo_of}
 use Rattle.slave_parts.proofs.Keeping as Coe
 use Rattle.slave_parts.proofs.EoeKeeping as Eoe
 use Rattle.slave_parts.specs.FoeServed.{has_its_room}
 use Rattle.slave_parts.proofs.Passes as Foe
-use Rattle.exchange_model.specs.Refusing.{gated}
+use Rattle.idn_table.specs.of_exchange_model.Refusing.{gated}
 use Rattle.slave_model.specs.Profile.{Protocol, Profile, IsProfile, serves, areas_of}
 use Rattle.slave_model.specs.Application.{Core, Parts, ArePartsLawful, core_valid, station_valid, with_objects, stored, station_tables, station_files, written, station_elements, network}
 use Rattle.slave_model.specs.Server.{Server, Seat, seat, reseated, heard_by, refused_counts}

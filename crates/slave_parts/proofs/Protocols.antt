@@ -1,18 +1,18 @@
 -- Each protocol of a slave, served or refused, from whatever server.
 use Rattle.std.proofs.Common.{ℕ, [], refl, sym, ◌∙◌}
-use Rattle.exchange_model.specs.Lifted.{Spells}
+use Rattle.idn_table.specs.of_exchange_model.Lifted.{Spells}
 use Rattle.serving_model.specs.Tagged.{IsServed}
 use Rattle.slave_parts.specs.Whole.{IsRefusedWhole}
 use Rattle.slave_parts.proofs.SpelledLaw.{spelled_served}
 use Rattle.slave_parts.proofs.RefusedLaw.{gated_served}
-use Rattle.idn_table.specs.of_protocol_models.CoeMails as CoeMails
-use Rattle.idn_table.specs.of_protocol_models.CoeOctets as CoeOctets
-use Rattle.idn_table.specs.of_protocol_models.FoeMails as FoeMails
-use Rattle.idn_table.specs.of_protocol_models.FoeOctets as FoeOctets
-use Rattle.idn_table.specs.of_protocol_models.SoeMails as SoeMails
-use Rattle.idn_table.specs.of_protocol_models.SoeOctets as SoeOctets
-use Rattle.idn_table.specs.of_protocol_models.EoeMails as EoeMails
-use Rattle.idn_table.specs.of_protocol_models.EoeOctets as EoeOctets
+use Rattle.eoe_server.specs.of_protocol_models.CoeMails as CoeMails
+use Rattle.eoe_server.specs.of_protocol_models.CoeOctets as CoeOctets
+use Rattle.eoe_server.specs.of_protocol_models.FoeMails as FoeMails
+use Rattle.eoe_server.specs.of_protocol_models.FoeOctets as FoeOctets
+use Rattle.eoe_server.specs.of_protocol_models.SoeMails as SoeMails
+use Rattle.eoe_server.specs.of_protocol_models.SoeOctets as SoeOctets
+use Rattle.eoe_server.specs.of_protocol_models.EoeMails as EoeMails
+use Rattle.eoe_server.specs.of_protocol_models.EoeOctets as EoeOctets
 use Rattle.slave_parts.specs.CoeServed as Coe
 use Rattle.slave_parts.proofs.CoeServedLaw.{coe_is_served}
 use Rattle.slave_parts.specs.FoeServed as Foe

@@ -1,9 +1,9 @@
 -- A refused protocol is served in whatever state its server is.
 use Rattle.std.proofs.Common.{◌≡◌, ◌⊎◌, inl, inr, ◌≤◌, Bool, true, false, List, [], ◌++◌, refl, sym, ap, ◌∙◌, subst, arith}
 use Rattle.std.specs.Prelude.{if◌then◌else◌}
-use Rattle.exchange_model.specs.Exchange.{Exchange, given, plain, emitted}
-use Rattle.exchange_model.specs.Refusing.{Refusal, IsAsked}
-use Rattle.exchange_model.proofs.Refusals.{snoc_cut, each_front, all_taken, Quiet, heard_of, quiet_after, quiet_given, all_after, replies, none_emitted, some_mail, follows, all_planned}
+use Rattle.idn_table.specs.of_exchange_model.Exchange.{Exchange, given, plain, emitted}
+use Rattle.idn_table.specs.of_exchange_model.Refusing.{Refusal, IsAsked}
+use Rattle.idn_table.proofs.of_exchange_model.Refusals.{snoc_cut, each_front, all_taken, Quiet, heard_of, quiet_after, quiet_given, all_after, replies, none_emitted, some_mail, follows, all_planned}
 use Rattle.serving_model.specs.Tagged.{IsServed, Untouched, Touched}
 use Rattle.slave_parts.specs.Whole.{refusing_whole, gated_whole, IsRefusedWhole}
 

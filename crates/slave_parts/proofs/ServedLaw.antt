@@ -2,15 +2,15 @@
 use Rattle.std.proofs.Common.{◌≡◌, ◌≢◌, ◌⊎◌, inl, inr, ℕ, zero, suc, ◌+◌, ◌-◌, ◌<◌, nat_le, Bool, true, false, List, [], ◌∷◌, ◌++◌, length, take, drop, Option, None, Some, Result, Ok, Err, refl, ap, sym, ◌∙◌, subst, arith, append-nil, length-drop, le-leb, ◌==◌, if◌then◌else◌}
 use Rattle.std.proofs.lemmas.Bool.{cases_lt, lt-leb}
 use Rattle.std.proofs.lemmas.List.{take-append-drop, append_assoc}
-use Rattle.exchange_model.specs.Areas.{Areas, AreMailboxes}
-use Rattle.exchange_model.specs.Exchange.{after, given, plain, emitted}
-use Rattle.exchange_model.proofs.Lists.{prefix_refl}
-use Rattle.idn_table.specs.of_protocol_models.Elements.{Target, Elements, AreLawful}
-use Rattle.idn_table.specs.of_protocol_models.SoeMails.{SoeMail, mail, unread, failed, other, SoeFault, Short, Opcode, Incomplete, message, is_emission, parts_of, fragments}
-use Rattle.idn_table.specs.of_protocol_models.SoeServer.{Join, Server, serve, soe_outcome, ahead, gathered, asked, written, answered, silent, joined, target_of, takes_whole, takes_unread, behind, most}
-use Rattle.idn_table.specs.of_protocol_models.SoeClient.{Service, read, write, mails_of, meaning_of, ends}
-use Rattle.eoe_server.proofs.of_protocol_models.SoeCarries.{Carried, Idle, Came, came_more, carried_one, waiting, carried_more, left_by, answer_to}
-use Rattle.eoe_server.proofs.of_protocol_models.SoeLaw.{none_emitted, all_plain, closed, ends_none, answer_to_read, read_carried, read_app, write_app, value_replied, write_replied, write_ready, grows}
+use Rattle.idn_table.specs.of_exchange_model.Areas.{Areas, AreMailboxes}
+use Rattle.idn_table.specs.of_exchange_model.Exchange.{after, given, plain, emitted}
+use Rattle.idn_table.proofs.of_exchange_model.Lists.{prefix_refl}
+use Rattle.eoe_server.specs.of_protocol_models.Elements.{Target, Elements, AreLawful}
+use Rattle.eoe_server.specs.of_protocol_models.SoeMails.{SoeMail, mail, unread, failed, other, SoeFault, Short, Opcode, Incomplete, message, is_emission, parts_of, fragments}
+use Rattle.eoe_server.specs.of_protocol_models.SoeServer.{Join, Server, serve, soe_outcome, ahead, gathered, asked, written, answered, silent, joined, target_of, takes_whole, takes_unread, behind, most}
+use Rattle.eoe_server.specs.of_protocol_models.SoeClient.{Service, read, write, mails_of, meaning_of, ends}
+use Rattle.idn_table.proofs.of_protocol_models.SoeCarries.{Carried, Idle, Came, came_more, carried_one, waiting, carried_more, left_by, answer_to}
+use Rattle.idn_table.proofs.of_protocol_models.SoeLaw.{none_emitted, all_plain, closed, ends_none, answer_to_read, read_carried, read_app, write_app, value_replied, write_replied, write_ready, grows}
 use Rattle.serving_model.specs.Tagged.{IsServed, Untouched, Touched}
 use Rattle.slave_parts.specs.SoeServed.{ahead_of, met, soe_served, table_of}
 

@@ -1,8 +1,8 @@
 -- A server that is one of a family at each AL state is served where each of the family is.
 use Rattle.std.proofs.Common.{◌≡◌, ◌⊎◌, inl, inr, ℕ, true, List, ◌++◌, sym, ap, ◌∙◌, subst}
-use Rattle.exchange_model.specs.Prefix.{IsPrefixOf}
-use Rattle.exchange_model.specs.Exchange.{Exchange, given, plain, emitted}
-use Rattle.slave_model.specs.of_state_model.Families.{InState, AreOneClient, in_states}
+use Rattle.idn_table.specs.of_exchange_model.Prefix.{IsPrefixOf}
+use Rattle.idn_table.specs.of_exchange_model.Exchange.{Exchange, given, plain, emitted}
+use Rattle.serving_model.specs.of_state_model.Families.{InState, AreOneClient, in_states}
 use Rattle.serving_model.proofs.of_state_model.FamilyLaw.{after_in, plain_given_in, emitted_given_in}
 use Rattle.serving_model.specs.Tagged.{IsServed, Untouched, Touched}
 

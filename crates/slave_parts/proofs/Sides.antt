@@ -1,10 +1,10 @@
 -- The protocols of a slave stand beside each other over its whole server.
 use Rattle.std.proofs.Common.{◌≡◌, ℕ, Bool, true, false, List, [], ◌∷◌, ◌++◌, length, Option, Some, None, Ok, Err, refl, sym, ap, ◌∙◌, subst}
-use Rattle.mailbox_mail.specs.declared.mail.Kind.{Kind}
-use Rattle.link_mails.specs.Body.{Body}
-use Rattle.exchange_model.specs.Exchange.{given}
-use Rattle.exchange_model.specs.Lifted.{EachOf}
-use Rattle.exchange_model.specs.Refusing.{Refusal, refused_serve, gated}
+use Rattle.eoe_server.specs.of_mailbox_mail.declared.mail.Kind.{Kind}
+use Rattle.slave_model.specs.of_link_mails.Body.{Body}
+use Rattle.idn_table.specs.of_exchange_model.Exchange.{given}
+use Rattle.idn_table.specs.of_exchange_model.Lifted.{EachOf}
+use Rattle.idn_table.specs.of_exchange_model.Refusing.{Refusal, refused_serve, gated}
 use Rattle.slave_parts.specs.Whole.{gated_whole}
 use Rattle.slave_parts.specs.Sides.{IsWholeSide}
 use Rattle.slave_model.specs.Profile.{Protocol, Profile, IsProfile, serves}
@@ -15,7 +15,7 @@ use Rattle.slave_model.specs.Owning.{same_protocol, is_of, mine}
 use Rattle.slave_model.proofs.Stations.{both, left_of, right_of}
 use Rattle.slave_model.proofs.Own.{are_own, soe_gives}
 use Rattle.slave_parts.specs.FoeServed.{has_its_room}
-use Rattle.idn_table.specs.of_protocol_models.FoeServer.{Transfer, idle, reading, writing, closing}
+use Rattle.eoe_server.specs.of_protocol_models.FoeServer.{Transfer, idle, reading, writing, closing}
 use Rattle.slave_parts.specs.Served.{core_of, served_whole, side_whole, slave_whole, is_fine, AreFilesServed}
 
 are_same : (i k : Protocol) → same_protocol i k ≡ true → i ≡ k

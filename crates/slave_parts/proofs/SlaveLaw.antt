@@ -1,6 +1,6 @@
 -- The services of one slave from whatever server, at each AL state.
 use Rattle.std.proofs.Common.{ℕ, refl, sym, ap, ◌∙◌}
-use Rattle.slave_model.specs.of_state_model.Families.{InState, AreOneClient}
+use Rattle.serving_model.specs.of_state_model.Families.{InState, AreOneClient}
 use Rattle.serving_model.specs.Tagged.{IsServed}
 use Rattle.slave_parts.proofs.JoinedLaw.{joined_served}
 use Rattle.slave_parts.proofs.ServingStatesLaw.{family_served}

@@ -1,9 +1,9 @@
 -- What writes keep of a table of IDNs, any mail of SoE keeps.
 use Rattle.std.proofs.Common.{◌≡◌, ℕ, ◌==◌, Bool, true, false, List, [], ◌∷◌, None, Some, Result, Ok, Err, refl}
 use Rattle.std.specs.Prelude.{if◌then◌else◌}
-use Rattle.idn_table.specs.of_protocol_models.Elements.{Target, Elements}
-use Rattle.idn_table.specs.of_protocol_models.SoeMails.{SoeMail, mail, unread, failed, other, SoeFault, Short, Opcode, Incomplete}
-use Rattle.idn_table.specs.of_protocol_models.SoeServer.{Server, serve, gathered, asked, written, answered, silent, joined, target_of, takes_whole, takes_unread}
+use Rattle.eoe_server.specs.of_protocol_models.Elements.{Target, Elements}
+use Rattle.eoe_server.specs.of_protocol_models.SoeMails.{SoeMail, mail, unread, failed, other, SoeFault, Short, Opcode, Incomplete}
+use Rattle.eoe_server.specs.of_protocol_models.SoeServer.{Server, serve, gathered, asked, written, answered, silent, joined, target_of, takes_whole, takes_unread}
 
 module _ {S : Type 0} (o : Elements S) (room : ℕ) (P : S → Type 0) (stays : (app changed : S) (t : Target) (bytes : List ℕ) → P app → o.write app t bytes ≡ Ok changed → P changed) where
   pub keeps : (v : Server S) (m : SoeMail) → P v.app → P (serve o room v m).0.app

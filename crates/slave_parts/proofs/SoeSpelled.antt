@@ -1,17 +1,17 @@
 -- What SoE answers to a service has spellings, whatever join stood before.
 use Rattle.std.proofs.Common.{◌≡◌, ℕ, zero, suc, ◌≤◌, ◌&&◌, nat_le, Bool, true, false, List, [], ◌∷◌, ◌++◌, take, length, None, refl, sym, ap, ◌∙◌, subst, arith, le-leb}
 use Rattle.std.proofs.lemmas.List.{take_all}
-use Rattle.exchange_model.specs.Areas.{Areas, AreMailboxes}
-use Rattle.exchange_model.specs.Exchange.{given}
-use Rattle.exchange_model.specs.Lifted.{EachOf, ReadsBack, Spells}
-use Rattle.idn_table.specs.of_protocol_models.Elements.{Elements, AreLawful}
-use Rattle.idn_table.specs.of_protocol_models.SoeServer.{Server, serve, most}
-use Rattle.idn_table.specs.of_protocol_models.SoeClient.{Service, read, write, is_service, is_target, mails_of}
-use Rattle.idn_table.specs.of_protocol_models.SoeModel.{is_ready}
-use Rattle.idn_table.specs.of_protocol_models.SoeOctets.{soe_mail_heard, soe_mail_written}
-use Rattle.eoe_server.proofs.of_protocol_models.SoeCarries.{answer_to}
-use Rattle.eoe_server.proofs.of_protocol_models.SoeLaw.{both_are}
-use Rattle.eoe_server.proofs.of_protocol_models.SoeSpelled.{soe_spells}
+use Rattle.idn_table.specs.of_exchange_model.Areas.{Areas, AreMailboxes}
+use Rattle.idn_table.specs.of_exchange_model.Exchange.{given}
+use Rattle.idn_table.specs.of_exchange_model.Lifted.{EachOf, ReadsBack, Spells}
+use Rattle.eoe_server.specs.of_protocol_models.Elements.{Elements, AreLawful}
+use Rattle.eoe_server.specs.of_protocol_models.SoeServer.{Server, serve, most}
+use Rattle.eoe_server.specs.of_protocol_models.SoeClient.{Service, read, write, is_service, is_target, mails_of}
+use Rattle.eoe_server.specs.of_protocol_models.SoeModel.{is_ready}
+use Rattle.eoe_server.specs.of_protocol_models.SoeOctets.{soe_mail_heard, soe_mail_written}
+use Rattle.idn_table.proofs.of_protocol_models.SoeCarries.{answer_to}
+use Rattle.idn_table.proofs.of_protocol_models.SoeLaw.{both_are}
+use Rattle.idn_table.proofs.of_protocol_models.SoeSpelled.{soe_spells}
 use Rattle.slave_parts.specs.SoeServed.{ahead_of, soe_served}
 use Rattle.slave_parts.proofs.ServedLaw.{gives, kept}
 

@@ -1,11 +1,11 @@
 -- A server over mails is served as the same over what these mails are written as.
 use Rattle.std.proofs.Common.{◌≡◌, ◌≢◌, ◌⊎◌, inl, inr, Bool, true, false, not, cond, List, [], ◌∷◌, ◌++◌, map, filter, refl, sym, ap, ◌∙◌, subst}
-use Rattle.exchange_model.specs.Prefix.{IsPrefixOf}
-use Rattle.exchange_model.specs.Exchange.{Exchange, after, given, plain, emitted}
-use Rattle.exchange_model.specs.Lifted.{EachOf, ReadsBack, Spells, lifted}
-use Rattle.exchange_model.proofs.Words.{given_part}
-use Rattle.exchange_model.proofs.Lifting.{all_back, each_filter, map_append, map_begin, cut_before}
-use Rattle.exchange_model.proofs.SumLaw.{each_left}
+use Rattle.idn_table.specs.of_exchange_model.Prefix.{IsPrefixOf}
+use Rattle.idn_table.specs.of_exchange_model.Exchange.{Exchange, after, given, plain, emitted}
+use Rattle.idn_table.specs.of_exchange_model.Lifted.{EachOf, ReadsBack, Spells, lifted}
+use Rattle.idn_table.proofs.of_exchange_model.Words.{given_part}
+use Rattle.idn_table.proofs.of_exchange_model.Lifting.{all_back, each_filter, map_append, map_begin, cut_before}
+use Rattle.idn_table.proofs.of_exchange_model.SumLaw.{each_left}
 use Rattle.serving_model.specs.Tagged.{IsServed, Untouched, Touched}
 
 module _ {V M N Q R C : Type 0} (x : Exchange V V M Q R) (core : V → C) (read : N → M) (write : M → N) where

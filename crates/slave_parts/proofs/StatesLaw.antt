@@ -1,25 +1,25 @@
 -- The AL state of one slave, from whatever server.
 use Rattle.std.proofs.Common.{ℕ, [], refl, sym, ◌∙◌}
-use Rattle.exchange_model.specs.Exchange.{AnswersLast, outnumbers}
-use Rattle.exchange_model.proofs.Lasts.{lifted_last}
-use Rattle.slave_model.specs.of_state_model.Families.{states_of}
+use Rattle.idn_table.specs.of_exchange_model.Exchange.{AnswersLast, outnumbers}
+use Rattle.idn_table.proofs.of_exchange_model.Lasts.{lifted_last}
+use Rattle.serving_model.specs.of_state_model.Families.{states_of}
 use Rattle.serving_model.proofs.of_state_model.FamilyLaw.{plain_given_in}
 use Rattle.serving_model.specs.TaggedStates.{IsStatedServed}
-use Rattle.idn_table.specs.of_protocol_models.CoeMails as CoeMails
-use Rattle.idn_table.specs.of_protocol_models.CoeOctets as CoeOctets
-use Rattle.idn_table.specs.of_protocol_models.FoeMails as FoeMails
-use Rattle.idn_table.specs.of_protocol_models.FoeOctets as FoeOctets
-use Rattle.idn_table.specs.of_protocol_models.SoeMails as SoeMails
-use Rattle.idn_table.specs.of_protocol_models.SoeOctets as SoeOctets
-use Rattle.idn_table.specs.of_protocol_models.EoeMails as EoeMails
-use Rattle.idn_table.specs.of_protocol_models.EoeOctets as EoeOctets
+use Rattle.eoe_server.specs.of_protocol_models.CoeMails as CoeMails
+use Rattle.eoe_server.specs.of_protocol_models.CoeOctets as CoeOctets
+use Rattle.eoe_server.specs.of_protocol_models.FoeMails as FoeMails
+use Rattle.eoe_server.specs.of_protocol_models.FoeOctets as FoeOctets
+use Rattle.eoe_server.specs.of_protocol_models.SoeMails as SoeMails
+use Rattle.eoe_server.specs.of_protocol_models.SoeOctets as SoeOctets
+use Rattle.eoe_server.specs.of_protocol_models.EoeMails as EoeMails
+use Rattle.eoe_server.specs.of_protocol_models.EoeOctets as EoeOctets
 use Rattle.slave_model.specs.Acknowledged.{acknowledges, acknowledged}
 use Rattle.slave_model.specs.Profile.{Protocol, Profile, IsProfile, serves, areas_of}
 use Rattle.slave_model.specs.Application.{Parts, ArePartsLawful, station_valid, station_tables, station_files, station_elements, network}
 use Rattle.slave_model.specs.Server.{Server, seat, reseated, heard_by, told_by}
 use Rattle.slave_model.specs.Product.{refusal}
 use Rattle.slave_model.proofs.CoeLast.{coe_last}
-use Rattle.eoe_server.proofs.of_protocol_models.FoeLasts.{foe_last}
+use Rattle.idn_table.proofs.of_protocol_models.FoeLasts.{foe_last}
 use Rattle.slave_model.proofs.EoeLast.{eoe_last}
 use Rattle.slave_model.proofs.Stations.{left_of, tables_law, files_law, elements_law, network_sound}
 use Rattle.slave_model.proofs.Sides.{told_spells, sized}

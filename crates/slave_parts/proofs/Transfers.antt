@@ -2,17 +2,17 @@
 use Rattle.std.proofs.Common.{◌≡◌, inl, inr, ℕ, zero, suc, ◌-◌, ◌<◌, ◌≤◌, Bool, true, false, not, nat_lt, List, [], ◌∷◌, ◌++◌, length, take, drop, Option, None, Some, Result, Ok, Err, refl, ap, ◌∙◌, arith, length-drop, length-take, take_all, eq-eqb, lt-ltb, le-ltb, le-leb}
 use Rattle.std.specs.Prelude.{if◌then◌else◌, ◌==◌}
 use Rattle.std.proofs.lemmas.Bool.{cases_lt, lt-leb}
-use Rattle.exchange_model.specs.Areas.{Areas}
-use Rattle.exchange_model.specs.Exchange.{after}
-use Rattle.exchange_model.specs.Dialogue.{next, stop}
-use Rattle.exchange_model.proofs.Turns.{sent_none, sent_last}
-use Rattle.idn_table.specs.of_protocol_models.CoeMails.{CoeMail, mail, is_emission, Upload, UploadSegment, UploadSegmentAnswer, FirstAnswer, ExpeditedAnswer, Segment, SegmentAnswer, First, Expedited}
-use Rattle.idn_table.specs.of_protocol_models.Tables.{Target, nowhere, Ask, list, object, entry, Tables}
-use Rattle.idn_table.specs.of_protocol_models.CoeServer.{Transfer, idle, downloading, uploading, Server, Outcome, coe_outcome, behind, serve, ended, goes_on, stored, takes_first, takes_segment, begins, download_answer, abort, opened, informed, same, is_expedited}
-use Rattle.idn_table.specs.of_protocol_models.CoeClient.{decide, segments, requests, download_mails, behind_first, information_mail}
-use Rattle.idn_table.specs.of_protocol_models.CoeModel.{value_length}
-use Rattle.eoe_server.proofs.of_protocol_models.CoeSpeaks.{never}
-use Rattle.eoe_server.proofs.of_protocol_models.CoeCarries.{talk, talk_onward, talk_over}
+use Rattle.idn_table.specs.of_exchange_model.Areas.{Areas}
+use Rattle.idn_table.specs.of_exchange_model.Exchange.{after}
+use Rattle.idn_table.specs.of_exchange_model.Dialogue.{next, stop}
+use Rattle.idn_table.proofs.of_exchange_model.Turns.{sent_none, sent_last}
+use Rattle.eoe_server.specs.of_protocol_models.CoeMails.{CoeMail, mail, is_emission, Upload, UploadSegment, UploadSegmentAnswer, FirstAnswer, ExpeditedAnswer, Segment, SegmentAnswer, First, Expedited}
+use Rattle.eoe_server.specs.of_protocol_models.Tables.{Target, nowhere, Ask, list, object, entry, Tables}
+use Rattle.eoe_server.specs.of_protocol_models.CoeServer.{Transfer, idle, downloading, uploading, Server, Outcome, coe_outcome, behind, serve, ended, goes_on, stored, takes_first, takes_segment, begins, download_answer, abort, opened, informed, same, is_expedited}
+use Rattle.eoe_server.specs.of_protocol_models.CoeClient.{decide, segments, requests, download_mails, behind_first, information_mail}
+use Rattle.eoe_server.specs.of_protocol_models.CoeModel.{value_length}
+use Rattle.idn_table.proofs.of_protocol_models.CoeSpeaks.{never}
+use Rattle.idn_table.proofs.of_protocol_models.CoeCarries.{talk, talk_onward, talk_over}
 
 -- a choice of two that are the same
 either : {X : Type 0} (P : X → Type 0) (b : Bool) (x y : X) → P x → P y → P (if b then x else y)

@@ -1,6 +1,6 @@
 -- A protocol over its whole server: the laws say all but what a service leaves of the transfers.
 use Rattle.std.proofs.Common.{◌≡◌, ◌≢◌, inl, inr, Bool, true, false, List, [], None, Some, refl, sym, ap, ◌∙◌}
-use Rattle.exchange_model.specs.Exchange.{Exchange, IsLawful, Before, Behind, given, plain, emitted}
+use Rattle.idn_table.specs.of_exchange_model.Exchange.{Exchange, IsLawful, Before, Behind, given, plain, emitted}
 use Rattle.serving_model.specs.Tagged.{IsServed, Untouched, Touched}
 use Rattle.slave_parts.specs.Whole.{whole_server, IsWhole}
 

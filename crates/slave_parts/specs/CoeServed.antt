@@ -1,13 +1,13 @@
 -- CoE services from whatever server: a download or an upload ends the SDO transfer that stood, and information leaves it.
 use Rattle.std.specs.Prelude.{suc, Bool}
-use Rattle.exchange_model.specs.Areas.{Areas}
-use Rattle.exchange_model.specs.Exchange.{Exchange}
+use Rattle.idn_table.specs.of_exchange_model.Areas.{Areas}
+use Rattle.idn_table.specs.of_exchange_model.Exchange.{Exchange}
 use Rattle.slave_parts.specs.Whole.{whole_server}
-use Rattle.idn_table.specs.of_protocol_models.CoeMails.{CoeMail}
-use Rattle.idn_table.specs.of_protocol_models.Tables.{Tables}
-use Rattle.idn_table.specs.of_protocol_models.CoeServer.{Transfer, idle, Server}
-use Rattle.idn_table.specs.of_protocol_models.CoeMeaning.{Service, download, upload, information, Reply, meaning_of}
-use Rattle.idn_table.specs.of_protocol_models.CoeModel.{coe_exchange}
+use Rattle.eoe_server.specs.of_protocol_models.CoeMails.{CoeMail}
+use Rattle.eoe_server.specs.of_protocol_models.Tables.{Tables}
+use Rattle.eoe_server.specs.of_protocol_models.CoeServer.{Transfer, idle, Server}
+use Rattle.eoe_server.specs.of_protocol_models.CoeMeaning.{Service, download, upload, information, Reply, meaning_of}
+use Rattle.eoe_server.specs.of_protocol_models.CoeModel.{coe_exchange}
 
 -- the transfer that a service leaves
 abbrev pub transfer_behind : Transfer → Service → Transfer

@@ -1,14 +1,14 @@
 -- EoE services from whatever server: a packet ends the unfinished one, the services of addresses leave it.
 use Rattle.std.specs.Prelude.{ℕ, suc, Option, None}
-use Rattle.eoe.specs.declared.joining.Unfinished.{Unfinished}
-use Rattle.exchange_model.specs.Areas.{Areas}
-use Rattle.exchange_model.specs.Exchange.{Exchange}
+use Rattle.eoe_server.specs.of_eoe.declared.joining.Unfinished.{Unfinished}
+use Rattle.idn_table.specs.of_exchange_model.Areas.{Areas}
+use Rattle.idn_table.specs.of_exchange_model.Exchange.{Exchange}
 use Rattle.slave_parts.specs.Whole.{whole_server}
-use Rattle.idn_table.specs.of_protocol_models.EoeMails.{EoeMail}
-use Rattle.idn_table.specs.of_protocol_models.Network.{Network, Station, is_ready}
-use Rattle.idn_table.specs.of_protocol_models.EoeServer.{Server}
-use Rattle.idn_table.specs.of_protocol_models.EoeClient.{Service, packet, set_ip, get_ip, Reply, meaning_of}
-use Rattle.idn_table.specs.of_protocol_models.EoeModel.{eoe_exchange}
+use Rattle.eoe_server.specs.of_protocol_models.EoeMails.{EoeMail}
+use Rattle.eoe_server.specs.of_protocol_models.Network.{Network, Station, is_ready}
+use Rattle.eoe_server.specs.of_protocol_models.EoeServer.{Server}
+use Rattle.eoe_server.specs.of_protocol_models.EoeClient.{Service, packet, set_ip, get_ip, Reply, meaning_of}
+use Rattle.eoe_server.specs.of_protocol_models.EoeModel.{eoe_exchange}
 
 -- what is unfinished behind a service
 abbrev pub unfinished_behind : Option Unfinished → Service → Option Unfinished

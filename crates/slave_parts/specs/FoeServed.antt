@@ -1,13 +1,13 @@
 -- FoE services from whatever server: each ends the transfer that stood, and leaves none.
 use Rattle.std.specs.Prelude.{◌≡◌, ℕ, suc, ◌&&◌, Bool, true, List, length}
-use Rattle.exchange_model.specs.Areas.{Areas}
-use Rattle.exchange_model.specs.Exchange.{Exchange}
+use Rattle.idn_table.specs.of_exchange_model.Areas.{Areas}
+use Rattle.idn_table.specs.of_exchange_model.Exchange.{Exchange}
 use Rattle.slave_parts.specs.Whole.{whole_server}
-use Rattle.idn_table.specs.of_protocol_models.FoeMails.{FoeMail}
-use Rattle.idn_table.specs.of_protocol_models.Files.{Files}
-use Rattle.idn_table.specs.of_protocol_models.FoeServer.{Transfer, idle, reading, writing, closing, Server}
-use Rattle.idn_table.specs.of_protocol_models.FoeMeaning.{Service, Reply, meaning_of}
-use Rattle.idn_table.specs.of_protocol_models.FoeModel.{foe_exchange}
+use Rattle.eoe_server.specs.of_protocol_models.FoeMails.{FoeMail}
+use Rattle.eoe_server.specs.of_protocol_models.Files.{Files}
+use Rattle.eoe_server.specs.of_protocol_models.FoeServer.{Transfer, idle, reading, writing, closing, Server}
+use Rattle.eoe_server.specs.of_protocol_models.FoeMeaning.{Service, Reply, meaning_of}
+use Rattle.eoe_server.specs.of_protocol_models.FoeModel.{foe_exchange}
 
 -- a new version that is whole, and is kept back while the file is busy, has room
 abbrev pub has_its_room : {S : Type 0} → Files S → S → Transfer → Bool

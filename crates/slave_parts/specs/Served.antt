@@ -1,21 +1,21 @@
 -- THE SERVICES OF ONE SLAVE FROM WHATEVER SERVER: its protocols over the whole server, with the unfinished transfers of each.
 use Rattle.std.specs.Prelude.{◌≡◌, ℕ, ◌&&◌, Bool, true, length, List, []}
-use Rattle.link_mails.specs.Body.{Body}
-use Rattle.exchange_model.specs.Exchange.{Exchange}
-use Rattle.exchange_model.specs.Lifted.{lifted}
-use Rattle.exchange_model.specs.Sides.{Slave}
-use Rattle.slave_model.specs.of_state_model.Families.{InState, in_states}
+use Rattle.slave_model.specs.of_link_mails.Body.{Body}
+use Rattle.idn_table.specs.of_exchange_model.Exchange.{Exchange}
+use Rattle.idn_table.specs.of_exchange_model.Lifted.{lifted}
+use Rattle.idn_table.specs.of_exchange_model.Sides.{Slave}
+use Rattle.serving_model.specs.of_state_model.Families.{InState, in_states}
 use Rattle.slave_parts.specs.Whole.{gated_whole}
 use Rattle.slave_parts.specs.Sides.{joined_whole}
-use Rattle.idn_table.specs.of_protocol_models.CoeMails as CoeMails
-use Rattle.idn_table.specs.of_protocol_models.CoeOctets as CoeOctets
-use Rattle.idn_table.specs.of_protocol_models.FoeMails as FoeMails
-use Rattle.idn_table.specs.of_protocol_models.FoeOctets as FoeOctets
-use Rattle.idn_table.specs.of_protocol_models.SoeMails as SoeMails
-use Rattle.idn_table.specs.of_protocol_models.SoeOctets as SoeOctets
-use Rattle.idn_table.specs.of_protocol_models.EoeMails as EoeMails
-use Rattle.idn_table.specs.of_protocol_models.EoeOctets as EoeOctets
-use Rattle.idn_table.specs.of_protocol_models.Network.{Station}
+use Rattle.eoe_server.specs.of_protocol_models.CoeMails as CoeMails
+use Rattle.eoe_server.specs.of_protocol_models.CoeOctets as CoeOctets
+use Rattle.eoe_server.specs.of_protocol_models.FoeMails as FoeMails
+use Rattle.eoe_server.specs.of_protocol_models.FoeOctets as FoeOctets
+use Rattle.eoe_server.specs.of_protocol_models.SoeMails as SoeMails
+use Rattle.eoe_server.specs.of_protocol_models.SoeOctets as SoeOctets
+use Rattle.eoe_server.specs.of_protocol_models.EoeMails as EoeMails
+use Rattle.eoe_server.specs.of_protocol_models.EoeOctets as EoeOctets
+use Rattle.eoe_server.specs.of_protocol_models.Network.{Station}
 use Rattle.slave_parts.specs.CoeServed.{coe_served}
 use Rattle.slave_parts.specs.FoeServed.{foe_served, has_its_room}
 use Rattle.slave_parts.specs.SoeServed.{soe_served}

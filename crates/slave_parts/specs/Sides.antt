@@ -1,8 +1,8 @@
 -- Several protocols of one slave as one exchange over the whole slave: a service leaves what its protocol makes of its own part, and the rest.
 use Rattle.std.specs.Prelude.{◌≡◌, Bool, true}
-use Rattle.exchange_model.specs.Exchange.{Exchange, given}
-use Rattle.exchange_model.specs.Lifted.{EachOf}
-use Rattle.exchange_model.specs.Sides.{Slave, joined_speech}
+use Rattle.idn_table.specs.of_exchange_model.Exchange.{Exchange, given}
+use Rattle.idn_table.specs.of_exchange_model.Lifted.{EachOf}
+use Rattle.idn_table.specs.of_exchange_model.Sides.{Slave, joined_speech}
 
 -- One protocol of the slave, over its whole server. seat: what the protocol sees of the slave; reseat: the slave with what the protocol left;
 -- core: what is seen of the protocol's server in the middle of a service

@@ -1,12 +1,12 @@
 -- SoE services from whatever server: a write that meets an unfinished join of its drive and elements writes the join's octets followed by its own.
 use Rattle.std.specs.Prelude.{ℕ, suc, false, Option, None, List, [], ◌++◌, take}
-use Rattle.exchange_model.specs.Areas.{Areas}
-use Rattle.exchange_model.specs.Exchange.{Exchange}
-use Rattle.idn_table.specs.of_protocol_models.Elements.{Target, Elements}
-use Rattle.idn_table.specs.of_protocol_models.SoeMails.{SoeMail, message}
-use Rattle.idn_table.specs.of_protocol_models.SoeServer.{Join, Server, serve, ahead, most}
-use Rattle.idn_table.specs.of_protocol_models.SoeClient.{Service, read, write, mails_of, Reply, meaning_of}
-use Rattle.idn_table.specs.of_protocol_models.SoeModel.{soe_speech}
+use Rattle.idn_table.specs.of_exchange_model.Areas.{Areas}
+use Rattle.idn_table.specs.of_exchange_model.Exchange.{Exchange}
+use Rattle.eoe_server.specs.of_protocol_models.Elements.{Target, Elements}
+use Rattle.eoe_server.specs.of_protocol_models.SoeMails.{SoeMail, message}
+use Rattle.eoe_server.specs.of_protocol_models.SoeServer.{Join, Server, serve, ahead, most}
+use Rattle.eoe_server.specs.of_protocol_models.SoeClient.{Service, read, write, mails_of, Reply, meaning_of}
+use Rattle.eoe_server.specs.of_protocol_models.SoeModel.{soe_speech}
 
 -- the octets that an unfinished join puts ahead of a write
 abbrev pub ahead_of : Option Join → Target → List ℕ

@@ -1,8 +1,8 @@
 -- A protocol seen with its whole server: its application is the server with its unfinished transfers, and a service says what it leaves of them.
 use Rattle.std.specs.Prelude.{◌≡◌, suc, Bool, true, false, [], ◌∷◌, Some}
-use Rattle.exchange_model.specs.Prefix.{IsPrefixOf}
-use Rattle.exchange_model.specs.Exchange.{Exchange, after}
-use Rattle.exchange_model.specs.Refusing.{Refusal, refused_serve, IsAsked}
+use Rattle.idn_table.specs.of_exchange_model.Prefix.{IsPrefixOf}
+use Rattle.idn_table.specs.of_exchange_model.Exchange.{Exchange, after}
+use Rattle.idn_table.specs.of_exchange_model.Refusing.{Refusal, refused_serve, IsAsked}
 
 -- the same exchange over the whole server, of which a service makes what it is told to; ready: the servers of which the laws speak
 abbrev pub whole_server : {V A M Q R : Type 0} → Exchange V A M Q R → (V → Bool) → (V → Q → V) → Exchange V V M Q R

@@ -1,8 +1,8 @@
 //! CoE from whatever server. Definitions and laws, no running code.
 
 ghost use Rattle.std.specs.Prelude.{Bool};
-ghost use Rattle.exchange_model.specs.Areas.{Areas, AreMailboxes};
-ghost use Rattle.idn_table.specs.of_protocol_models.Tables.{Tables, AreLawful};
+ghost use Rattle.idn_table.specs.of_exchange_model.Areas.{Areas, AreMailboxes};
+ghost use Rattle.eoe_server.specs.of_protocol_models.Tables.{Tables, AreLawful};
 ghost use Rattle.serving_model.specs.Tagged.{IsServed};
 ghost use Rattle.slave_parts.specs.CoeServed.{coe_served, tables_of};
 

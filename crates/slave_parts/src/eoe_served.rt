@@ -1,7 +1,7 @@
 //! EoE from whatever server. Definitions and laws, no running code.
 
-ghost use Rattle.exchange_model.specs.Areas.{Areas, AreMailboxes};
-ghost use Rattle.idn_table.specs.of_protocol_models.Network.{Network, IsSound};
+ghost use Rattle.idn_table.specs.of_exchange_model.Areas.{Areas, AreMailboxes};
+ghost use Rattle.eoe_server.specs.of_protocol_models.Network.{Network, IsSound};
 ghost use Rattle.serving_model.specs.Tagged.{IsServed};
 ghost use Rattle.slave_parts.specs.EoeServed.{eoe_served, station_of};
 

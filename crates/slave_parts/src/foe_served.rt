@@ -1,7 +1,7 @@
 //! FoE from whatever server. Definitions and laws, no running code.
 
-ghost use Rattle.exchange_model.specs.Areas.{Areas, AreMailboxes};
-ghost use Rattle.idn_table.specs.of_protocol_models.Files.{Files, AreLawful};
+ghost use Rattle.idn_table.specs.of_exchange_model.Areas.{Areas, AreMailboxes};
+ghost use Rattle.eoe_server.specs.of_protocol_models.Files.{Files, AreLawful};
 ghost use Rattle.serving_model.specs.Tagged.{IsServed};
 ghost use Rattle.slave_parts.specs.FoeServed.{foe_served, files_of, StaysValid};
 

@@ -11,13 +11,17 @@ pub mod slave_served;
 pub mod soe_served;
 
 ghost use Rattle.idn_table.specs.of_exchange_model.Exchange.{IsLawful};
-ghost use Rattle.slave_model.specs.of_state_model.Stated.{IsStated};
-ghost use Rattle.slave_model.specs.of_state_model.Families.{states_of};
+ghost use Rattle.serving_model.specs.of_state_model.Stated.{IsStated};
+ghost use Rattle.serving_model.specs.of_state_model.Families.{states_of};
 ghost use Rattle.slave_model.specs.Profile.{Profile, IsProfile};
 ghost use Rattle.slave_model.specs.Application.{ArePartsLawful};
 ghost use Rattle.slave_model.specs.Acknowledged.{acknowledged};
 ghost use Rattle.slave_model.specs.Product.{product};
 ghost use Rattle.slave_parts.specs.Parts.{parts};
+
+pub use coe_server;
+pub use eoe_server;
+pub use foe_server;
 
 /// Dictionary, store and IDN table are such parts as the protocols of a slave stand on.
 pub fn parts_are_lawful()

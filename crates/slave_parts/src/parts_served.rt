@@ -2,7 +2,7 @@
 
 ghost use Rattle.serving_model.specs.Tagged.{IsServed};
 ghost use Rattle.serving_model.specs.TaggedStates.{IsStatedServed};
-ghost use Rattle.slave_model.specs.of_state_model.Families.{InState, states_of};
+ghost use Rattle.serving_model.specs.of_state_model.Families.{InState, states_of};
 ghost use Rattle.slave_model.specs.Acknowledged.{acknowledged};
 ghost use Rattle.slave_model.specs.Profile.{Profile, IsProfile};
 ghost use Rattle.slave_parts.specs.Parts.{Server, parts};

@@ -2,12 +2,12 @@
 //! other spellings of its mails, refused, beside others, and at each AL state. Definitions and laws, no running code.
 
 ghost use Rattle.std.specs.Prelude.{◌≡◌, ℕ, ◌≤◌, Bool, true};
-ghost use Rattle.exchange_model.specs.Exchange.{Exchange, IsLawful};
-ghost use Rattle.exchange_model.specs.Lifted.{Spells, lifted};
-ghost use Rattle.exchange_model.specs.Refusing.{Refusal};
-ghost use Rattle.exchange_model.specs.Sides.{Slave};
+ghost use Rattle.idn_table.specs.of_exchange_model.Exchange.{Exchange, IsLawful};
+ghost use Rattle.idn_table.specs.of_exchange_model.Lifted.{Spells, lifted};
+ghost use Rattle.idn_table.specs.of_exchange_model.Refusing.{Refusal};
+ghost use Rattle.idn_table.specs.of_exchange_model.Sides.{Slave};
 ghost use Rattle.serving_model.specs.Tagged.{IsServed};
-ghost use Rattle.slave_model.specs.of_state_model.Families.{InState, AreOneClient, in_states};
+ghost use Rattle.serving_model.specs.of_state_model.Families.{InState, AreOneClient, in_states};
 ghost use Rattle.slave_parts.specs.Whole.{whole_server, IsWhole, gated_whole, IsRefusedWhole};
 ghost use Rattle.slave_parts.specs.Sides.{IsWholeSide, joined_whole};
 

@@ -9,7 +9,7 @@ ghost use Rattle.slave_model.specs.Product.{product};
 ghost use Rattle.slave_model.specs.Profile.{Profile, IsProfile};
 ghost use Rattle.slave_model.specs.Server.{Server};
 ghost use Rattle.slave_parts.specs.Served.{product_whole, AreFilesServed};
-ghost use Rattle.slave_model.specs.of_state_model.Families.{InState, states_of};
+ghost use Rattle.serving_model.specs.of_state_model.Families.{InState, states_of};
 ghost use Rattle.std.specs.Prelude.{◌≡◌};
 
 /// The one exchange of a session owes the laws of its services from whatever server: a mail of another sender may have left unfinished transfers

@@ -3,10 +3,10 @@ use Rattle.std.proofs.Common.{◌≡◌, ℕ, ◌+◌, ◌-◌, ◌<◌, ◌≤�
 use Rattle.std.specs.Prelude.{if◌then◌else◌}
 use Rattle.std.proofs.lemmas.List.{drop_more}
 use Rattle.std.proofs.lemmas.List.Sums.{sum_by_push, sum_by-cons}
-use Rattle.file_store.specs.of_block_pool.Region.{blocks_for}
-use Rattle.file_store.specs.declared.file.FileSpec.{FileSpec}
-use Rattle.file_store.specs.Files as Store
-use Rattle.file_store.specs.Stored.{Stored, free_now}
+use Rattle.segment_plan.specs.of_block_pool.Region.{blocks_for}
+use Rattle.segment_plan.specs.of_file_store.declared.file.FileSpec.{FileSpec}
+use Rattle.segment_plan.specs.of_file_store.Files as Store
+use Rattle.segment_plan.specs.of_file_store.Stored.{Stored, free_now}
 use Rattle.segment_plan.specs.Sound as Plan
 use Rattle.slave_server.specs.Spec.{with_file, with_files}
 

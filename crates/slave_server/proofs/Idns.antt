@@ -1,8 +1,8 @@
 -- The IDNs of a slave taken one by one.
 use Rattle.std.proofs.Common.{◌≡◌, ℕ, ◌+◌, ◌<◌, List, [], ◌∷◌, length, drop, get_or, subst, ap, sym, ◌∙◌}
 use Rattle.std.proofs.lemmas.List.{drop_more}
-use Rattle.idn_table.specs.Idns as Table
-use Rattle.idn_table.specs.declared.spec.IdnSpec.{IdnSpec}
+use Rattle.soe_server.specs.of_idn_table.Idns as Table
+use Rattle.soe_server.specs.of_idn_table.declared.spec.IdnSpec.{IdnSpec}
 use Rattle.slave_server.specs.Spec.{with_idn, with_idns}
 
 -- where a loop is that takes IDNs: i of them were looked at

@@ -1,16 +1,16 @@
 -- The next mail is the first of those that wait.
 use Rattle.std.proofs.Common.{◌≡◌, ℕ, true, false, List, [], ◌∷◌, ◌++◌, map, Some, refl, sym, ap, ◌∙◌}
 use Rattle.std.specs.Prelude.{is_some}
-use Rattle.mailbox_mail.specs.declared.mail.Mail.{Mail}
-use Rattle.coe_server.specs.of_protocol_models.CoeOctets as CoeOctets
-use Rattle.foe_server.specs.of_protocol_models.FoeOctets as FoeOctets
-use Rattle.idn_table.specs.of_protocol_models.SoeOctets as SoeOctets
-use Rattle.eoe_server.specs.of_protocol_models.EoeOctets as EoeOctets
-use Rattle.coe_server.specs.Serving as Coe
-use Rattle.foe_server.specs.Serving as Foe
-use Rattle.foe_server.specs.declared.state.Pending.{Pending}
+use Rattle.slave_node.specs.of_mailbox_mail.declared.mail.Mail.{Mail}
+use Rattle.soe_server.specs.of_protocol_models.CoeOctets as CoeOctets
+use Rattle.soe_server.specs.of_protocol_models.FoeOctets as FoeOctets
+use Rattle.soe_server.specs.of_protocol_models.SoeOctets as SoeOctets
+use Rattle.soe_server.specs.of_protocol_models.EoeOctets as EoeOctets
+use Rattle.slave_parts.specs.of_coe_server.Serving as Coe
+use Rattle.slave_parts.specs.of_foe_server.Serving as Foe
+use Rattle.slave_parts.specs.of_foe_server.declared.state.Pending.{Pending}
 use Rattle.soe_server.specs.Serving as Soe
-use Rattle.eoe_server.specs.Serving as Eoe
+use Rattle.slave_parts.specs.of_eoe_server.Serving as Eoe
 use Rattle.slave_server.proofs.Takes.{idle_of, map_none}
 use Rattle.slave_server.specs.Serving.{Serving, Inside, view_of, server_in, waiting_of, failures, coe_mails, foe_mails, soe_mails, eoe_mails, next_mail, rest, first_of, behind_first}
 

@@ -4,9 +4,9 @@ use Rattle.std.specs.List.{list_all}
 use Rattle.std.proofs.lemmas.List.Elements.{All-nil, All-cons, All-head, All-tail, All-weaker}
 use Rattle.std.proofs.lemmas.List.{drop_more}
 use Rattle.std.proofs.lemmas.Grind.{common_steps}
-use Rattle.object_dictionary.specs.declared.object.Object.{Object}
-use Rattle.object_dictionary.specs.Dictionary.{Table, object_of}
-use Rattle.object_dictionary.specs.Sound.{placed, is_rising, own_table}
+use Rattle.segment_plan.specs.of_object_dictionary.declared.object.Object.{Object}
+use Rattle.segment_plan.specs.of_object_dictionary.Dictionary.{Table, object_of}
+use Rattle.segment_plan.specs.of_object_dictionary.Sound.{placed, is_rising, own_table}
 use Rattle.segment_plan.specs.declared.slave.ObjectSpec.{ObjectSpec}
 use Rattle.segment_plan.specs.Sound.{kept, IsObject, indexes}
 use Rattle.slave_server.specs.Spec.{with_objects}

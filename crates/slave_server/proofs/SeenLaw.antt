@@ -1,22 +1,22 @@
 -- Each step of a slave's server is the exchange's.
 use Rattle.std.proofs.Common.{◌≡◌, ℕ, Bool, true, false, List, [], ◌∷◌, ◌++◌, map, drop, Option, Some, None, Ok, Err, refl, ap, ◌∙◌}
 use Rattle.std.specs.Prelude.{if◌then◌else◌, option_map}
-use Rattle.mailbox_mail.specs.declared.mail.Mail.{Mail}
-use Rattle.mailbox_mail.specs.declared.mail.Kind.{Kind}
-use Rattle.mailbox_mail.specs.declared.mail.MailFault.TheVariants.{Short, LengthPastArea, UnknownKind}
+use Rattle.slave_node.specs.of_mailbox_mail.declared.mail.Mail.{Mail}
+use Rattle.slave_node.specs.of_mailbox_mail.declared.mail.Kind.{Kind}
+use Rattle.slave_node.specs.of_mailbox_mail.declared.mail.MailFault.TheVariants.{Short, LengthPastArea, UnknownKind}
 use Rattle.slave_node.specs.of_link_mails.Body.{Body, uncounted}
-use Rattle.slave_parts.specs.of_exchange_model.Refusing.{gated}
-use Rattle.object_dictionary.specs.Dictionary as Objects
-use Rattle.file_store.specs.Files as Store
-use Rattle.idn_table.specs.Idns as Idns
-use Rattle.coe_server.specs.of_protocol_models.CoeMails as CoeMails
-use Rattle.coe_server.specs.of_protocol_models.CoeOctets as CoeOctets
-use Rattle.foe_server.specs.of_protocol_models.FoeMails as FoeMails
-use Rattle.foe_server.specs.of_protocol_models.FoeOctets as FoeOctets
-use Rattle.idn_table.specs.of_protocol_models.SoeMails as SoeMails
-use Rattle.idn_table.specs.of_protocol_models.SoeOctets as SoeOctets
-use Rattle.eoe_server.specs.of_protocol_models.EoeMails as EoeMails
-use Rattle.eoe_server.specs.of_protocol_models.EoeOctets as EoeOctets
+use Rattle.soe_server.specs.of_exchange_model.Refusing.{gated}
+use Rattle.segment_plan.specs.of_object_dictionary.Dictionary as Objects
+use Rattle.segment_plan.specs.of_file_store.Files as Store
+use Rattle.soe_server.specs.of_idn_table.Idns as Idns
+use Rattle.soe_server.specs.of_protocol_models.CoeMails as CoeMails
+use Rattle.soe_server.specs.of_protocol_models.CoeOctets as CoeOctets
+use Rattle.soe_server.specs.of_protocol_models.FoeMails as FoeMails
+use Rattle.soe_server.specs.of_protocol_models.FoeOctets as FoeOctets
+use Rattle.soe_server.specs.of_protocol_models.SoeMails as SoeMails
+use Rattle.soe_server.specs.of_protocol_models.SoeOctets as SoeOctets
+use Rattle.soe_server.specs.of_protocol_models.EoeMails as EoeMails
+use Rattle.soe_server.specs.of_protocol_models.EoeOctets as EoeOctets
 use Rattle.slave_parts.specs.of_segment_model.Slaves.{first_waiting}
 use Rattle.slave_parts.specs.of_slave_model.Profile.{Protocol, Profile, serves}
 use Rattle.slave_parts.specs.of_slave_model.Server.{Seat, seat, failure, heard_by, told_by, refused_gives, soe_quiet, eoe_quiet}

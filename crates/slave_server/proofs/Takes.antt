@@ -1,39 +1,39 @@
 -- A call of a protocol's server is the exchange's own step, seen from the mailboxes.
 use Rattle.std.proofs.Common.{◌≡◌, ℕ, ◌+◌, ◌-◌, ◌*◌, ◌/◌, ◌%◌, ◌≢◌, not, Bool, true, false, List, [], ◌∷◌, ◌++◌, map, Option, Some, Ok, refl, sym, ap, ◌∙◌, append-nil, arith}
 use mir.Val.{bool_byte}
-use Rattle.mailbox_mail.specs.declared.mail.Mail.{Mail}
-use Rattle.mailbox_mail.specs.declared.mail.Kind.{Kind}
+use Rattle.slave_node.specs.of_mailbox_mail.declared.mail.Mail.{Mail}
+use Rattle.slave_node.specs.of_mailbox_mail.declared.mail.Kind.{Kind}
 use Rattle.slave_node.specs.of_link_mails.Body.{Body, uncounted}
-use Rattle.idn_table.specs.of_exchange_model.Exchange.{Exchange}
-use Rattle.slave_parts.specs.of_exchange_model.Refusing.{gated}
-use Rattle.object_dictionary.specs.Dictionary as Objects
-use Rattle.file_store.specs.Files as Store
-use Rattle.file_store.specs.Stored.{Stored}
-use Rattle.idn_table.specs.Idns as Idns
-use Rattle.idn_table.specs.Idns.{idn_elements}
-use Rattle.coe_server.specs.of_protocol_models.CoeMails as CoeMails
-use Rattle.coe_server.specs.of_protocol_models.CoeOctets as CoeOctets
-use Rattle.coe_server.specs.of_protocol_models.CoeServer as CoeServer
-use Rattle.foe_server.specs.of_protocol_models.FoeOctets as FoeOctets
-use Rattle.foe_server.specs.of_protocol_models.FoeServer as FoeServer
-use Rattle.idn_table.specs.of_protocol_models.SoeOctets as SoeOctets
-use Rattle.idn_table.specs.of_protocol_models.SoeServer as SoeServer
-use Rattle.eoe_server.specs.of_protocol_models.EoeOctets as EoeOctets
-use Rattle.eoe_server.specs.of_protocol_models.EoeServer as EoeServer
-use Rattle.eoe_server.specs.of_protocol_models.Network.{Station}
-use Rattle.eoe.specs.Message.{eoe_read, eoe_text}
-use Rattle.eoe.specs.declared.message.Eoe.TheVariants.{Fragment as Part}
-use Rattle.eoe.specs.declared.message.Fragment.{Fragment}
-use Rattle.eoe.specs.Cutting.{Cutting, fragments_of}
-use Rattle.eoe_server.specs.of_protocol_models.EoeMails as EoeMails
-use Rattle.coe_server.specs.declared.state.Emitted.{Emitted}
-use Rattle.coe_server.specs.ObjectTables.{object_tables}
-use Rattle.coe_server.specs.Serving as Coe
-use Rattle.foe_server.specs.Serving as Foe
-use Rattle.foe_server.specs.Stores.{store_files}
+use Rattle.soe_server.specs.of_exchange_model.Exchange.{Exchange}
+use Rattle.soe_server.specs.of_exchange_model.Refusing.{gated}
+use Rattle.segment_plan.specs.of_object_dictionary.Dictionary as Objects
+use Rattle.segment_plan.specs.of_file_store.Files as Store
+use Rattle.segment_plan.specs.of_file_store.Stored.{Stored}
+use Rattle.soe_server.specs.of_idn_table.Idns as Idns
+use Rattle.soe_server.specs.of_idn_table.Idns.{idn_elements}
+use Rattle.soe_server.specs.of_protocol_models.CoeMails as CoeMails
+use Rattle.soe_server.specs.of_protocol_models.CoeOctets as CoeOctets
+use Rattle.soe_server.specs.of_protocol_models.CoeServer as CoeServer
+use Rattle.soe_server.specs.of_protocol_models.FoeOctets as FoeOctets
+use Rattle.soe_server.specs.of_protocol_models.FoeServer as FoeServer
+use Rattle.soe_server.specs.of_protocol_models.SoeOctets as SoeOctets
+use Rattle.soe_server.specs.of_protocol_models.SoeServer as SoeServer
+use Rattle.soe_server.specs.of_protocol_models.EoeOctets as EoeOctets
+use Rattle.soe_server.specs.of_protocol_models.EoeServer as EoeServer
+use Rattle.soe_server.specs.of_protocol_models.Network.{Station}
+use Rattle.segment_plan.specs.of_eoe.Message.{eoe_read, eoe_text}
+use Rattle.segment_plan.specs.of_eoe.declared.message.Eoe.TheVariants.{Fragment as Part}
+use Rattle.segment_plan.specs.of_eoe.declared.message.Fragment.{Fragment}
+use Rattle.segment_plan.specs.of_eoe.Cutting.{Cutting, fragments_of}
+use Rattle.soe_server.specs.of_protocol_models.EoeMails as EoeMails
+use Rattle.slave_parts.specs.of_coe_server.declared.state.Emitted.{Emitted}
+use Rattle.slave_parts.specs.of_coe_server.ObjectTables.{object_tables}
+use Rattle.slave_parts.specs.of_coe_server.Serving as Coe
+use Rattle.slave_parts.specs.of_foe_server.Serving as Foe
+use Rattle.slave_parts.specs.of_foe_server.Stores.{store_files}
 use Rattle.soe_server.specs.Serving as Soe
-use Rattle.eoe_server.specs.Serving as Eoe
-use Rattle.eoe_server.specs.declared.Addresses.{Addresses}
+use Rattle.slave_parts.specs.of_eoe_server.Serving as Eoe
+use Rattle.slave_parts.specs.of_eoe_server.declared.Addresses.{Addresses}
 use Rattle.slave_parts.specs.of_slave_model.Profile.{Protocol, serves}
 use Rattle.slave_parts.specs.of_slave_model.Application.{Core, station_files, station_elements, station_tables, network, fragment_bodies}
 use Rattle.slave_parts.specs.of_slave_model.Server.{Seat, ServiceOf, Reply, seat, reseated, told_by}

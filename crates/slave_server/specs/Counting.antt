@@ -1,17 +1,17 @@
 -- A mail carries out one service at most.
 use Rattle.std.proofs.Common.{◌≤◌, ℕ, suc, Bool, true, false, Option, Some, None, Ok, Err, arith}
 use Rattle.std.specs.Prelude.{if◌then◌else◌}
-use Rattle.mailbox_mail.specs.declared.mail.Kind.{Kind}
-use Rattle.mailbox_mail.specs.declared.mail.MailFault.TheVariants.{Short, LengthPastArea, UnknownKind}
+use Rattle.slave_node.specs.of_mailbox_mail.declared.mail.Kind.{Kind}
+use Rattle.slave_node.specs.of_mailbox_mail.declared.mail.MailFault.TheVariants.{Short, LengthPastArea, UnknownKind}
 use Rattle.slave_node.specs.of_link_mails.Body.{Body}
-use Rattle.slave_parts.specs.of_exchange_model.Refusing.{gated}
-use Rattle.object_dictionary.specs.Dictionary as Objects
-use Rattle.file_store.specs.Files as Store
-use Rattle.idn_table.specs.Idns as Idns
-use Rattle.coe_server.specs.of_protocol_models.CoeServer as CoeServer
-use Rattle.foe_server.specs.of_protocol_models.FoeServer as FoeServer
-use Rattle.idn_table.specs.of_protocol_models.SoeServer as SoeServer
-use Rattle.eoe_server.specs.of_protocol_models.EoeServer as EoeServer
+use Rattle.soe_server.specs.of_exchange_model.Refusing.{gated}
+use Rattle.segment_plan.specs.of_object_dictionary.Dictionary as Objects
+use Rattle.segment_plan.specs.of_file_store.Files as Store
+use Rattle.soe_server.specs.of_idn_table.Idns as Idns
+use Rattle.soe_server.specs.of_protocol_models.CoeServer as CoeServer
+use Rattle.soe_server.specs.of_protocol_models.FoeServer as FoeServer
+use Rattle.soe_server.specs.of_protocol_models.SoeServer as SoeServer
+use Rattle.soe_server.specs.of_protocol_models.EoeServer as EoeServer
 use Rattle.slave_parts.specs.of_slave_model.Profile.{Protocol, Profile, serves}
 use Rattle.slave_parts.specs.of_slave_model.Server.{seat, reseated, one_more, refused_counts}
 use Rattle.slave_parts.specs.of_slave_model.Product.{protocol_of, served, refusal, serve_by, serve_other, serve}

@@ -1,6 +1,6 @@
 -- The slave's server as the exchange's own server behind its mailboxes.
 use Rattle.std.specs.Prelude.{◌≡◌, ℕ, map, option_map, Ok}
-use Rattle.mailbox_mail.specs.declared.mail.Mail.{Mail}
+use Rattle.slave_node.specs.of_mailbox_mail.declared.mail.Mail.{Mail}
 use Rattle.slave_node.specs.of_link_mails.Body.{Body, uncounted}
 use Rattle.slave_parts.specs.of_segment_model.Slaves as Slaves
 use Rattle.slave_parts.specs.of_segment_model.Slaves.{serving}

@@ -1,27 +1,27 @@
 -- What a slave's server stands for: the server of the exchange, and the mails that wait to be offered.
 use Rattle.std.specs.Prelude.{◌≡◌, ◌≤◌, ℕ, suc, Bool, true, List, [], ◌∷◌, ◌++◌, map, Option, Some, None, Ok, Err}
-use Rattle.mailbox_mail.specs.Mail.{error_of}
-use Rattle.mailbox_mail.specs.declared.mail.Mail.{Mail}
+use Rattle.slave_node.specs.of_mailbox_mail.Mail.{error_of}
+use Rattle.slave_node.specs.of_mailbox_mail.declared.mail.Mail.{Mail}
 use Rattle.slave_node.specs.of_link_mails.Body.{Body}
-use Rattle.object_dictionary.specs.Dictionary as Objects
-use Rattle.file_store.specs.Stored.{Stored}
-use Rattle.idn_table.specs.Idns as Idns
-use Rattle.coe_server.specs.of_protocol_models.CoeOctets as CoeOctets
-use Rattle.foe_server.specs.of_protocol_models.FoeOctets as FoeOctets
-use Rattle.idn_table.specs.of_protocol_models.SoeOctets as SoeOctets
-use Rattle.eoe_server.specs.of_protocol_models.EoeOctets as EoeOctets
-use Rattle.coe_server.specs.Serving as Coe
-use Rattle.foe_server.specs.Serving as Foe
+use Rattle.segment_plan.specs.of_object_dictionary.Dictionary as Objects
+use Rattle.segment_plan.specs.of_file_store.Stored.{Stored}
+use Rattle.soe_server.specs.of_idn_table.Idns as Idns
+use Rattle.soe_server.specs.of_protocol_models.CoeOctets as CoeOctets
+use Rattle.soe_server.specs.of_protocol_models.FoeOctets as FoeOctets
+use Rattle.soe_server.specs.of_protocol_models.SoeOctets as SoeOctets
+use Rattle.soe_server.specs.of_protocol_models.EoeOctets as EoeOctets
+use Rattle.slave_parts.specs.of_coe_server.Serving as Coe
+use Rattle.slave_parts.specs.of_foe_server.Serving as Foe
 use Rattle.soe_server.specs.Serving as Soe
-use Rattle.eoe_server.specs.Serving as Eoe
-use Rattle.eoe_server.specs.declared.Addresses.{Addresses}
+use Rattle.slave_parts.specs.of_eoe_server.Serving as Eoe
+use Rattle.slave_parts.specs.of_eoe_server.declared.Addresses.{Addresses}
 use Rattle.slave_parts.specs.of_slave_model.Profile.{Profile}
 use Rattle.slave_parts.specs.of_slave_model.Server.{soe_quiet, eoe_quiet, eoe_counts}
 use Rattle.slave_parts.specs.of_slave_model.Product.{serve}
-use Rattle.eoe.specs.Message.{eoe_read}
+use Rattle.segment_plan.specs.of_eoe.Message.{eoe_read}
 use Rattle.slave_parts.specs.Parts.{Core, Server, parts}
-use Rattle.coe_server.specs.of_protocol_models.CoeServer as CoeModel
-use Rattle.foe_server.specs.of_protocol_models.FoeServer as FoeModel
+use Rattle.soe_server.specs.of_protocol_models.CoeServer as CoeModel
+use Rattle.soe_server.specs.of_protocol_models.FoeServer as FoeModel
 
 -- a slave's server as its mailboxes see it
 pub record Serving : Type 0 where

@@ -1,13 +1,13 @@
 -- A slave of a plan as it is switched on.
 use Rattle.std.specs.Prelude.{ℕ, List, [], ◌∷◌, ◌++◌, replicate, is_some, if◌then◌else◌}
-use Rattle.object_dictionary.specs.Dictionary as Objects
-use Rattle.object_dictionary.specs.Sound.{placed, own_table}
-use Rattle.file_store.specs.Files.{Kept, file_of}
-use Rattle.file_store.specs.declared.file.FileSpec.{FileSpec}
-use Rattle.idn_table.specs.Idns as Idns
-use Rattle.eoe_server.specs.declared.Addresses.{Addresses}
+use Rattle.segment_plan.specs.of_object_dictionary.Dictionary as Objects
+use Rattle.segment_plan.specs.of_object_dictionary.Sound.{placed, own_table}
+use Rattle.segment_plan.specs.of_file_store.Files.{Kept, file_of}
+use Rattle.segment_plan.specs.of_file_store.declared.file.FileSpec.{FileSpec}
+use Rattle.soe_server.specs.of_idn_table.Idns as Idns
+use Rattle.slave_parts.specs.of_eoe_server.declared.Addresses.{Addresses}
 use Rattle.segment_plan.specs.declared.slave.ObjectSpec.{ObjectSpec}
-use Rattle.idn_table.specs.declared.spec.IdnSpec.{IdnSpec}
+use Rattle.soe_server.specs.of_idn_table.declared.spec.IdnSpec.{IdnSpec}
 use Rattle.segment_plan.specs.declared.slave.SlaveSpec.{SlaveSpec}
 use Rattle.segment_plan.specs.Sound.{kept}
 use Rattle.slave_parts.specs.of_slave_model.Profile.{Profile}

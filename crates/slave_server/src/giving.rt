@@ -1,11 +1,11 @@
 ghost use Rattle.std.specs.Prelude.{◌≡◌, ◌≢◌, ◌≤◌, ◌+◌, true, [], Some, is_some, IsSome, length};
-ghost use Rattle.eoe_server.specs.Serving.{waiting_mails, is_roomy, GivesNext};
-ghost use Rattle.mailbox_mail.specs.Mail.{error_of};
+ghost use Rattle.slave_parts.specs.of_eoe_server.Serving.{waiting_mails, is_roomy, GivesNext};
+ghost use Rattle.slave_node.specs.of_mailbox_mail.Mail.{error_of};
 ghost use Rattle.slave_server.specs.Serving.{next_mail, rest};
 
 use crate::server::SlaveServer;
-use eoe_server::{Addresses, EoeServer};
-use mailbox_mail::{Mail, error_mail};
+use slave_parts::eoe_server::{Addresses, EoeServer};
+use soe_server::mailbox_mail::{Mail, error_mail};
 
 impl SlaveServer {
     /// Whether a mail waits.

@@ -1,17 +1,17 @@
 ghost use Rattle.std.specs.Prelude.{◌≡◌, ◌<◌, ◌+◌, ◌%◌, [], true, Ok};
-ghost use Rattle.coe_server.specs.declared.state.Emitted.{Emitted};
-ghost use Rattle.eoe_server.specs.of_protocol_models.EoeMails.{packet_mails};
-ghost use Rattle.eoe_server.specs.Serving.{cut_mails};
+ghost use Rattle.slave_parts.specs.of_coe_server.declared.state.Emitted.{Emitted};
+ghost use Rattle.soe_server.specs.of_protocol_models.EoeMails.{packet_mails};
+ghost use Rattle.slave_parts.specs.of_eoe_server.Serving.{cut_mails};
 ghost use Rattle.slave_node.specs.of_link_mails.Body.{link_read, uncounted};
 ghost use Rattle.slave_parts.specs.of_slave_model.Profile.{Protocol, serves};
 ghost use Rattle.slave_server.specs.Serving.{takes, failed, counted};
 
 use crate::quiet::{is_last_ether, is_quiet_drive, is_quiet_ether};
 use crate::server::SlaveServer;
-use coe_server::CoeServer;
-use eoe::Packet;
-use eoe_server::EoeServer;
-use mailbox_mail::{Kind, Mail, MailFault};
+use segment_plan::eoe::Packet;
+use slave_parts::coe_server::CoeServer;
+use slave_parts::eoe_server::EoeServer;
+use soe_server::mailbox_mail::{Kind, Mail, MailFault};
 
 /// The AL state in which files alone are served.
 const BOOTSTRAP: u8 = 3;

@@ -1,7 +1,7 @@
 -- What the client makes of a mail is what the mail is to it.
 use Rattle.std.proofs.Common.{◌≡◌, ℕ, Bool, true, false, not, nat_lt, List, [], ◌∷◌, ◌++◌, length, if◌then◌else◌, None, refl, sym, ◌∙◌}
-use Rattle.ec_fields.specs.Fields.{number_at}
-use Rattle.mailbox_mail.specs.declared.outcome.ReplyKind.{ReplyKind}
+use Rattle.soe_parts.specs.of_ec_fields.Fields.{number_at}
+use Rattle.soe_parts.specs.of_mailbox_mail.declared.outcome.ReplyKind.{ReplyKind}
 use Rattle.soe_parts.specs.of_protocol_models.SoeMails.{Soe, SoeMail, mail, unread, failed, other}
 use Rattle.soe_parts.specs.of_protocol_models.SoeServer.{most}
 use Rattle.soe_parts.specs.of_protocol_models.SoeClient.{at_end, is_refusal, refused, is_part, is_written, read_ends, write_ends}

@@ -1,8 +1,8 @@
 -- What a client makes of one mail, state by state.
 use Rattle.std.specs.Prelude.{◌≡◌, ℕ, not, nat_lt, true, false, List, [], ◌∷◌, ◌++◌, length, if◌then◌else◌, None, Some}
-use Rattle.ec_fields.specs.Fields.{number_at}
-use Rattle.mailbox_mail.specs.declared.outcome.ReplyKind.{ReplyKind}
-use Rattle.mailbox_mail.specs.declared.outcome.Took.{Took}
+use Rattle.soe_parts.specs.of_ec_fields.Fields.{number_at}
+use Rattle.soe_parts.specs.of_mailbox_mail.declared.outcome.ReplyKind.{ReplyKind}
+use Rattle.soe_parts.specs.of_mailbox_mail.declared.outcome.Took.{Took}
 use Rattle.soe_parts.specs.of_protocol_models.SoeMails.{Soe, SoeMail, mail, failed}
 use Rattle.soe_parts.specs.of_protocol_models.SoeServer.{most}
 use Rattle.soe_parts.specs.of_protocol_models.SoeClient.{is_refusal, is_part, is_written}

@@ -1,6 +1,6 @@
 -- What a client's state stands for: the mails that it has left to send, and the reply that further mails complete.
 use Rattle.std.specs.Prelude.{◌≡◌, ℕ, nat_le, nat_lt, Bool, true, false, List, [], ◌∷◌, length, Option, None, Some}
-use Rattle.mailbox_mail.specs.declared.mail.Kind.TheVariants.{SoE}
+use Rattle.soe_parts.specs.of_mailbox_mail.declared.mail.Kind.TheVariants.{SoE}
 use Rattle.soe_parts.specs.of_protocol_models.Elements.{Target, target}
 use Rattle.soe_parts.specs.of_protocol_models.SoeMails.{SoeMail, mail, message}
 use Rattle.soe_parts.specs.of_protocol_models.SoeClient.{Reply, at_end, read_ends, write_ends}

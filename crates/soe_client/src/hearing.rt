@@ -1,5 +1,5 @@
 ghost use Rattle.std.specs.Prelude.{◌≡◌, ◌≤◌, ◌+◌, length};
-ghost use Rattle.soe_codec.specs.View.{soe_seen};
+ghost use Rattle.soe_parts.specs.of_soe_codec.View.{soe_seen};
 ghost use Rattle.soe_parts.specs.of_protocol_models.SoeClient.{is_answer, is_refusal};
 ghost use Rattle.soe_parts.specs.of_protocol_models.SoeOctets.{body_heard, soe_mail_heard};
 ghost use Rattle.soe_parts.specs.Parts.{subject_view};
@@ -8,10 +8,10 @@ ghost use Rattle.soe_client.specs.Hear.{closed, valued, hear_refusal, hear_part,
 
 use crate::client::SoeClient;
 use crate::state::{Awaits, Unsent};
-use ec_fields::u16_at;
-use mailbox_mail::{Kind, Mail, ReplyKind, Took};
-use soe_codec::{READ_ANSWER, SoeView, WRITE_ANSWER};
-use soe_parts::{MOST, Subject};
+use soe_parts::ec_fields::u16_at;
+use soe_parts::mailbox_mail::{Kind, Mail, ReplyKind, Took};
+use soe_parts::soe_codec::{READ_ANSWER, SoeView, WRITE_ANSWER};
+use soe_parts::{MOST, Subject, soe_codec};
 
 // Whether a message is an answer of this opcode about this subject.
 fn is_answer(opcode: u8, subject: Subject, message: SoeView<'_>) -> bool

@@ -7,3 +7,4 @@ mod sending;
 mod state;
 
 pub use client::SoeClient;
+pub use soe_parts::soe_codec;

@@ -1,6 +1,6 @@
 -- What a service is about, and the fragments of an element's octets from a place on.
 use Rattle.std.specs.Prelude.{◌≡◌, ℕ, suc, ◌-◌, Bool, List, [], ◌∷◌, length, drop, Option, None, Some}
-use Rattle.soe_codec.specs.Message.{soe_text}
+use Rattle.protocol_models.specs.of_soe_codec.Message.{soe_text}
 use Rattle.protocol_models.specs.Elements.{Target, target}
 use Rattle.protocol_models.specs.SoeMails.{Soe, SoeMail, mail, message, fragments}
 use Rattle.soe_parts.specs.declared.subject.Subject.{Subject}

@@ -1,12 +1,12 @@
 ghost use Rattle.std.specs.Prelude.{◌≡◌, ◌≤◌, ◌<◌, ◌+◌, ◌^◌, ◌∷◌, [], true, false, length, drop, Some, IfSome};
 ghost use Rattle.byteorder.specs.Endian.{little_bytes};
-ghost use Rattle.soe_codec.specs.Message.{IsSpellable, is_opcode, has_fragments, soe_text};
+ghost use Rattle.protocol_models.specs.of_soe_codec.Message.{IsSpellable, is_opcode, has_fragments, soe_text};
 ghost use Rattle.protocol_models.specs.SoeMails.{message, refusal};
 ghost use Rattle.soe_parts.specs.Parts.{subject_view, message_with, left_from, IsFirst};
 
 use crate::subject::Subject;
 use arrayvec::ArrayVec;
-use soe_codec::{SoeView, write_view};
+use protocol_models::soe_codec::{SoeView, write_view};
 
 /// The octets of a mail in front of an element's: its header, the message's word and its field.
 const HEADER: usize = 10;

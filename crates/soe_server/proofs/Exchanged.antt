@@ -1,10 +1,10 @@
 -- What a server's call did with a mail is the step of the exchange of mails.
 use Rattle.std.proofs.Common.{◌≡◌, ℕ, Bool, List, Option, ap, ◌∙◌, map}
-use Rattle.exchange_model.specs.Areas.{Areas}
-use Rattle.mailbox_mail.specs.declared.mail.Kind.TheVariants.{SoE}
-use Rattle.protocol_models.specs.Elements.{Elements}
-use Rattle.protocol_models.specs.SoeServer.{Join, Outcome, Server, soe_outcome, behind}
-use Rattle.protocol_models.specs.SoeOctets.{body_heard, soe_mail_written, mail_with, soe_mail_exchange}
+use Rattle.idn_table.specs.of_exchange_model.Areas.{Areas}
+use Rattle.idn_table.specs.of_mailbox_mail.declared.mail.Kind.TheVariants.{SoE}
+use Rattle.idn_table.specs.of_protocol_models.Elements.{Elements}
+use Rattle.idn_table.specs.of_protocol_models.SoeServer.{Join, Outcome, Server, soe_outcome, behind}
+use Rattle.idn_table.specs.of_protocol_models.SoeOctets.{body_heard, soe_mail_written, mail_with, soe_mail_exchange}
 use Rattle.soe_server.specs.Serving.{Serving, join_of, outcome_of, served_of}
 
 pub exchanged : {S : Type 0} (o : Elements S) (areas : Areas) (v : Server S) (old new : Serving) (app : S) (counts : Bool) (body : List ℕ) → v.join ≡ join_of old → areas.back ≡ old.room →

@@ -2,8 +2,8 @@
 use Rattle.std.proofs.Common.{◌≡◌, ℕ, ◌+◌, ◌-◌, ◌≤◌, true, false, List, [], ◌++◌, length, take, Option, None, Some, refl, sym, ap, ◌∙◌, arith, if◌then◌else◌}
 use Rattle.std.proofs.Math.Seq.{take-append-add}
 use Rattle.std.proofs.lemmas.List.{length-take}
-use Rattle.protocol_models.specs.SoeMails.{Soe}
-use Rattle.protocol_models.specs.SoeServer.{ahead}
+use Rattle.idn_table.specs.of_protocol_models.SoeMails.{Soe}
+use Rattle.idn_table.specs.of_protocol_models.SoeServer.{ahead}
 use Rattle.soe_server.specs.declared.state.Common.{Common}
 use Rattle.soe_server.specs.Serving.{join_view, goes_with}
 

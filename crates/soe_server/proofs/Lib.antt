@@ -1,2 +1,3 @@
+pub use Rattle.idn_table.proofs as of_idn_table
 pub mod Joins
 pub mod Exchanged

@@ -1,9 +1,9 @@
 -- What a server's state stands for: its join, and the mails that wait in it.
 use Rattle.std.specs.Prelude.{◌≡◌, ℕ, ◌==◌, ◌&&◌, ◌||◌, nat_le, nat_lt, Bool, true, false, List, [], ◌∷◌, map, length, Option, None, Some}
-use Rattle.mailbox_mail.specs.declared.mail.Mail.{Mail}
-use Rattle.protocol_models.specs.SoeMails.{Soe, SoeMail, mail, failed, message, refusal}
-use Rattle.protocol_models.specs.SoeServer.{Join, Outcome, Server, one_more}
-use Rattle.protocol_models.specs.SoeOctets.{soe_mail_written}
+use Rattle.idn_table.specs.of_mailbox_mail.declared.mail.Mail.{Mail}
+use Rattle.idn_table.specs.of_protocol_models.SoeMails.{Soe, SoeMail, mail, failed, message, refusal}
+use Rattle.idn_table.specs.of_protocol_models.SoeServer.{Join, Outcome, Server, one_more}
+use Rattle.idn_table.specs.of_protocol_models.SoeOctets.{soe_mail_written}
 use Rattle.soe_parts.specs.declared.subject.Subject.{Subject}
 use Rattle.soe_parts.specs.Parts.{subject_view, left_from}
 use Rattle.soe_server.specs.declared.state.Common.{Common}

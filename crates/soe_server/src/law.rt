@@ -1,9 +1,9 @@
 ghost use Rattle.std.specs.Prelude.{◌≡◌, ℕ, Bool, List};
-ghost use Rattle.exchange_model.specs.Areas.{Areas};
-ghost use Rattle.mailbox_mail.specs.declared.mail.Kind.TheVariants.{SoE};
-ghost use Rattle.protocol_models.specs.Elements.{Elements};
-ghost use Rattle.protocol_models.specs.SoeServer.{Server, soe_outcome};
-ghost use Rattle.protocol_models.specs.SoeOctets.{body_heard, mail_with, soe_mail_exchange};
+ghost use Rattle.idn_table.specs.of_exchange_model.Areas.{Areas};
+ghost use Rattle.idn_table.specs.of_mailbox_mail.declared.mail.Kind.TheVariants.{SoE};
+ghost use Rattle.idn_table.specs.of_protocol_models.Elements.{Elements};
+ghost use Rattle.idn_table.specs.of_protocol_models.SoeServer.{Server, soe_outcome};
+ghost use Rattle.idn_table.specs.of_protocol_models.SoeOctets.{body_heard, mail_with, soe_mail_exchange};
 ghost use Rattle.soe_server.specs.Serving.{Serving, join_of, outcome_of, served_of};
 
 /// What `take` did with a mail's body is the step of the exchange of mails: the same table, join and count, and the mails that `next` then

@@ -1,18 +1,18 @@
 ghost use Rattle.std.specs.Prelude.{◌≡◌, ◌≤◌, ◌<◌, ◌+◌, ◌^◌, ◌++◌, true, false, IsTrue, length, take, Err, None};
-ghost use Rattle.soe_codec.specs.Message.{IsSpellable, soe_read};
-ghost use Rattle.soe_codec.specs.View.{soe_seen};
-ghost use Rattle.protocol_models.specs.SoeServer.{ahead, gathered, asked, written, soe_takes, takes_whole, takes_unread, soe_outcome};
-ghost use Rattle.protocol_models.specs.SoeOctets.{body_heard, is_marked};
+ghost use Rattle.soe_parts.specs.of_soe_codec.Message.{IsSpellable, soe_read};
+ghost use Rattle.soe_parts.specs.of_soe_codec.View.{soe_seen};
+ghost use Rattle.idn_table.specs.of_protocol_models.SoeServer.{ahead, gathered, asked, written, soe_takes, takes_whole, takes_unread, soe_outcome};
+ghost use Rattle.idn_table.specs.of_protocol_models.SoeOctets.{body_heard, is_marked};
 ghost use Rattle.idn_table.specs.Idns.{Table, idn_elements};
 ghost use Rattle.soe_parts.specs.Parts.{subject_view};
 ghost use Rattle.soe_server.specs.Serving.{subject_of, join_of, goes_with, told_of, outcome_of};
 
 use crate::server::SoeServer;
 use crate::state::{Common, Pending};
-use ec_fields::{bits, u16_at};
 use idn_table::IdnTable;
-use soe_codec::{READ, READ_ANSWER, SoeFault, SoeView, WRITE, WRITE_ANSWER};
-use soe_parts::{MOST, Subject};
+use idn_table::ec_fields::{bits, u16_at};
+use soe_parts::soe_codec::{READ, READ_ANSWER, SoeFault, SoeView, WRITE, WRITE_ANSWER};
+use soe_parts::{MOST, Subject, soe_codec};
 
 // What a message without the incomplete bit is about.
 fn subject_of(message: SoeView<'_>) -> Subject

@@ -1,9 +1,9 @@
 -- When each status comes, by the course of a call.
 use Rattle.std.proofs.Common.{◌≡◌, ℕ, ◌<◌, ◌≤◌, ◌⊎◌, List, [], ◌∷◌, length, Option, Some, None, refl, sym, ap, ◌∙◌, subst, arith, inl, inr}
 use Rattle.arrayvec.specs.ArrayVec.{ArrayVec}
-use Rattle.ec_outside.specs.Faults.{Rose}
-use Rattle.ec_outside.specs.Files.{Table, file_of}
-use Rattle.segment_plan.specs.declared.service.Service.{Service}
+use Rattle.ecmbx_words.specs.of_ec_outside.Faults.{Rose}
+use Rattle.ecmbx_words.specs.of_ec_outside.Files.{Table, file_of}
+use Rattle.gateway_tool.specs.of_segment_plan.declared.service.Service.{Service}
 use Rattle.gateway_tool.specs.declared.reply.Reply.{Reply}
 use Rattle.gateway_tool.specs.declared.asking.ToolEnd.{ToolEnd}
 use Rattle.gateway_tool.specs.Told.{Told}

@@ -3,10 +3,10 @@ use Rattle.std.specs.Prelude.{◌≤◌, ℕ, ◌&&◌, nat_le, Bool, false, Lis
 use Rattle.std.specs.Result.{result_ok}
 use Rattle.std.specs.Str.{bytes_eq}
 use Rattle.hex.specs.Hex.{decode_of}
-use Rattle.object_dictionary.specs.declared.service.SdoService.{SdoService}
-use Rattle.segment_plan.specs.declared.service.Service.{Service}
-use Rattle.segment_plan.specs.Sound.{IsName}
-use Rattle.scenario_keys.specs.Keys.{is_name}
+use Rattle.gateway_tool.specs.of_object_dictionary.declared.service.SdoService.{SdoService}
+use Rattle.gateway_tool.specs.of_segment_plan.declared.service.Service.{Service}
+use Rattle.gateway_tool.specs.of_segment_plan.Sound.{IsName}
+use Rattle.ecmbx_words.specs.of_scenario_keys.Keys.{is_name}
 use Rattle.gateway_tool.specs.Rule.{IsForm}
 use Rattle.ecmbx_words.specs.Form.{number_in}
 use Rattle.tool_call.specs.declared.asked.Act.{Act}

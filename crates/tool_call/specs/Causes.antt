@@ -1,9 +1,9 @@
 -- When each status comes.
 use Rattle.std.specs.Prelude.{◌≡◌, ℕ, ◌<◌, List, [], ◌∷◌, length, Option, Some, None}
-use Rattle.ec_outside.specs.Faults.{Rose}
-use Rattle.ec_outside.specs.Files.{Table, file_of}
+use Rattle.ecmbx_words.specs.of_ec_outside.Faults.{Rose}
+use Rattle.ecmbx_words.specs.of_ec_outside.Files.{Table, file_of}
 use Rattle.arrayvec.specs.ArrayVec.{ArrayVec}
-use Rattle.segment_plan.specs.declared.service.Service.{Service}
+use Rattle.gateway_tool.specs.of_segment_plan.declared.service.Service.{Service}
 use Rattle.gateway_tool.specs.declared.reply.Reply.{Reply}
 use Rattle.gateway_tool.specs.declared.asking.ToolEnd.{ToolEnd}
 use Rattle.gateway_tool.specs.Told.{Told}

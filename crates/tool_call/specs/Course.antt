@@ -1,9 +1,9 @@
 -- What the words `ask STATION OUT IN DO ARGS` come to: one case for each row of the table of answers.
 use Rattle.std.specs.Prelude.{◌≡◌, ℕ, List, Option, Some, None}
-use Rattle.ec_outside.specs.Files.{Table}
-use Rattle.ec_outside.specs.declared.port.Peer.{Peer}
+use Rattle.ecmbx_words.specs.of_ec_outside.Files.{Table}
+use Rattle.ecmbx_words.specs.of_ec_outside.declared.port.Peer.{Peer}
 use Rattle.arrayvec.specs.ArrayVec.{ArrayVec}
-use Rattle.segment_plan.specs.declared.service.Service.{Service}
+use Rattle.gateway_tool.specs.of_segment_plan.declared.service.Service.{Service}
 use Rattle.gateway_tool.specs.declared.reply.Reply.{Reply}
 use Rattle.gateway_tool.specs.declared.asking.ToolEnd.{ToolEnd}
 use Rattle.gateway_tool.specs.Rule.{Call}

@@ -1,11 +1,11 @@
 -- What a call does, by what its files, its sink and its port tell.
 use Rattle.std.specs.Prelude.{◌≡◌, ℕ, List, Option}
-use Rattle.ec_outside.specs.Faults.{Rose}
-use Rattle.ec_outside.specs.Files.{Table}
-use Rattle.ec_outside.specs.declared.files.Files.{Ghosts as FilesTell}
-use Rattle.ec_outside.specs.declared.sink.Sink.{Ghosts as SinkTells}
-use Rattle.ec_outside.specs.declared.port.Port.{Ghosts as PortTells}
-use Rattle.segment_plan.specs.declared.service.Service.{Service}
+use Rattle.ecmbx_words.specs.of_ec_outside.Faults.{Rose}
+use Rattle.ecmbx_words.specs.of_ec_outside.Files.{Table}
+use Rattle.ecmbx_words.specs.of_ec_outside.declared.files.Files.{Ghosts as FilesTell}
+use Rattle.ecmbx_words.specs.of_ec_outside.declared.sink.Sink.{Ghosts as SinkTells}
+use Rattle.ecmbx_words.specs.of_ec_outside.declared.port.Port.{Ghosts as PortTells}
+use Rattle.gateway_tool.specs.of_segment_plan.declared.service.Service.{Service}
 use Rattle.gateway_tool.specs.Told.{Told, told}
 use Rattle.ecmbx_words.specs.declared.status.Status.{Status}
 use Rattle.ecmbx_words.specs.Files.{Followed}

@@ -1,6 +1,6 @@
 ghost use Rattle.std.specs.Prelude.{◌≡◌, None, map, string_bytes};
-ghost use Rattle.ec_outside.specs.Faults.{Rose};
-ghost use Rattle.segment_plan.specs.Sound.{IsName};
+ghost use Rattle.ecmbx_words.specs.of_ec_outside.Faults.{Rose};
+ghost use Rattle.gateway_tool.specs.of_segment_plan.Sound.{IsName};
 ghost use Rattle.gateway_tool.specs.Rule.{IsForm};
 ghost use Rattle.ecmbx_words.specs.declared.status.Status.TheVariants as statuses;
 ghost use Rattle.ecmbx_words.specs.Ends.{PutAll};
@@ -12,13 +12,13 @@ ghost use Rattle.tool_call.specs.Causes.{UsageCause, AbsentCause, LongCause, NoA
 
 use crate::asked::{Act, Asked, Slave, asked_of, file_of};
 use crate::lines::{answer, no_answer, port_fault};
-use ec_fields::{NoMemory, Octets};
-use ec_outside::{Files, Peer, Port, Sink};
+use ecmbx_words::ec_outside::{Files, Peer, Port, Sink};
 use ecmbx_words::{Status, load, say, usage};
-use file_store::Name;
+use gateway_tool::file_store::Name;
+use gateway_tool::segment_plan::Service;
 use gateway_tool::{Reply, ToolEnd, ask};
-use mailbox_mail::ReplyKind;
-use segment_plan::Service;
+use reply_text::ec_fields::{NoMemory, Octets};
+use reply_text::mailbox_mail::ReplyKind;
 use std::alloc::Global;
 
 /// The gateway, at 127.0.0.1.

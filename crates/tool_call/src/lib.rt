@@ -7,3 +7,5 @@ mod lines;
 
 pub use asked::{Act, Asked, Slave, asked_of, is_ask};
 pub use call::ask_call;
+pub use ecmbx_words;
+pub use gateway_tool::segment_plan;

@@ -1,12 +1,12 @@
 -- From a service that goes mail by mail to a call over a gateway.
 use Rattle.std.proofs.Common.{◌≡◌, ℕ, suc, ◌≤◌, ◌<◌, List, [], ◌∷◌, ◌++◌, length, map, true, false, refl, sym, ap, ◌∙◌, subst}
 use Rattle.std.specs.Prelude.{is_some}
-use Rattle.mailbox_mail.specs.Mail.{error_of}
-use Rattle.mailbox_mail.specs.declared.mail.Mail.{Mail}
-use Rattle.mailbox_mail.specs.declared.outcome.ReplyKind.{ReplyKind}
-use Rattle.exchange_model.specs.Exchange.{Exchange, IsLawful}
-use Rattle.exchange_model.specs.Lifted.{EachOf}
-use Rattle.exchange_model.specs.Prefix.{IsPrefixOf}
+use Rattle.slave_model.specs.of_mailbox_mail.Mail.{error_of}
+use Rattle.slave_model.specs.of_mailbox_mail.declared.mail.Mail.{Mail}
+use Rattle.slave_model.specs.of_mailbox_mail.declared.outcome.ReplyKind.{ReplyKind}
+use Rattle.slave_model.specs.of_exchange_model.Exchange.{Exchange, IsLawful}
+use Rattle.slave_model.specs.of_exchange_model.Lifted.{EachOf}
+use Rattle.slave_model.specs.of_exchange_model.Prefix.{IsPrefixOf}
 use Rattle.gateway_tool.specs.Rule.{Call, planned, ends}
 use Rattle.tool_law.specs.Answered.{bare, IsAnswered}
 use Rattle.tool_law.specs.Speaking.{IsSpeaking}

@@ -1,23 +1,23 @@
 -- A slave's services as calls over a gateway.
 use Rattle.std.proofs.Common.{◌≡◌, ◌≢◌, ℕ, ◌≤◌, ◌<◌, List, [], ◌∷◌, length, map, true, refl, sym, ap, ◌∙◌, subst, arith}
-use Rattle.ec_outside.specs.declared.port.Peer.{Peer}
-use Rattle.mailbox_mail.specs.Mail.{error_of}
-use Rattle.mailbox_mail.specs.declared.mail.Mail.{Mail}
-use Rattle.exchange_model.specs.Lifted.{EachOf}
-use Rattle.object_dictionary.specs.declared.service.SdoService.{SdoService}
-use Rattle.segment_plan.specs.declared.service.Service.{Service as Asked}
-use Rattle.protocol_models.specs.CoeMails as CoeMails
-use Rattle.protocol_models.specs.CoeOctets.{coe_mail_heard, coe_mail_written}
-use Rattle.protocol_models.specs.Tables.{Ask}
-use Rattle.protocol_models.specs.CoeMeaning as CoeMeaning
-use Rattle.protocol_models.specs.CoeClient as CoeClient
-use Rattle.protocol_models.specs.CoeModel as CoeModel
-use Rattle.coe_client.specs.Talk.{service_view}
-use Rattle.protocol_models.specs.FoeMails as FoeMails
-use Rattle.protocol_models.specs.FoeOctets.{foe_mail_heard, foe_mail_written}
-use Rattle.protocol_models.specs.FoeMeaning as FoeMeaning
-use Rattle.protocol_models.specs.FoeClient as FoeClient
-use Rattle.protocol_models.specs.FoeModel as FoeModel
+use Rattle.gateway_tool.specs.of_ec_outside.declared.port.Peer.{Peer}
+use Rattle.slave_model.specs.of_mailbox_mail.Mail.{error_of}
+use Rattle.slave_model.specs.of_mailbox_mail.declared.mail.Mail.{Mail}
+use Rattle.slave_model.specs.of_exchange_model.Lifted.{EachOf}
+use Rattle.gateway_tool.specs.of_object_dictionary.declared.service.SdoService.{SdoService}
+use Rattle.gateway_tool.specs.of_segment_plan.declared.service.Service.{Service as Asked}
+use Rattle.slave_model.specs.of_protocol_models.CoeMails as CoeMails
+use Rattle.slave_model.specs.of_protocol_models.CoeOctets.{coe_mail_heard, coe_mail_written}
+use Rattle.slave_model.specs.of_protocol_models.Tables.{Ask}
+use Rattle.slave_model.specs.of_protocol_models.CoeMeaning as CoeMeaning
+use Rattle.slave_model.specs.of_protocol_models.CoeClient as CoeClient
+use Rattle.slave_model.specs.of_protocol_models.CoeModel as CoeModel
+use Rattle.gateway_tool.specs.of_coe_client.Talk.{service_view}
+use Rattle.slave_model.specs.of_protocol_models.FoeMails as FoeMails
+use Rattle.slave_model.specs.of_protocol_models.FoeOctets.{foe_mail_heard, foe_mail_written}
+use Rattle.slave_model.specs.of_protocol_models.FoeMeaning as FoeMeaning
+use Rattle.slave_model.specs.of_protocol_models.FoeClient as FoeClient
+use Rattle.slave_model.specs.of_protocol_models.FoeModel as FoeModel
 use Rattle.slave_model.specs.Profile.{Protocol, Profile, IsProfile, areas_of, serves}
 use Rattle.slave_model.specs.Application.{Parts, ArePartsLawful, station_tables, station_files}
 use Rattle.slave_model.specs.Server.{Server, seat, heard_by, told_by}

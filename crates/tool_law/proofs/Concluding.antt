@@ -1,14 +1,14 @@
 -- How a call ends over a server that answers it.
 use Rattle.std.proofs.Common.{◌≡◌, ℕ, suc, ◌≤◌, ◌<◌, ◌⊎◌, List, [], ◌∷◌, ◌++◌, length, map, Option, Some, None, refl, sym, ap, ◌∙◌, subst, arith, inl, inr, append-nil, length-append}
 use Rattle.std.proofs.lemmas.List.{length-map}
-use Rattle.ec_outside.specs.Port.{HeardGram}
-use Rattle.ec_outside.specs.declared.port.SentGram.{SentGram}
-use Rattle.mailbox_mail.specs.declared.mail.Mail.{Mail}
-use Rattle.mailbox_mail.specs.declared.outcome.ReplyKind.{ReplyKind}
-use Rattle.exchange_model.specs.Exchange.{Exchange, Behind, after, given, plain}
-use Rattle.exchange_model.specs.Lifted.{EachOf}
-use Rattle.exchange_model.proofs.Lists.{append_cancel}
-use Rattle.exchange_model.proofs.Words.{plain_given-append}
+use Rattle.gateway_tool.specs.of_ec_outside.Port.{HeardGram}
+use Rattle.gateway_tool.specs.of_ec_outside.declared.port.SentGram.{SentGram}
+use Rattle.slave_model.specs.of_mailbox_mail.declared.mail.Mail.{Mail}
+use Rattle.slave_model.specs.of_mailbox_mail.declared.outcome.ReplyKind.{ReplyKind}
+use Rattle.slave_model.specs.of_exchange_model.Exchange.{Exchange, Behind, after, given, plain}
+use Rattle.slave_model.specs.of_exchange_model.Lifted.{EachOf}
+use Rattle.slave_model.proofs.of_exchange_model.Lists.{append_cancel}
+use Rattle.slave_model.proofs.of_exchange_model.Words.{plain_given-append}
 use Rattle.gateway_tool.specs.declared.reply.Reply.{Reply}
 use Rattle.gateway_tool.specs.declared.asking.ToolEnd.{ToolEnd}
 use Rattle.gateway_tool.specs.Rule.{Call, Standing, at_first, said, replied, hears_all, grams_of}

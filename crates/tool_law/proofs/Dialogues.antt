@@ -1,10 +1,10 @@
 -- A client that goes by the answers, when it hears more of them.
 use Rattle.std.proofs.Common.{◌≡◌, ℕ, zero, suc, ◌≤◌, List, [], ◌∷◌, ◌++◌, length, Bool, Option, None, Some, refl, sym, ap, ◌∙◌, subst, arith, length-append}
-use Rattle.exchange_model.specs.Prefix.{IsPrefixOf}
-use Rattle.exchange_model.specs.Exchange.{given, plain}
-use Rattle.exchange_model.specs.Lifted.{EachOf}
-use Rattle.exchange_model.specs.Dialogue.{Turn, next, again, stop, chosen, first_turn, rest_behind, turn_at, rest_at, said, sent, Decides}
-use Rattle.exchange_model.proofs.Words.{plain-append}
+use Rattle.slave_model.specs.of_exchange_model.Prefix.{IsPrefixOf}
+use Rattle.slave_model.specs.of_exchange_model.Exchange.{given, plain}
+use Rattle.slave_model.specs.of_exchange_model.Lifted.{EachOf}
+use Rattle.slave_model.specs.of_exchange_model.Dialogue.{Turn, next, again, stop, chosen, first_turn, rest_behind, turn_at, rest_at, said, sent, Decides}
+use Rattle.slave_model.proofs.of_exchange_model.Words.{plain-append}
 
 module _ {M : Type 0} (decide : M → List M → Option Turn) where
   -- it sends no more often than it has turns

@@ -2,23 +2,23 @@
 use Rattle.std.proofs.Common.{◌≡◌, ℕ, zero, suc, ◌+◌, ◌≤◌, ◌<◌, List, [], ◌∷◌, ◌++◌, length, take, drop, Bool, true, false, Some, None, refl, sym, ap, ◌∙◌, subst, arith, inl, inr, nat_lt, nat_le, if◌then◌else◌, append-nil, length-append}
 use Rattle.std.specs.Prelude.{is_some, ◌&&◌}
 use Rattle.std.proofs.lemmas.Bool.{and_parts, leb-true}
-use Rattle.mailbox_mail.specs.declared.outcome.ReplyKind.{ReplyKind}
-use Rattle.exchange_model.specs.Areas.{Areas, AreMailboxes}
-use Rattle.exchange_model.specs.Exchange.{given, plain}
-use Rattle.exchange_model.specs.Lifted.{EachOf}
-use Rattle.exchange_model.specs.Prefix.{IsPrefixOf}
-use Rattle.exchange_model.specs.Dialogue.{said}
-use Rattle.exchange_model.proofs.Turns.{said_more}
-use Rattle.foe_codec.specs.Message.{is_name}
-use Rattle.protocol_models.specs.FoeMails.{Foe, FoeMail, mail, failed, is_emission, Read, Ack}
-use Rattle.protocol_models.specs.Files.{Files, AreLawful}
-use Rattle.protocol_models.specs.FoeServer.{Server, serve, packet_room, packet_of, is_last}
-use Rattle.protocol_models.specs.FoeMeaning.{Service, read, write, Reply}
-use Rattle.protocol_models.specs.FoeClient.{packets, acks, mails_of, decide, at_end, refused_by, is_ack, is_busy, last_end, acks_end, most, is_packet, octets_in, packets_end, full_packets, ends}
-use Rattle.protocol_models.specs.FoeModel.{is_service, turns, planned, full, foe_exchange}
-use Rattle.protocol_models.specs.FoeOctets.{foe_mail_written}
-use Rattle.protocol_models.proofs.FoeLaw.{bound, kept}
-use Rattle.protocol_models.proofs.FoeSpeaks.{decided, replies_few}
+use Rattle.slave_model.specs.of_mailbox_mail.declared.outcome.ReplyKind.{ReplyKind}
+use Rattle.slave_model.specs.of_exchange_model.Areas.{Areas, AreMailboxes}
+use Rattle.slave_model.specs.of_exchange_model.Exchange.{given, plain}
+use Rattle.slave_model.specs.of_exchange_model.Lifted.{EachOf}
+use Rattle.slave_model.specs.of_exchange_model.Prefix.{IsPrefixOf}
+use Rattle.slave_model.specs.of_exchange_model.Dialogue.{said}
+use Rattle.slave_model.proofs.of_exchange_model.Turns.{said_more}
+use Rattle.slave_model.specs.of_foe_codec.Message.{is_name}
+use Rattle.slave_model.specs.of_protocol_models.FoeMails.{Foe, FoeMail, mail, failed, is_emission, Read, Ack}
+use Rattle.slave_model.specs.of_protocol_models.Files.{Files, AreLawful}
+use Rattle.slave_model.specs.of_protocol_models.FoeServer.{Server, serve, packet_room, packet_of, is_last}
+use Rattle.slave_model.specs.of_protocol_models.FoeMeaning.{Service, read, write, Reply}
+use Rattle.slave_model.specs.of_protocol_models.FoeClient.{packets, acks, mails_of, decide, at_end, refused_by, is_ack, is_busy, last_end, acks_end, most, is_packet, octets_in, packets_end, full_packets, ends}
+use Rattle.slave_model.specs.of_protocol_models.FoeModel.{is_service, turns, planned, full, foe_exchange}
+use Rattle.slave_model.specs.of_protocol_models.FoeOctets.{foe_mail_written}
+use Rattle.slave_model.proofs.of_protocol_models.FoeLaw.{bound, kept}
+use Rattle.slave_model.proofs.of_protocol_models.FoeSpeaks.{decided, replies_few}
 use Rattle.tool_law.specs.Speaking.{IsSpeaking}
 use Rattle.tool_law.proofs.Dialogues.{said_within, said_longer, said_goes, said_each}
 

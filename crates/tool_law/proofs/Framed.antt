@@ -2,14 +2,14 @@
 use Rattle.std.proofs.Common.{◌≡◌, ℕ, zero, suc, ◌+◌, ◌-◌, ◌<◌, ◌≤◌, List, length, take, Bool, true, false, nat_lt, ◌==◌, if◌then◌else◌, Some, Ok, Err, refl, sym, ap, ◌∙◌, arith, append-nil}
 use Rattle.std.proofs.lemmas.Bool.{le-ltb}
 use Rattle.std.proofs.Math.Seq.{take-length}
-use Rattle.ec_fields.specs.Fields.{number_at}
-use Rattle.ec_fields.proofs.Cells.{two_read}
-use Rattle.link_model.specs.Counters.{counter_of}
-use Rattle.mailbox_mail.specs.Mail.{IsMail, mail_text, mail_read}
-use Rattle.mailbox_mail.proofs.Laws.{read-only}
-use Rattle.mailbox_mail.specs.declared.mail.Mail.{Mail}
-use Rattle.gateway_core.specs.Framing.{gram_text, request_in, request_of, type_in, length_in, octets_in}
-use Rattle.gateway_core.specs.declared.framing.GatewayFault.TheVariants as faults
+use Rattle.slave_model.specs.of_ec_fields.Fields.{number_at}
+use Rattle.gateway_tool.proofs.of_ec_fields.Cells.{two_read}
+use Rattle.gateway_tool.specs.of_link_model.Counters.{counter_of}
+use Rattle.slave_model.specs.of_mailbox_mail.Mail.{IsMail, mail_text, mail_read}
+use Rattle.gateway_tool.proofs.of_mailbox_mail.Laws.{read-only}
+use Rattle.slave_model.specs.of_mailbox_mail.declared.mail.Mail.{Mail}
+use Rattle.gateway_tool.specs.of_gateway_core.Framing.{gram_text, request_in, request_of, type_in, length_in, octets_in}
+use Rattle.gateway_tool.specs.of_gateway_core.declared.framing.GatewayFault.TheVariants as faults
 use Rattle.gateway_tool.specs.Rule.{mail_in}
 
 pub counter_small : (n : ℕ) → counter_of n ≤ 7

@@ -3,25 +3,25 @@ use Rattle.std.proofs.Common.{◌≡◌, ◌≢◌, ℕ, zero, suc, ◌-◌, ◌
 use Rattle.std.specs.Prelude.{is_some, ◌&&◌, ◌||◌, ◌==◌, replicate}
 use Rattle.std.proofs.lemmas.Bool.{and_parts, leb-true}
 use Rattle.std.proofs.lemmas.List.{length-replicate}
-use Rattle.mailbox_mail.specs.declared.outcome.ReplyKind.{ReplyKind}
-use Rattle.exchange_model.specs.Areas.{Areas, AreMailboxes}
-use Rattle.exchange_model.specs.Exchange.{given, plain}
-use Rattle.exchange_model.specs.Lifted.{EachOf}
-use Rattle.exchange_model.specs.Prefix.{IsPrefixOf}
-use Rattle.exchange_model.specs.Dialogue.{said}
-use Rattle.protocol_models.specs.CoeMails.{CoeMail, mail, failed, is_emission, Expedited, First, Segment, Abort, ExpeditedAnswer, FirstAnswer}
-use Rattle.protocol_models.specs.Tables.{Target, Ask, Tables, AreLawful}
-use Rattle.protocol_models.specs.CoeServer.{Server, serve, is_expedited, parts_of}
-use Rattle.protocol_models.specs.CoeMeaning.{Service, download, upload, information, Reply}
-use Rattle.protocol_models.specs.CoeClient.{decide, mails_of, segments, behind_first, download_mails, requests, at_end, sdo_refused, is_of, is_segment_answer, segments_end, is_download_answer, is_part, is_last, octets_of, most, whole_value, parts_end, first_ends, value_begins, ends}
-use Rattle.protocol_models.specs.CoeModel.{is_service, is_target, are_octets, planned, full, value_length, coe_exchange}
-use Rattle.protocol_models.specs.CoeOctets.{coe_mail_written}
-use Rattle.protocol_models.proofs.CoeLaw.{IsSdo, full_all, planned_more, kept}
-use Rattle.protocol_models.proofs.Progress.{goes_on}
-use Rattle.protocol_models.proofs.CoeSpeaks.{AllRequests, is_request, replies_counted}
+use Rattle.slave_model.specs.of_mailbox_mail.declared.outcome.ReplyKind.{ReplyKind}
+use Rattle.slave_model.specs.of_exchange_model.Areas.{Areas, AreMailboxes}
+use Rattle.slave_model.specs.of_exchange_model.Exchange.{given, plain}
+use Rattle.slave_model.specs.of_exchange_model.Lifted.{EachOf}
+use Rattle.slave_model.specs.of_exchange_model.Prefix.{IsPrefixOf}
+use Rattle.slave_model.specs.of_exchange_model.Dialogue.{said}
+use Rattle.slave_model.specs.of_protocol_models.CoeMails.{CoeMail, mail, failed, is_emission, Expedited, First, Segment, Abort, ExpeditedAnswer, FirstAnswer}
+use Rattle.slave_model.specs.of_protocol_models.Tables.{Target, Ask, Tables, AreLawful}
+use Rattle.slave_model.specs.of_protocol_models.CoeServer.{Server, serve, is_expedited, parts_of}
+use Rattle.slave_model.specs.of_protocol_models.CoeMeaning.{Service, download, upload, information, Reply}
+use Rattle.slave_model.specs.of_protocol_models.CoeClient.{decide, mails_of, segments, behind_first, download_mails, requests, at_end, sdo_refused, is_of, is_segment_answer, segments_end, is_download_answer, is_part, is_last, octets_of, most, whole_value, parts_end, first_ends, value_begins, ends}
+use Rattle.slave_model.specs.of_protocol_models.CoeModel.{is_service, is_target, are_octets, planned, full, value_length, coe_exchange}
+use Rattle.slave_model.specs.of_protocol_models.CoeOctets.{coe_mail_written}
+use Rattle.slave_model.proofs.of_protocol_models.CoeLaw.{IsSdo, full_all, planned_more, kept}
+use Rattle.slave_model.proofs.of_protocol_models.Progress.{goes_on}
+use Rattle.slave_model.proofs.of_protocol_models.CoeSpeaks.{AllRequests, is_request, replies_counted}
 use Rattle.tool_law.specs.Speaking.{IsSpeaking}
 use Rattle.tool_law.proofs.Dialogues.{said_within, said_longer, said_each}
-use Rattle.exchange_model.proofs.SumLaw.{each_left}
+use Rattle.slave_model.proofs.of_exchange_model.SumLaw.{each_left}
 
 -- ---- a mailbox error in the place of an answer
 

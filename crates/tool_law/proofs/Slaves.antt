@@ -1,20 +1,20 @@
 -- A slave's server over mailbox mails.
 use Rattle.std.proofs.Common.{◌≡◌, ℕ, zero, suc, ◌≤◌, List, [], ◌∷◌, ◌++◌, length, map, take, Bool, true, false, Option, Some, None, Ok, Err, refl, ap, arith, if◌then◌else◌}
-use Rattle.link_mails.specs.Body.{Body}
-use Rattle.mailbox_mail.specs.declared.mail.Mail.{Mail}
-use Rattle.mailbox_mail.specs.declared.mail.Kind.{Kind}
-use Rattle.mailbox_mail.specs.declared.mail.MailFault.TheVariants.{Short, LengthPastArea, UnknownKind}
-use Rattle.exchange_model.specs.Exchange.{IsLawful, given}
-use Rattle.exchange_model.specs.Lifted.{EachOf, ReadsBack, Spells}
-use Rattle.exchange_model.specs.Dialogue.{Turn, said}
-use Rattle.exchange_model.proofs.Lifting.{lifted_law}
-use Rattle.exchange_model.specs.Refusing.{gated}
-use Rattle.protocol_models.specs.CoeOctets as CoeOctets
-use Rattle.protocol_models.specs.FoeOctets as FoeOctets
-use Rattle.protocol_models.specs.SoeMails as SoeMails
-use Rattle.protocol_models.specs.SoeOctets as SoeOctets
-use Rattle.protocol_models.specs.EoeMails as EoeMails
-use Rattle.protocol_models.specs.EoeOctets as EoeOctets
+use Rattle.slave_model.specs.of_link_mails.Body.{Body}
+use Rattle.slave_model.specs.of_mailbox_mail.declared.mail.Mail.{Mail}
+use Rattle.slave_model.specs.of_mailbox_mail.declared.mail.Kind.{Kind}
+use Rattle.slave_model.specs.of_mailbox_mail.declared.mail.MailFault.TheVariants.{Short, LengthPastArea, UnknownKind}
+use Rattle.slave_model.specs.of_exchange_model.Exchange.{IsLawful, given}
+use Rattle.slave_model.specs.of_exchange_model.Lifted.{EachOf, ReadsBack, Spells}
+use Rattle.slave_model.specs.of_exchange_model.Dialogue.{Turn, said}
+use Rattle.slave_model.proofs.of_exchange_model.Lifting.{lifted_law}
+use Rattle.slave_model.specs.of_exchange_model.Refusing.{gated}
+use Rattle.slave_model.specs.of_protocol_models.CoeOctets as CoeOctets
+use Rattle.slave_model.specs.of_protocol_models.FoeOctets as FoeOctets
+use Rattle.slave_model.specs.of_protocol_models.SoeMails as SoeMails
+use Rattle.slave_model.specs.of_protocol_models.SoeOctets as SoeOctets
+use Rattle.slave_model.specs.of_protocol_models.EoeMails as EoeMails
+use Rattle.slave_model.specs.of_protocol_models.EoeOctets as EoeOctets
 use Rattle.slave_model.specs.Profile.{Protocol, Profile, IsProfile, serves}
 use Rattle.slave_model.specs.Application.{Parts, ArePartsLawful}
 use Rattle.slave_model.specs.Server.{Server, Seat, seat, reseated, ServiceOf, failure, heard_by, told_by, soe_quiet, eoe_quiet, refused_gives}

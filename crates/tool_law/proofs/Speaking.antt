@@ -2,14 +2,14 @@
 use Rattle.std.proofs.Common.{◌≡◌, suc, ◌≤◌, List, [], ◌∷◌, ◌++◌, length, map, Bool, true, false, refl, sym, ap, ◌∙◌, subst, arith, cond, not, length-append}
 use Rattle.std.specs.Prelude.{is_some}
 use Rattle.std.proofs.lemmas.List.{length-map}
-use Rattle.exchange_model.specs.Exchange.{Exchange, after, given, plain}
-use Rattle.exchange_model.specs.Lifted.{EachOf, ReadsBack, Spells, lifted, lifted_serve}
-use Rattle.exchange_model.specs.Prefix.{IsPrefixOf}
-use Rattle.exchange_model.proofs.Words.{given-append}
-use Rattle.exchange_model.proofs.Lifting.{map_append, map_begin, each_filter, CutBefore, cut_before, all_back}
-use Rattle.exchange_model.specs.Refusing.{Refusal, refused_serve, gated}
-use Rattle.exchange_model.specs.Sides.{Slave, IsSide, joined}
-use Rattle.exchange_model.proofs.SumLaw.{each_left, plain_same, told_part}
+use Rattle.slave_model.specs.of_exchange_model.Exchange.{Exchange, after, given, plain}
+use Rattle.slave_model.specs.of_exchange_model.Lifted.{EachOf, ReadsBack, Spells, lifted, lifted_serve}
+use Rattle.slave_model.specs.of_exchange_model.Prefix.{IsPrefixOf}
+use Rattle.slave_model.proofs.of_exchange_model.Words.{given-append}
+use Rattle.slave_model.proofs.of_exchange_model.Lifting.{map_append, map_begin, each_filter, CutBefore, cut_before, all_back}
+use Rattle.slave_model.specs.of_exchange_model.Refusing.{Refusal, refused_serve, gated}
+use Rattle.slave_model.specs.of_exchange_model.Sides.{Slave, IsSide, joined}
+use Rattle.slave_model.proofs.of_exchange_model.SumLaw.{each_left, plain_same, told_part}
 use Rattle.tool_law.specs.Speaking.{IsSpeaking}
 
 -- ---- over other mails

@@ -1,11 +1,11 @@
 -- The mails of a client as the requests that go over a gateway, and what is given for them.
 use Rattle.std.proofs.Common.{◌≡◌, ℕ, suc, ◌+◌, ◌≤◌, ◌<◌, List, [], ◌∷◌, ◌++◌, length, map, Bool, Some, refl, sym, ap, ◌∙◌, arith, append_assoc}
-use Rattle.exchange_model.specs.Exchange.{after, given, plain}
-use Rattle.exchange_model.specs.Lifted.{EachOf}
-use Rattle.exchange_model.proofs.Words.{plain-append}
-use Rattle.exchange_model.proofs.Lifting.{map_append}
-use Rattle.link_model.specs.Counters.{counter_of}
-use Rattle.mailbox_mail.specs.declared.mail.Mail.{Mail}
+use Rattle.slave_model.specs.of_exchange_model.Exchange.{after, given, plain}
+use Rattle.slave_model.specs.of_exchange_model.Lifted.{EachOf}
+use Rattle.slave_model.proofs.of_exchange_model.Words.{plain-append}
+use Rattle.slave_model.proofs.of_exchange_model.Lifting.{map_append}
+use Rattle.gateway_tool.specs.of_link_model.Counters.{counter_of}
+use Rattle.slave_model.specs.of_mailbox_mail.declared.mail.Mail.{Mail}
 use Rattle.gateway_tool.specs.Rule.{Call, grams_behind}
 use Rattle.tool_law.specs.Gives.{to_asker, gives, posted}
 use Rattle.tool_law.specs.Answered.{bare}

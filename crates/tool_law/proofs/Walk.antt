@@ -2,16 +2,16 @@
 use Rattle.std.proofs.Common.{◌≡◌, ℕ, suc, ◌≤◌, ◌⊎◌, List, [], ◌∷◌, ◌++◌, length, map, Bool, true, false, Option, Some, None, refl, sym, ap, ◌∙◌, subst, arith, inl, inr, append_assoc, append-nil, length-append, if◌then◌else◌}
 use Rattle.std.specs.Prelude.{◌&&◌, ◌||◌, ◌==◌, not, is_some}
 use Rattle.std.proofs.lemmas.Bool.{and_parts}
-use Rattle.ec_outside.specs.Port.{HeardGram}
-use Rattle.link_model.specs.Counters.{counter_of}
-use Rattle.mailbox_mail.specs.Mail.{error_of}
-use Rattle.mailbox_mail.specs.declared.mail.Mail.{Mail}
-use Rattle.mailbox_mail.specs.declared.outcome.ReplyKind.{ReplyKind}
-use Rattle.exchange_model.specs.Exchange.{Exchange, after, given, plain}
-use Rattle.exchange_model.proofs.Lists.{append_cancel}
-use Rattle.exchange_model.proofs.Words.{plain_given-append, plain-append}
-use Rattle.exchange_model.proofs.Lifting.{map_append}
-use Rattle.gateway_core.specs.Framing.{request_in}
+use Rattle.gateway_tool.specs.of_ec_outside.Port.{HeardGram}
+use Rattle.gateway_tool.specs.of_link_model.Counters.{counter_of}
+use Rattle.slave_model.specs.of_mailbox_mail.Mail.{error_of}
+use Rattle.slave_model.specs.of_mailbox_mail.declared.mail.Mail.{Mail}
+use Rattle.slave_model.specs.of_mailbox_mail.declared.outcome.ReplyKind.{ReplyKind}
+use Rattle.slave_model.specs.of_exchange_model.Exchange.{Exchange, after, given, plain}
+use Rattle.slave_model.proofs.of_exchange_model.Lists.{append_cancel}
+use Rattle.slave_model.proofs.of_exchange_model.Words.{plain_given-append, plain-append}
+use Rattle.slave_model.proofs.of_exchange_model.Lifting.{map_append}
+use Rattle.gateway_tool.specs.of_gateway_core.Framing.{request_in}
 use Rattle.gateway_tool.specs.Rule.{Call, Standing, planned, ends, said, replied, is_next, mail_in, mail_to, hears_mail, hears, hears_all, is_spent, is_open, are_awaited, passed_over, with_mail}
 use Rattle.gateway_tool.specs.Ended.{but_last}
 use Rattle.tool_law.specs.Gives.{to_asker, gives, held}

@@ -1,11 +1,11 @@
 -- What an exchange owes so that its client may speak over a gateway, where replies come one by one and nobody says where they end.
 use Rattle.std.specs.Prelude.{◌≡◌, ◌<◌, ◌≤◌, ℕ, suc, true, false, is_some, List, [], ◌∷◌, ◌++◌, map, length, Some}
-use Rattle.mailbox_mail.specs.Mail.{error_of}
-use Rattle.mailbox_mail.specs.declared.mail.Mail.{Mail}
-use Rattle.mailbox_mail.specs.declared.outcome.ReplyKind.{ReplyKind}
-use Rattle.exchange_model.specs.Exchange.{Exchange, IsLawful, given, plain}
-use Rattle.exchange_model.specs.Lifted.{EachOf}
-use Rattle.exchange_model.specs.Prefix.{IsPrefixOf}
+use Rattle.slave_model.specs.of_mailbox_mail.Mail.{error_of}
+use Rattle.slave_model.specs.of_mailbox_mail.declared.mail.Mail.{Mail}
+use Rattle.slave_model.specs.of_mailbox_mail.declared.outcome.ReplyKind.{ReplyKind}
+use Rattle.slave_model.specs.of_exchange_model.Exchange.{Exchange, IsLawful, given, plain}
+use Rattle.slave_model.specs.of_exchange_model.Lifted.{EachOf}
+use Rattle.slave_model.specs.of_exchange_model.Prefix.{IsPrefixOf}
 use Rattle.gateway_tool.specs.Rule.{Call, planned, ends}
 
 -- a mail to nobody and not counted

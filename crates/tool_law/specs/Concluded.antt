@@ -1,10 +1,10 @@
 -- What the client law says of a call.
 use Rattle.std.specs.Prelude.{◌≡◌, ℕ, suc, List, ◌++◌, Some}
-use Rattle.ec_outside.specs.Port.{HeardGram}
-use Rattle.ec_outside.specs.declared.port.SentGram.{SentGram}
-use Rattle.mailbox_mail.specs.declared.mail.Mail.{Mail}
-use Rattle.mailbox_mail.specs.declared.outcome.ReplyKind.{ReplyKind}
-use Rattle.exchange_model.specs.Exchange.{Exchange, after}
+use Rattle.gateway_tool.specs.of_ec_outside.Port.{HeardGram}
+use Rattle.gateway_tool.specs.of_ec_outside.declared.port.SentGram.{SentGram}
+use Rattle.slave_model.specs.of_mailbox_mail.declared.mail.Mail.{Mail}
+use Rattle.slave_model.specs.of_mailbox_mail.declared.outcome.ReplyKind.{ReplyKind}
+use Rattle.slave_model.specs.of_exchange_model.Exchange.{Exchange, after}
 use Rattle.gateway_tool.specs.Told.{Told}
 use Rattle.gateway_tool.specs.declared.reply.Reply.{Reply}
 use Rattle.gateway_tool.specs.declared.asking.ToolEnd.{ToolEnd}

@@ -1,10 +1,10 @@
 -- What a server gives a client over a gateway.
 use Rattle.std.specs.Prelude.{◌≡◌, Bool, List, [], ◌∷◌, ◌++◌, map, Option, Some}
-use Rattle.ec_outside.specs.Port.{HeardGram}
-use Rattle.ec_outside.specs.declared.port.SentGram.{SentGram}
-use Rattle.mailbox_mail.specs.declared.mail.Mail.{Mail}
-use Rattle.exchange_model.specs.Exchange.{plain}
-use Rattle.gateway_core.specs.Framing.{request_in}
+use Rattle.gateway_tool.specs.of_ec_outside.Port.{HeardGram}
+use Rattle.gateway_tool.specs.of_ec_outside.declared.port.SentGram.{SentGram}
+use Rattle.slave_model.specs.of_mailbox_mail.declared.mail.Mail.{Mail}
+use Rattle.slave_model.specs.of_exchange_model.Exchange.{plain}
+use Rattle.gateway_tool.specs.of_gateway_core.Framing.{request_in}
 use Rattle.gateway_tool.specs.Rule.{mail_in}
 
 -- a reply to a request goes to its asker: with the station and the counter of the request

@@ -1,13 +1,13 @@
 -- The services that a client over a gateway carries out, as their protocols have them.
 use Rattle.std.specs.Prelude.{◌≡◌, ◌≢◌, ℕ, true, List}
 use Rattle.arrayvec.specs.ArrayVec.{ArrayVec}
-use Rattle.object_dictionary.specs.declared.service.SdoService.{SdoService}
-use Rattle.segment_plan.specs.declared.service.Service.{Service as Asked}
-use Rattle.coe_client.specs.Talk.{service_view}
-use Rattle.protocol_models.specs.Tables.{Ask}
-use Rattle.protocol_models.specs.CoeMeaning.{information}
-use Rattle.protocol_models.specs.CoeModel.{is_service}
-use Rattle.protocol_models.specs.FoeMeaning.{Service, read, write}
+use Rattle.gateway_tool.specs.of_object_dictionary.declared.service.SdoService.{SdoService}
+use Rattle.gateway_tool.specs.of_segment_plan.declared.service.Service.{Service as Asked}
+use Rattle.gateway_tool.specs.of_coe_client.Talk.{service_view}
+use Rattle.slave_model.specs.of_protocol_models.Tables.{Ask}
+use Rattle.slave_model.specs.of_protocol_models.CoeMeaning.{information}
+use Rattle.slave_model.specs.of_protocol_models.CoeModel.{is_service}
+use Rattle.slave_model.specs.of_protocol_models.FoeMeaning.{Service, read, write}
 
 -- a download or an upload, with its numbers and octets within their fields
 pub record IsEntry (s : SdoService) : Type 0 where

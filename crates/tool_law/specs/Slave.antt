@@ -1,11 +1,11 @@
 -- A slave's server over mailbox mails.
 use Rattle.std.specs.Prelude.{ℕ, Ok, Err}
-use Rattle.link_mails.specs.Body.{Body}
-use Rattle.mailbox_mail.specs.Mail.{error_of}
-use Rattle.mailbox_mail.specs.declared.mail.Mail.{Mail}
-use Rattle.exchange_model.specs.Exchange.{Exchange}
-use Rattle.exchange_model.specs.Lifted.{lifted}
-use Rattle.protocol_models.specs.Network.{Station}
+use Rattle.slave_model.specs.of_link_mails.Body.{Body}
+use Rattle.slave_model.specs.of_mailbox_mail.Mail.{error_of}
+use Rattle.slave_model.specs.of_mailbox_mail.declared.mail.Mail.{Mail}
+use Rattle.slave_model.specs.of_exchange_model.Exchange.{Exchange}
+use Rattle.slave_model.specs.of_exchange_model.Lifted.{lifted}
+use Rattle.slave_model.specs.of_protocol_models.Network.{Station}
 use Rattle.slave_model.specs.Profile.{Protocol, Profile}
 use Rattle.slave_model.specs.Application.{Core, Parts}
 use Rattle.slave_model.specs.Server.{Server, ServiceOf, Reply}

@@ -1,7 +1,7 @@
 -- What a client and a server owe each other so that their mails may go one by one, with nobody to say where the replies end.
 use Rattle.std.specs.Prelude.{◌≡◌, ◌<◌, ◌≤◌, suc, true, is_some, List, [], ◌∷◌, ◌++◌, length, Some}
-use Rattle.exchange_model.specs.Exchange.{Exchange, given, plain}
-use Rattle.exchange_model.specs.Prefix.{IsPrefixOf}
+use Rattle.slave_model.specs.of_exchange_model.Exchange.{Exchange, given, plain}
+use Rattle.slave_model.specs.of_exchange_model.Prefix.{IsPrefixOf}
 
 -- A SERVICE THAT GOES MAIL BY MAIL, against a server; error is a mailbox error
 pub record IsSpeaking {V A M Q R : Type 0} (x : Exchange V A M Q R) (error : M) (v : V) (q : Q) : Type 0 where

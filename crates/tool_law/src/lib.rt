@@ -3,15 +3,15 @@
 #![tactic(auto)]
 
 ghost use Rattle.std.specs.Prelude.{◌≡◌, ◌<◌, ℕ, true, List, length};
-ghost use Rattle.ec_outside.specs.Port.{HeardGram};
-ghost use Rattle.ec_outside.specs.declared.port.Peer.{Peer};
-ghost use Rattle.ec_outside.specs.declared.port.SentGram.{SentGram};
-ghost use Rattle.mailbox_mail.specs.declared.mail.Mail.{Mail};
-ghost use Rattle.object_dictionary.specs.declared.service.SdoService.{SdoService};
-ghost use Rattle.segment_plan.specs.declared.service.Service.{Service};
-ghost use Rattle.coe_client.specs.Talk.{service_view};
-ghost use Rattle.protocol_models.specs.FoeMeaning as FoeMeaning;
-ghost use Rattle.protocol_models.specs.FoeModel as FoeModel;
+ghost use Rattle.gateway_tool.specs.of_ec_outside.Port.{HeardGram};
+ghost use Rattle.gateway_tool.specs.of_ec_outside.declared.port.Peer.{Peer};
+ghost use Rattle.gateway_tool.specs.of_ec_outside.declared.port.SentGram.{SentGram};
+ghost use Rattle.slave_model.specs.of_mailbox_mail.declared.mail.Mail.{Mail};
+ghost use Rattle.gateway_tool.specs.of_object_dictionary.declared.service.SdoService.{SdoService};
+ghost use Rattle.gateway_tool.specs.of_segment_plan.declared.service.Service.{Service};
+ghost use Rattle.gateway_tool.specs.of_coe_client.Talk.{service_view};
+ghost use Rattle.slave_model.specs.of_protocol_models.FoeMeaning as FoeMeaning;
+ghost use Rattle.slave_model.specs.of_protocol_models.FoeModel as FoeModel;
 ghost use Rattle.slave_model.specs.Profile.{Protocol, Profile, IsProfile, areas_of};
 ghost use Rattle.slave_model.specs.Application.{Parts, ArePartsLawful, station_files};
 ghost use Rattle.slave_model.specs.Server.{Server, seat};

@@ -2,13 +2,13 @@
 use Rattle.std.proofs.Common.{◌≡◌, ℕ, suc, ◌<◌, Bool, true, false, List, [], ◌∷◌, ◌++◌, map, length, refl, ap, sym, ◌∙◌, subst}
 use Rattle.std.specs.Prelude.{if◌then◌else◌}
 use Rattle.std.proofs.lemmas.List.{length-replicate}
-use Rattle.frame_view.specs.View.{Lens}
-use Rattle.frame_view.specs.of_link_mails.Body.{Body}
-use Rattle.whole_ring.specs.of_mailbox_slave.Registers.{in_len}
-use Rattle.frame_view.specs.of_segment_model.Record.{Frame}
-use Rattle.whole_ring.specs.of_segment_ring.Ring.{RingState}
-use Rattle.whole_ring.specs.of_slave_node.Node.{Node}
-use Rattle.frame_view.specs.of_life_model.Lives.{Spot, Life, new_life, gives_up}
+use Rattle.slave_lives.specs.of_frame_view.View.{Lens}
+use Rattle.slave_lives.specs.of_link_mails.Body.{Body}
+use Rattle.slave_lives.specs.of_mailbox_slave.Registers.{in_len}
+use Rattle.slave_lives.specs.of_segment_model.Record.{Frame}
+use Rattle.slave_lives.specs.of_segment_ring.Ring.{RingState}
+use Rattle.slave_lives.specs.of_slave_node.Node.{Node}
+use Rattle.slave_lives.specs.of_life_model.Lives.{Spot, Life, new_life, gives_up}
 use Rattle.whole_ring.specs.Whole.{IsLived}
 use Rattle.whole_ring.proofs.WholeTurning.{begins, given_up}
 use Rattle.whole_ring.specs.Members.{Member, IsElsewhere, AreDistinct, MemberIs, AllLived, IsRing, IsNew, AllNew, first_ring, HandBoots}

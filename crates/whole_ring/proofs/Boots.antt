@@ -1,16 +1,16 @@
 -- A STATE SERVICE in hand asks for Bootstrap only where the slave has it: so it stays by choices, frames and openings.
 use Rattle.std.proofs.Common.{◌≡◌, ℕ, ◌==◌, Bool, true, false, List, [], ◌∷◌, refl, sym, subst}
 use Rattle.std.specs.Prelude.{Option, Some, None, if◌then◌else◌, not, ◌&&◌}
-use Rattle.frame_view.specs.of_exchange_model.Exchange.{Speech}
-use Rattle.frame_view.specs.of_link_model.Segment.{RingFate}
-use Rattle.frame_view.specs.of_segment_model.Ends.{Passing}
-use Rattle.frame_view.specs.of_segment_model.Record.{News, is_for}
-use Rattle.frame_view.specs.of_segment_model.Seats.{Side}
-use Rattle.frame_view.specs.of_segment_model.Slaves.{Datagram, Found}
-use Rattle.frame_view.specs.of_state_model.Stated.{Service}
-use Rattle.frame_view.specs.of_state_model.Accounts.{Pick, Duty, Account, Stage, Progress, starts, is_free, is_acknowledged, state_begins, account_begins, account_met, account_by, account_back, access_done}
-use Rattle.frame_view.specs.of_life_model.Lives.{Spot, Life, Era, Opening, Stand, granted, era_next, era_back, era_after, returns_to_init, reopens, reopens_at, reopening, opens_state, life_next, life_back, life_lost, opening_back, clears, opens, steps_on, shows_clear, last_step, is_shown}
-use Rattle.frame_view.specs.of_life_model.Own.{own}
+use Rattle.slave_lives.specs.of_exchange_model.Exchange.{Speech}
+use Rattle.slave_lives.specs.of_link_model.Segment.{RingFate}
+use Rattle.slave_lives.specs.of_segment_model.Ends.{Passing}
+use Rattle.slave_lives.specs.of_segment_model.Record.{News, is_for}
+use Rattle.slave_lives.specs.of_segment_model.Seats.{Side}
+use Rattle.slave_lives.specs.of_segment_model.Slaves.{Datagram, Found}
+use Rattle.slave_lives.specs.of_state_model.Stated.{Service}
+use Rattle.slave_lives.specs.of_state_model.Accounts.{Pick, Duty, Account, Stage, Progress, starts, is_free, is_acknowledged, state_begins, account_begins, account_met, account_by, account_back, access_done}
+use Rattle.slave_lives.specs.of_life_model.Lives.{Spot, Life, Era, Opening, Stand, granted, era_next, era_back, era_after, returns_to_init, reopens, reopens_at, reopening, opens_state, life_next, life_back, life_lost, opening_back, clears, opens, steps_on, shows_clear, last_step, is_shown}
+use Rattle.slave_lives.specs.of_life_model.Own.{own}
 use Rattle.whole_ring.specs.Members.{HandBoots}
 use Rattle.whole_ring.specs.Turning.{BeginBoots}
 

@@ -2,21 +2,21 @@
 use Rattle.std.proofs.Common.{◌≡◌, ◌⊎◌, inl, inr, ℕ, suc, ◌+◌, ◌%◌, ◌<◌, ◌≤◌, ◌==◌, Bool, true, false, List, [], ◌∷◌, ◌++◌, length, refl, ap, ap₂, sym, ◌∙◌, subst, arith}
 use Rattle.std.specs.Prelude.{if◌then◌else◌, not, Option, Some, None, is_some}
 use Rattle.std.proofs.lemmas.Bool.{ne_eqb}
-use Rattle.frame_view.specs.of_datagrams.declared.command.Command.{Command}
-use Rattle.frame_view.specs.of_datagrams.declared.head.Head.{Head}
-use Rattle.frame_view.specs.of_datagrams.Datagram as Raw
-use Rattle.whole_ring.specs.of_esc_registers.declared.registers.Registers as Esc
-use Rattle.whole_ring.specs.of_esc_registers.declared.row.Row.{Row}
-use Rattle.whole_ring.specs.of_esc_registers.Access.{reads, writes, accessed, read_row, write_row, moved_on, passed_at, is_meant, row_of}
-use Rattle.whole_ring.specs.of_slave_node.Passing.{passed, datagram_after, datagrams_after}
-use Rattle.frame_view.specs.Seen.{datagrams_seen}
-use Rattle.frame_view.specs.View.{Lens, datagram_seen, register_counter, access_of, station_of}
-use Rattle.whole_ring.specs.of_frames_seen.Ring.{all_after, AllApart}
-use Rattle.whole_ring.specs.of_frames_seen.Spoken.{means}
-use Rattle.whole_ring.proofs.of_frames_seen.Owns.{unmoved}
-use Rattle.frame_view.specs.of_segment_model.Slaves.{Access, Found}
-use Rattle.frame_view.specs.of_life_model.Tours.{item_at}
-use Rattle.frame_view.specs.Shares.{came_of}
+use Rattle.slave_lives.specs.of_datagrams.declared.command.Command.{Command}
+use Rattle.slave_lives.specs.of_datagrams.declared.head.Head.{Head}
+use Rattle.slave_lives.specs.of_datagrams.Datagram as Raw
+use Rattle.slave_lives.specs.of_esc_registers.declared.registers.Registers as Esc
+use Rattle.slave_lives.specs.of_esc_registers.declared.row.Row.{Row}
+use Rattle.slave_lives.specs.of_esc_registers.Access.{reads, writes, accessed, read_row, write_row, moved_on, passed_at, is_meant, row_of}
+use Rattle.slave_lives.specs.of_slave_node.Passing.{passed, datagram_after, datagrams_after}
+use Rattle.slave_lives.specs.of_frame_view.Seen.{datagrams_seen}
+use Rattle.slave_lives.specs.of_frame_view.View.{Lens, datagram_seen, register_counter, access_of, station_of}
+use Rattle.slave_lives.specs.of_frames_seen.Ring.{all_after, AllApart}
+use Rattle.slave_lives.specs.of_frames_seen.Spoken.{means}
+use Rattle.slave_lives.proofs.of_frames_seen.Owns.{unmoved}
+use Rattle.slave_lives.specs.of_segment_model.Slaves.{Access, Found}
+use Rattle.slave_lives.specs.of_life_model.Tours.{item_at}
+use Rattle.slave_lives.specs.of_frame_view.Shares.{came_of}
 use Rattle.slave_lives.specs.Opening.{Plan, aim, IsAccess, JustOne}
 use Rattle.slave_lives.specs.Returning.{IsTurn}
 use Rattle.slave_lives.specs.Ways.{AllNotFor, IsOnWay, JustOnWay, Beside, ComesBack}

@@ -2,23 +2,23 @@
 use Rattle.std.proofs.Common.{◌≡◌, ◌⊎◌, inl, inr, ℕ, suc, ◌+◌, ◌-◌, ◌%◌, ◌<◌, ◌==◌, ◌&&◌, Bool, true, false, List, [], ◌∷◌, ◌++◌, length, refl, ap, sym, ◌∙◌, subst, arith}
 use Rattle.std.specs.Prelude.{if◌then◌else◌, ◌||◌, not, slice_index}
 use Rattle.std.proofs.lemmas.Bool.{ne_eqb, eqb-false, eq-eqb}
-use Rattle.frame_view.specs.of_al_state.declared.bringing.BringStep.{BringStep}
-use Rattle.frame_view.specs.of_al_state.declared.bringing.BringUp.{BringUp}
-use Rattle.frame_view.specs.of_al_state.BringUp.{head_of, octets_of}
-use Rattle.frame_view.specs.of_datagrams.declared.command.Command.{Command}
-use Rattle.frame_view.specs.of_datagrams.declared.command.Command.TheVariants.{Aprd, Apwr, Fprd, Fpwr}
-use Rattle.frame_view.specs.of_datagrams.Datagram as Raw
-use Rattle.frame_view.specs.of_datagrams.Frame.{chained, saying, datagram_of}
-use Rattle.whole_ring.specs.of_esc_registers.Access.{is_by_place, is_by_station}
-use Rattle.frame_view.specs.View.{Lens}
-use Rattle.whole_ring.specs.of_frames_seen.Own.{own_of}
-use Rattle.whole_ring.specs.of_frames_seen.Places.{AllElse}
-use Rattle.whole_ring.specs.of_esc_registers.Manager.{is_enabled}
-use Rattle.whole_ring.specs.of_frames_seen.Spoken.{is_spoken, IsSpoken, AllSpoken}
-use Rattle.frame_view.specs.of_life_model.Lives.{Spot, Opening, Stand}
-use Rattle.frame_view.specs.Frames as Frames
-use Rattle.frame_view.specs.Frames.{Share, FrameFor, IsOpenGram, IsRequest}
-use Rattle.frame_view.specs.Openings.{step_number, opening_of, IsOpeningGram}
+use Rattle.slave_lives.specs.of_al_state.declared.bringing.BringStep.{BringStep}
+use Rattle.slave_lives.specs.of_al_state.declared.bringing.BringUp.{BringUp}
+use Rattle.slave_lives.specs.of_al_state.BringUp.{head_of, octets_of}
+use Rattle.slave_lives.specs.of_datagrams.declared.command.Command.{Command}
+use Rattle.slave_lives.specs.of_datagrams.declared.command.Command.TheVariants.{Aprd, Apwr, Fprd, Fpwr}
+use Rattle.slave_lives.specs.of_datagrams.Datagram as Raw
+use Rattle.slave_lives.specs.of_datagrams.Frame.{chained, saying, datagram_of}
+use Rattle.slave_lives.specs.of_esc_registers.Access.{is_by_place, is_by_station}
+use Rattle.slave_lives.specs.of_frame_view.View.{Lens}
+use Rattle.slave_lives.specs.of_frames_seen.Own.{own_of}
+use Rattle.slave_lives.specs.of_frames_seen.Places.{AllElse}
+use Rattle.slave_lives.specs.of_esc_registers.Manager.{is_enabled}
+use Rattle.slave_lives.specs.of_frames_seen.Spoken.{is_spoken, IsSpoken, AllSpoken}
+use Rattle.slave_lives.specs.of_life_model.Lives.{Spot, Opening, Stand}
+use Rattle.slave_lives.specs.of_frame_view.Frames as Frames
+use Rattle.slave_lives.specs.of_frame_view.Frames.{Share, FrameFor, IsOpenGram, IsRequest}
+use Rattle.slave_lives.specs.of_frame_view.Openings.{step_number, opening_of, IsOpeningGram}
 use Rattle.slave_lives.specs.Opening.{Plan}
 use Rattle.slave_lives.specs.Stands.{turn_of}
 use Rattle.slave_lives.specs.Seats.{ComesAs}

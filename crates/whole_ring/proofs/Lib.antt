@@ -1,5 +1,7 @@
-pub use Rattle.slave_lives.proofs as of_slave_lives
+pub use Rattle.slave_lives.proofs.of_frame_view as of_frame_view
 pub use Rattle.slave_lives.proofs.of_frames_seen as of_frames_seen
+pub use Rattle.slave_lives.proofs.of_life_model as of_life_model
+pub use Rattle.slave_lives.proofs as of_slave_lives
 pub mod Begins
 pub mod Boots
 pub mod Came

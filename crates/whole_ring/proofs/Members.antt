@@ -1,20 +1,20 @@
 -- ALL SLAVES OF THE RING by a frame: all lives are lived on.
 use Rattle.std.proofs.Common.{◌≡◌, ℕ, suc, ◌+◌, ◌<◌, ◌==◌, Bool, List, [], ◌∷◌, ◌++◌, map, length, refl, ap, ap₂, sym, ◌∙◌, subst, arith, length-append}
 use Rattle.std.specs.Prelude.{if◌then◌else◌}
-use Rattle.frame_view.specs.of_datagrams.Datagram as Raw
-use Rattle.frame_view.specs.of_datagrams.Frame.{IsFrame, chained}
-use Rattle.whole_ring.specs.of_slave_node.Passing.{datagrams_after}
-use Rattle.frame_view.specs.View.{Lens}
-use Rattle.frame_view.specs.of_link_mails.Body.{Body}
-use Rattle.frame_view.specs.of_segment_model.Record.{Frame}
-use Rattle.whole_ring.specs.of_segment_ring.declared.wire.Fate.{Fate}
-use Rattle.whole_ring.specs.of_segment_ring.Ring.{RingState, is_in_pace, nodes_stepped, frame_met, ring_behind}
-use Rattle.whole_ring.specs.of_segment_ring.Schedule.{fate_at}
-use Rattle.whole_ring.specs.of_slave_node.Node.{Node, node_passed}
-use Rattle.frame_view.specs.of_life_model.Lives.{Spot, Stand}
-use Rattle.frame_view.specs.Frames.{FrameFor}
-use Rattle.frame_view.specs.Shares.{Asked}
-use Rattle.whole_ring.specs.of_mailbox_slave.Registers.{in_len}
+use Rattle.slave_lives.specs.of_datagrams.Datagram as Raw
+use Rattle.slave_lives.specs.of_datagrams.Frame.{IsFrame, chained}
+use Rattle.slave_lives.specs.of_slave_node.Passing.{datagrams_after}
+use Rattle.slave_lives.specs.of_frame_view.View.{Lens}
+use Rattle.slave_lives.specs.of_link_mails.Body.{Body}
+use Rattle.slave_lives.specs.of_segment_model.Record.{Frame}
+use Rattle.slave_lives.specs.of_segment_ring.declared.wire.Fate.{Fate}
+use Rattle.slave_lives.specs.of_segment_ring.Ring.{RingState, is_in_pace, nodes_stepped, frame_met, ring_behind}
+use Rattle.slave_lives.specs.of_segment_ring.Schedule.{fate_at}
+use Rattle.slave_lives.specs.of_slave_node.Node.{Node, node_passed}
+use Rattle.slave_lives.specs.of_life_model.Lives.{Spot, Stand}
+use Rattle.slave_lives.specs.of_frame_view.Frames.{FrameFor}
+use Rattle.slave_lives.specs.of_frame_view.Shares.{Asked}
+use Rattle.slave_lives.specs.of_mailbox_slave.Registers.{in_len}
 use Rattle.slave_lives.specs.Lived.{Behind, RingFrame, node_behind}
 use Rattle.slave_lives.specs.Nodes.{stepped}
 use Rattle.slave_lives.specs.Opening.{Plan, IsPlan}

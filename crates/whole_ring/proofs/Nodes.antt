@@ -1,12 +1,12 @@
 -- THE NODES OF A RING behind a frame: each met the datagrams as those before it left them, where the frame came so far.
 use Rattle.std.proofs.Common.{◌≡◌, ℕ, zero, suc, Bool, true, false, List, [], ◌∷◌, length, refl, ap, sym, ◌∙◌}
-use Rattle.frame_view.specs.of_datagrams.Datagram as Raw
-use Rattle.frame_view.specs.of_datagrams.Frame.{IsFrame}
-use Rattle.whole_ring.specs.of_slave_node.Passing.{datagrams_after}
-use Rattle.whole_ring.specs.of_segment_ring.declared.wire.Fate.{Fate}
-use Rattle.whole_ring.specs.of_segment_ring.declared.wire.Fate.TheVariants.{Pass, Lost}
-use Rattle.whole_ring.specs.of_segment_ring.Ring.{nodes_passed, frame_met}
-use Rattle.whole_ring.specs.of_slave_node.Node.{Node, node_passed}
+use Rattle.slave_lives.specs.of_datagrams.Datagram as Raw
+use Rattle.slave_lives.specs.of_datagrams.Frame.{IsFrame}
+use Rattle.slave_lives.specs.of_slave_node.Passing.{datagrams_after}
+use Rattle.slave_lives.specs.of_segment_ring.declared.wire.Fate.{Fate}
+use Rattle.slave_lives.specs.of_segment_ring.declared.wire.Fate.TheVariants.{Pass, Lost}
+use Rattle.slave_lives.specs.of_segment_ring.Ring.{nodes_passed, frame_met}
+use Rattle.slave_lives.specs.of_slave_node.Node.{Node, node_passed}
 use Rattle.slave_lives.specs.Rings.{is_among, is_met_at, met}
 use Rattle.slave_lives.proofs.RingFrames.{node_is, node_frame}
 

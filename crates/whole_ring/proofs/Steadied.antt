@@ -1,22 +1,22 @@
 -- TURN BY TURN, by registers, accounts and frames alone.
 use Rattle.std.proofs.Common.{◌≡◌, ℕ, List, [], ◌∷◌, ◌++◌, length, refl, ap, sym, ◌∙◌, subst}
 use Rattle.std.specs.Prelude.{⊤}
-use Rattle.exchange_model.specs.Exchange.{Exchange}
-use Rattle.life_model.specs.Eras.{EraIs, planned}
-use Rattle.life_model.specs.Lives.{Spot, Era}
-use Rattle.link_model.specs.Segment.{RingFate}
-use Rattle.segment_model.specs.Laws.{EachSeat}
-use Rattle.segment_model.specs.Record.{Frame}
-use Rattle.segment_model.specs.Seats.{Seat, Planned, IsFrame, ring_of, sides_of, seat_next, seats_next, seat_back, seats_after, side_lost, seat_steps, new_seats}
-use Rattle.segment_model.specs.Slaves.{Registers, Processor, Slave, Datagram, Ring, slave_after, frame_after, ring_back}
-use Rattle.state_model.specs.Stated.{Stated}
-use Rattle.state_model.specs.States.{Table}
-use Rattle.state_model.specs.Accounts.{Account, Pick, mails_choice, account_next, account_back}
-use Rattle.state_model.specs.Steady.{AsksNoInit, IsSteady, NoneToInit, HandToInit}
-use Rattle.state_model.specs.Tasks.{TaskTurn, TaskSession, AreServed, MayRun, mails_choices, accounts_next, accounts_after, happens, run, new_accounts, new_tasks}
-use Rattle.state_model.proofs.Steadies.{steady}
-use Rattle.state_model.proofs.Turns.{IsStately, next_is, back_is, lost_is, missed_is, step_is, new_is}
-use Rattle.state_model.proofs.Walks.{EachOne, IsPlaced, AllApart, SeatMet, seats_apart, all_apart, all_reach, each_map, each_next, each_back, each_lost, each_steps}
+use Rattle.slave_lives.specs.of_exchange_model.Exchange.{Exchange}
+use Rattle.slave_lives.specs.of_life_model.Eras.{EraIs, planned}
+use Rattle.slave_lives.specs.of_life_model.Lives.{Spot, Era}
+use Rattle.slave_lives.specs.of_link_model.Segment.{RingFate}
+use Rattle.slave_lives.specs.of_segment_model.Laws.{EachSeat}
+use Rattle.slave_lives.specs.of_segment_model.Record.{Frame}
+use Rattle.slave_lives.specs.of_segment_model.Seats.{Seat, Planned, IsFrame, ring_of, sides_of, seat_next, seats_next, seat_back, seats_after, side_lost, seat_steps, new_seats}
+use Rattle.slave_lives.specs.of_segment_model.Slaves.{Registers, Processor, Slave, Datagram, Ring, slave_after, frame_after, ring_back}
+use Rattle.slave_lives.specs.of_state_model.Stated.{Stated}
+use Rattle.slave_lives.specs.of_state_model.States.{Table}
+use Rattle.slave_lives.specs.of_state_model.Accounts.{Account, Pick, mails_choice, account_next, account_back}
+use Rattle.slave_lives.specs.of_state_model.Steady.{AsksNoInit, IsSteady, NoneToInit, HandToInit}
+use Rattle.slave_lives.specs.of_state_model.Tasks.{TaskTurn, TaskSession, AreServed, MayRun, mails_choices, accounts_next, accounts_after, happens, run, new_accounts, new_tasks}
+use Rattle.slave_lives.proofs.of_state_model.Steadies.{steady}
+use Rattle.slave_lives.proofs.of_state_model.Turns.{IsStately, next_is, back_is, lost_is, missed_is, step_is, new_is}
+use Rattle.slave_lives.proofs.of_state_model.Walks.{EachOne, IsPlaced, AllApart, SeatMet, seats_apart, all_apart, all_reach, each_map, each_next, each_back, each_lost, each_steps}
 
 module _ {V A M Q R : Type 0} (x : Exchange V A M Q R) (s : Stated V A Q) (processor : Processor V) (table : ℕ → Table) where
   -- WHAT IS KEPT of a slave: its registers go with its account, and it began with the server of its plan

@@ -1,26 +1,26 @@
 -- ONE SLAVE OF THE RING by a frame: its life is lived on.
 use Rattle.std.proofs.Common.{◌≡◌, ◌⊎◌, inl, inr, ℕ, suc, ◌+◌, ◌<◌, ◌==◌, Bool, true, false, List, [], ◌∷◌, ◌++◌, length, refl, ap, ap₂, sym, ◌∙◌, subst, arith}
 use Rattle.std.specs.Prelude.{Option, Some, None, not, ⊤}
-use Rattle.frame_view.specs.of_datagrams.Datagram as Raw
-use Rattle.frame_view.specs.of_datagrams.Frame.{chained}
-use Rattle.whole_ring.specs.of_slave_node.Passing.{datagram_after, datagrams_after}
-use Rattle.frame_view.specs.View.{datagram_seen}
-use Rattle.frame_view.specs.Seen.{seen, datagrams_seen}
-use Rattle.frame_view.proofs.Octets as Octets
-use Rattle.whole_ring.specs.of_frames_seen.Ring.{all_after, AllApart}
-use Rattle.frame_view.specs.of_link_mails.Body.{Body}
-use Rattle.frame_view.specs.of_link_model.Segment.{RingFate}
-use Rattle.whole_ring.specs.of_mailbox_slave.Registers.{in_len}
-use Rattle.frame_view.specs.of_segment_model.Record.{Frame}
-use Rattle.frame_view.specs.of_segment_model.Slaves.{Datagram, Found}
-use Rattle.whole_ring.specs.of_segment_ring.declared.wire.Fate.{Fate}
-use Rattle.whole_ring.specs.of_segment_ring.declared.wire.Fate.TheVariants.{Pass, Lost}
-use Rattle.whole_ring.specs.of_slave_node.Node.{Node}
-use Rattle.frame_view.specs.of_life_model.Eras.{Clearing}
-use Rattle.frame_view.specs.of_life_model.Lives.{Spot, Life, Era, Opening, Stand, AsksOpen, life_next}
-use Rattle.frame_view.specs.of_life_model.Tours.{item_at}
-use Rattle.frame_view.specs.Frames.{FrameFor}
-use Rattle.frame_view.specs.Shares.{Asked, came_at, came_of}
+use Rattle.slave_lives.specs.of_datagrams.Datagram as Raw
+use Rattle.slave_lives.specs.of_datagrams.Frame.{chained}
+use Rattle.slave_lives.specs.of_slave_node.Passing.{datagram_after, datagrams_after}
+use Rattle.slave_lives.specs.of_frame_view.View.{datagram_seen}
+use Rattle.slave_lives.specs.of_frame_view.Seen.{seen, datagrams_seen}
+use Rattle.slave_lives.proofs.of_frame_view.Octets as Octets
+use Rattle.slave_lives.specs.of_frames_seen.Ring.{all_after, AllApart}
+use Rattle.slave_lives.specs.of_link_mails.Body.{Body}
+use Rattle.slave_lives.specs.of_link_model.Segment.{RingFate}
+use Rattle.slave_lives.specs.of_mailbox_slave.Registers.{in_len}
+use Rattle.slave_lives.specs.of_segment_model.Record.{Frame}
+use Rattle.slave_lives.specs.of_segment_model.Slaves.{Datagram, Found}
+use Rattle.slave_lives.specs.of_segment_ring.declared.wire.Fate.{Fate}
+use Rattle.slave_lives.specs.of_segment_ring.declared.wire.Fate.TheVariants.{Pass, Lost}
+use Rattle.slave_lives.specs.of_slave_node.Node.{Node}
+use Rattle.slave_lives.specs.of_life_model.Eras.{Clearing}
+use Rattle.slave_lives.specs.of_life_model.Lives.{Spot, Life, Era, Opening, Stand, AsksOpen, life_next}
+use Rattle.slave_lives.specs.of_life_model.Tours.{item_at}
+use Rattle.slave_lives.specs.of_frame_view.Frames.{FrameFor}
+use Rattle.slave_lives.specs.of_frame_view.Shares.{Asked, came_at, came_of}
 use Rattle.slave_lives.specs.Lived.{Behind, RingFrame, fate_of, is_reached, node_met, node_behind, frame_of, returned}
 use Rattle.slave_lives.specs.Nodes.{IsRunning, IsRoomy}
 use Rattle.slave_lives.specs.Opening.{Plan, IsPlan, JustOne}

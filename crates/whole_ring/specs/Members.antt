@@ -1,14 +1,14 @@
 -- A RING OF SLAVES, each with its services, its plan, its life and its node: what holds between all of them and the frames so far.
 use Rattle.std.specs.Prelude.{◌≡◌, ℕ, suc, ◌<◌, ◌==◌, Bool, true, false, Option, Some, None, List, [], ◌∷◌, map, length, ⊤}
-use Rattle.frame_view.specs.View.{Lens}
-use Rattle.frame_view.specs.of_link_mails.Body.{Body}
-use Rattle.whole_ring.specs.of_mailbox_slave.Registers.{in_len}
-use Rattle.frame_view.specs.of_segment_model.Record.{Frame}
-use Rattle.whole_ring.specs.of_segment_ring.Ring.{RingState}
-use Rattle.whole_ring.specs.of_slave_node.Node.{Node, new_node}
-use Rattle.frame_view.specs.of_state_model.Accounts.{Duty}
-use Rattle.frame_view.specs.of_life_model.Eras.{Clearing}
-use Rattle.frame_view.specs.of_life_model.Lives.{Spot, Life, new_life}
+use Rattle.slave_lives.specs.of_frame_view.View.{Lens}
+use Rattle.slave_lives.specs.of_link_mails.Body.{Body}
+use Rattle.slave_lives.specs.of_mailbox_slave.Registers.{in_len}
+use Rattle.slave_lives.specs.of_segment_model.Record.{Frame}
+use Rattle.slave_lives.specs.of_segment_ring.Ring.{RingState}
+use Rattle.slave_lives.specs.of_slave_node.Node.{Node, new_node}
+use Rattle.slave_lives.specs.of_state_model.Accounts.{Duty}
+use Rattle.slave_lives.specs.of_life_model.Eras.{Clearing}
+use Rattle.slave_lives.specs.of_life_model.Lives.{Spot, Life, new_life}
 use Rattle.slave_lives.specs.Lived.{Behind}
 use Rattle.slave_lives.specs.Nodes.{GivesPlaced, stepped}
 use Rattle.slave_lives.specs.Opening.{Plan}

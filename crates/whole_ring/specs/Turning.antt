@@ -1,21 +1,21 @@
 -- ONE EXCHANGE OF A FRAME of the master, for all slaves of a ring and their lives.
 use Rattle.std.specs.Prelude.{◌≡◌, ℕ, suc, Bool, true, if◌then◌else◌, Option, Some, None, List, [], ◌∷◌, ⊤}
-use Rattle.frame_view.specs.of_datagrams.Datagram as Raw
-use Rattle.whole_ring.specs.of_slave_node.Passing.{datagrams_after}
-use Rattle.frame_view.specs.View.{Lens}
-use Rattle.frame_view.specs.Seen.{seen}
-use Rattle.frame_view.specs.of_link_mails.Body.{Body}
-use Rattle.frame_view.specs.of_link_model.Segment.{RingFate}
-use Rattle.frame_view.specs.of_segment_model.Record.{Frame, News}
-use Rattle.whole_ring.specs.of_segment_ring.declared.wire.Fate.{Fate}
-use Rattle.whole_ring.specs.of_segment_ring.Ring.{RingState, ring_returned}
-use Rattle.whole_ring.specs.of_segment_ring.Schedule.{fate_at}
-use Rattle.whole_ring.specs.of_slave_node.Node.{Node, node_passed}
-use Rattle.frame_view.specs.of_state_model.Stated.{Service}
-use Rattle.frame_view.specs.of_state_model.Accounts.{Pick}
-use Rattle.frame_view.specs.of_life_model.Lives.{Spot, Life, life_next, life_back, life_lost, gives_up}
-use Rattle.frame_view.specs.Frames.{Share}
-use Rattle.frame_view.specs.Shares.{Asked, came_at}
+use Rattle.slave_lives.specs.of_datagrams.Datagram as Raw
+use Rattle.slave_lives.specs.of_slave_node.Passing.{datagrams_after}
+use Rattle.slave_lives.specs.of_frame_view.View.{Lens}
+use Rattle.slave_lives.specs.of_frame_view.Seen.{seen}
+use Rattle.slave_lives.specs.of_link_mails.Body.{Body}
+use Rattle.slave_lives.specs.of_link_model.Segment.{RingFate}
+use Rattle.slave_lives.specs.of_segment_model.Record.{Frame, News}
+use Rattle.slave_lives.specs.of_segment_ring.declared.wire.Fate.{Fate}
+use Rattle.slave_lives.specs.of_segment_ring.Ring.{RingState, ring_returned}
+use Rattle.slave_lives.specs.of_segment_ring.Schedule.{fate_at}
+use Rattle.slave_lives.specs.of_slave_node.Node.{Node, node_passed}
+use Rattle.slave_lives.specs.of_state_model.Stated.{Service}
+use Rattle.slave_lives.specs.of_state_model.Accounts.{Pick}
+use Rattle.slave_lives.specs.of_life_model.Lives.{Spot, Life, life_next, life_back, life_lost, gives_up}
+use Rattle.slave_lives.specs.of_frame_view.Frames.{Share}
+use Rattle.slave_lives.specs.of_frame_view.Shares.{Asked, came_at}
 use Rattle.slave_lives.specs.Lived.{Behind}
 use Rattle.slave_lives.specs.Rings.{fate_seen, is_met_at, met, turned}
 use Rattle.whole_ring.specs.Members.{Member}

@@ -1,22 +1,22 @@
 //! All slaves of a ring, their lives and the frames so far. No running code: each function here does nothing, and its contract states a law.
 #![tactic(auto)]
 
-ghost use Rattle.frame_view.specs.of_datagrams.Datagram as Raw;
-ghost use Rattle.frame_view.specs.of_datagrams.Frame.{IsFrame, chained};
-ghost use Rattle.frame_view.specs.of_exchange_model.Exchange.{IsLawful};
-ghost use Rattle.frame_view.specs.View.{Lens};
-ghost use Rattle.frame_view.specs.of_life_model.Eras.{Eras};
-ghost use Rattle.frame_view.specs.of_life_model.Lives.{Spot, Stand};
-ghost use Rattle.frame_view.specs.of_link_mails.Body.{Body};
-ghost use Rattle.frame_view.specs.of_segment_model.Record.{Frame};
+ghost use Rattle.slave_lives.specs.of_datagrams.Datagram as Raw;
+ghost use Rattle.slave_lives.specs.of_datagrams.Frame.{IsFrame, chained};
+ghost use Rattle.slave_lives.specs.of_exchange_model.Exchange.{IsLawful};
+ghost use Rattle.slave_lives.specs.of_frame_view.View.{Lens};
+ghost use Rattle.slave_lives.specs.of_life_model.Eras.{Eras};
+ghost use Rattle.slave_lives.specs.of_life_model.Lives.{Spot, Stand};
+ghost use Rattle.slave_lives.specs.of_link_mails.Body.{Body};
+ghost use Rattle.slave_lives.specs.of_segment_model.Record.{Frame};
 ghost use Rattle.slave_lives.specs.Lived.{table_of};
 ghost use Rattle.std.specs.Prelude.{◌≡◌, ◌<◌, ◌∷◌, ◌++◌, ℕ, Bool, List, [], length};
 ghost use Rattle.whole_ring.specs.Members.{Member, MemberIs, AreDistinct, IsRing, AllNew, Passes, first_ring};
 ghost use Rattle.whole_ring.specs.Promises.{IsPromised};
 ghost use Rattle.whole_ring.specs.Turning.{Turn, AllTurn, frame_at, behind_frame, given_up};
-ghost use Rattle.whole_ring.specs.of_segment_ring.Ring.{RingState, ring_behind};
-ghost use Rattle.whole_ring.specs.of_segment_ring.Schedule.{fate_at};
-ghost use Rattle.whole_ring.specs.of_slave_node.Node.{Node, node_passed};
+ghost use Rattle.slave_lives.specs.of_segment_ring.Ring.{RingState, ring_behind};
+ghost use Rattle.slave_lives.specs.of_segment_ring.Schedule.{fate_at};
+ghost use Rattle.slave_lives.specs.of_slave_node.Node.{Node, node_passed};
 
 pub mod steady_eras;
 pub mod whole_lives;

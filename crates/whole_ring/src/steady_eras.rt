@@ -2,14 +2,14 @@
 //! contract states the law.
 
 ghost use Rattle.std.specs.Prelude.{ℕ, List};
-ghost use Rattle.exchange_model.specs.Exchange.{Exchange};
-ghost use Rattle.life_model.specs.Eras.{EraIs};
-ghost use Rattle.life_model.specs.Lives.{Spot, Era};
-ghost use Rattle.segment_model.specs.Record.{Frame};
-ghost use Rattle.segment_model.specs.Slaves.{Registers, Processor, Slave};
-ghost use Rattle.state_model.specs.Stated.{Stated};
-ghost use Rattle.state_model.specs.States.{Table};
-ghost use Rattle.state_model.specs.Steady.{AsksNoInit, IsSteady};
+ghost use Rattle.slave_lives.specs.of_exchange_model.Exchange.{Exchange};
+ghost use Rattle.slave_lives.specs.of_life_model.Eras.{EraIs};
+ghost use Rattle.slave_lives.specs.of_life_model.Lives.{Spot, Era};
+ghost use Rattle.slave_lives.specs.of_segment_model.Record.{Frame};
+ghost use Rattle.slave_lives.specs.of_segment_model.Slaves.{Registers, Processor, Slave};
+ghost use Rattle.slave_lives.specs.of_state_model.Stated.{Stated};
+ghost use Rattle.slave_lives.specs.of_state_model.States.{Table};
+ghost use Rattle.slave_lives.specs.of_state_model.Steady.{AsksNoInit, IsSteady};
 
 /// AN EPOCH IN WHICH NO STATE SERVICE ASKS FOR INIT leaves its slave in another state, also of an exchange that owes no laws: by its registers, its account and
 /// the frames alone.

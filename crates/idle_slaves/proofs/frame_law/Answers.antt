@@ -1,6 +1,6 @@
 use Rattle.std.proofs.Common.{subst, sym, ap, ◌∙◌}
-use Rattle.life_model.specs.Gains.{gains}
-use Rattle.life_model.specs.Lives.{life_back}
+use Rattle.plan_ring.specs.of_life_model.Gains.{gains}
+use Rattle.plan_ring.specs.of_life_model.Lives.{life_back}
 use Rattle.idle_slaves.specs.Waiting.{memory_behind, tried}
 use Rattle.idle_slaves.specs.Visited.{Waiting, life_visit, memory_of}
 use Rattle.idle_slaves.proofs.Choosing.{chosen}

@@ -1,6 +1,6 @@
 use Rattle.std.proofs.Common.{◌≡◌, None, sym, ◌∙◌, subst}
-use Rattle.eoe.specs.Joining.{joins}
-use Rattle.exchange_model.specs.Prefix.{IsPrefixOf}
+use Rattle.master_node.specs.of_eoe.Joining.{joins}
+use Rattle.slave_server.specs.of_exchange_model.Prefix.{IsPrefixOf}
 use Rattle.master_node.specs.of_master_hand.Joins.{fragment_in}
 use Rattle.packets_heard.specs.Packets.{octets_of, parts, wholes}
 use Rattle.packets_heard.proofs.PacketParts.{joined_first, joined_all}

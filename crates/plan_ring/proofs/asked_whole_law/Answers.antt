@@ -1,10 +1,10 @@
 use Rattle.std.proofs.Common.{refl}
-use Rattle.run_frames.specs.of_life_runs.of_master_hand.Spoken.{hand_speech, acknowledged}
-use Rattle.slave_parts.specs.of_slave_model.Acknowledged as Slave
-use Rattle.slave_parts.specs.of_slave_model.Product.{product}
-use Rattle.slave_parts.specs.of_slave_model.Profile.{areas_of}
-use Rattle.slave_parts.specs.Parts.{parts}
-use Rattle.slave_parts.specs.of_state_model.Families.{states_of}
+use Rattle.run_frames.specs.of_master_hand.Spoken.{hand_speech, acknowledged}
+use Rattle.slave_server.specs.of_slave_model.Acknowledged as Slave
+use Rattle.slave_server.specs.of_slave_model.Product.{product}
+use Rattle.slave_server.specs.of_slave_model.Profile.{areas_of}
+use Rattle.slave_server.specs.of_slave_parts.Parts.{parts}
+use Rattle.slave_server.specs.of_state_model.Families.{states_of}
 use Rattle.plan_ring.proofs.Named.{named_stated}
 use Rattle.plan_ring.specs.Asked.{as_asked}
 use Rattle.plan_ring.proofs.Asked as Its

@@ -1,4 +1,4 @@
-use Rattle.life_runs.specs.First.{first_leads, lens_of}
+use Rattle.run_promises.specs.of_life_runs.First.{first_leads, lens_of}
 use Rattle.promised_run.proofs.Bounded.{bounded}
 use Rattle.promised_run.proofs.Overs.{promised}
 use Rattle.run_promises.proofs.Known.{known}

@@ -1,9 +1,9 @@
 use Rattle.std.proofs.Common.{◌≡◌, subst, arith}
 use Rattle.std.specs.Prelude.{◌≤◌, ◌<◌, ◌+◌, ◌*◌, length}
-use Rattle.life_model.specs.Tally.{Counted, new_tally}
+use Rattle.life_runs.specs.of_life_model.Tally.{Counted, new_tally}
 use Rattle.life_runs.specs.First.{lens_of, first_leads}
 use Rattle.life_runs.specs.Led.{speech_at, is_passed}
-use Rattle.link_mails.specs.Body.{Body}
+use Rattle.life_runs.specs.of_link_mails.Body.{Body}
 use Rattle.life_runs.specs.of_master_duty.Reply.{Reply}
 use Rattle.life_runs.specs.of_master_hand.Spoken.{Asked, acknowledged, is_followed}
 use Rattle.life_runs.specs.of_segment_plan.Bound.{slowest}

@@ -1,5 +1,5 @@
 use Rattle.run_promises.specs.Promise.{slaves_behind}
-use Rattle.plan_ring.specs.Round.{ring_of}
+use Rattle.served_rings.specs.of_plan_ring.Round.{ring_of}
 use Rattle.run_promises.proofs.Gones.{givens}
 use Rattle.run_promises.proofs.Known.{known}
 use Rattle.run_promises.proofs.Rounds.{first_round}

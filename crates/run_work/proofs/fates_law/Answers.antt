@@ -1,5 +1,5 @@
 use Rattle.plan_ring.specs.Round.{ring_of}
-use Rattle.run_frames.proofs.Fated.{few_lost}
+use Rattle.plan_ring.proofs.of_run_frames.Fated.{few_lost}
 use Rattle.run_work.proofs.Rounds.{round_fated}
 use Rattle.run_work.proofs.fates_law.Goals as goal
 

@@ -1,7 +1,7 @@
 use Rattle.std.proofs.Common.{◌≡◌, ◌+◌, ◌-◌, ◌*◌, ◌<◌, length, subst, arith}
 use Rattle.life_counts.specs.Split.{own_work}
-use Rattle.run_frames.specs.Begun.{work_in}
-use Rattle.segment_plan.specs.Bound.{services_work, host_work, slowest}
+use Rattle.plan_ring.specs.of_run_frames.Begun.{work_in}
+use Rattle.life_counts.specs.of_segment_plan.Bound.{services_work, host_work, slowest}
 use Rattle.run_work.specs.Switched.{cuts_begun}
 use Rattle.run_work.specs.Together.{packets_begun}
 use Rattle.run_work.proofs.run_bound.Goals as goal

@@ -1,4 +1,4 @@
-use Rattle.run_frames.specs.of_life_runs.First.{lens_of}
+use Rattle.plan_ring.specs.of_life_runs.First.{lens_of}
 use Rattle.plan_ring.specs.Round.{all_seen}
 use Rattle.run_work.proofs.Opened.{led_unopened}
 use Rattle.run_work.proofs.Runs.{all_gain}

@@ -1,4 +1,4 @@
-use Rattle.run_frames.specs.of_life_runs.First.{lens_of}
+use Rattle.plan_ring.specs.of_life_runs.First.{lens_of}
 use Rattle.life_counts.specs.Split.{own_work}
 use Rattle.run_work.proofs.Packets.{begun_parts}
 use Rattle.run_work.proofs.Reopened.{led_came}

@@ -1,7 +1,7 @@
-use Rattle.run_frames.specs.of_life_runs.First.{lens_of, first_leads}
+use Rattle.plan_ring.specs.of_life_runs.First.{lens_of, first_leads}
 use Rattle.plan_ring.specs.Round.{ring_of}
-use Rattle.frames_seen.proofs.Returned as Returned
-use Rattle.segment_plan.specs.Bound.{slowest}
+use Rattle.plan_ring.proofs.of_frames_seen.Returned as Returned
+use Rattle.life_counts.specs.of_segment_plan.Bound.{slowest}
 use Rattle.run_work.proofs.Rounds.{frames_returned, toured_framed}
 use Rattle.run_work.proofs.tallied_law.Goals as goal
 

@@ -1,6 +1,6 @@
-use Rattle.life_runs.specs.First.{first_leads, lens_of}
-use Rattle.plan_ring.specs.Round.{all_seen}
-use Rattle.plan_ring.proofs.Known.{macs_in}
+use Rattle.served_places.specs.of_life_runs.First.{first_leads, lens_of}
+use Rattle.run_work.specs.of_plan_ring.Round.{all_seen}
+use Rattle.run_work.proofs.of_plan_ring.Known.{macs_in}
 use Rattle.run_work.proofs.Placed.{all_fresh}
 use Rattle.served_rings.proofs.Whole.{all_served}
 use Rattle.served_rings.proofs.served_lives_law.Goals as goal

@@ -1,5 +1,5 @@
-use Rattle.segment_plan.specs.declared.service.Service.{Service}
-use Rattle.coe_client.specs.Talk.{service_view}
+use Rattle.gateway_tool.specs.of_segment_plan.declared.service.Service.{Service}
+use Rattle.gateway_tool.specs.of_coe_client.Talk.{service_view}
 use Rattle.slave_model.specs.Profile.{Protocol, areas_of}
 use Rattle.tool_law.specs.Slave.{slave_exchange}
 use Rattle.tool_law.proofs.Concluding.{concluded}

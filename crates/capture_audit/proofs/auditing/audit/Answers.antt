@@ -1,6 +1,6 @@
 use Rattle.std.proofs.Common.{List, sym, subst, false}
 use Rattle.std.specs.Prelude.{All}
-use Rattle.pcap_frames.specs.declared.capture.PacketAt.{PacketAt}
+use Rattle.capture_view.specs.of_pcap_frames.declared.capture.PacketAt.{PacketAt}
 use Rattle.capture_view.specs.View.{IsWithin}
 use Rattle.capture_view.proofs.Within.{packets_within}
 use Rattle.capture_audit.specs.Exchanges.{exchanges}

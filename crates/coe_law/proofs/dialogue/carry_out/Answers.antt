@@ -1,5 +1,5 @@
 use Rattle.std.proofs.Common.{◌≡◌, Some, List, [], ◌∷◌, ◌++◌, ◌≤◌, length, sym, ap, subst, ◌∙◌, arith, length-append}
-use Rattle.protocol_models.specs.CoeMails.{CoeMail}
+use Rattle.coe_client.specs.of_protocol_models.CoeMails.{CoeMail}
 use Rattle.coe_client.specs.Talk.{service_view}
 use Rattle.coe_law.specs.Talks.{emission_mails, areas_of, server_at, Hears, IsAwaited}
 use Rattle.coe_law.proofs.Hearing.{is_complete}

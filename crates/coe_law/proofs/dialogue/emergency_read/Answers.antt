@@ -1,6 +1,6 @@
 use Rattle.std.proofs.Common.{Result, sym, ap, ◌∙◌}
-use Rattle.protocol_models.specs.CoeMails.{Coe, CoeFault, is_emission}
-use Rattle.protocol_models.specs.CoeOctets.{heard}
+use Rattle.coe_client.specs.of_protocol_models.CoeMails.{Coe, CoeFault, is_emission}
+use Rattle.coe_client.specs.of_protocol_models.CoeOctets.{heard}
 use Rattle.coe_law.proofs.dialogue.emergency_read.Goals as goal
 
 pub returns-in-Ok-clause-none : goal.returns-in-Ok-clause-none

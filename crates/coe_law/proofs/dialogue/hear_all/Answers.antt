@@ -1,8 +1,8 @@
 use Rattle.std.proofs.Common.{List, [], ◌∷◌, ◌++◌, subst, ap, arith, ◌∙◌}
-use Rattle.exchange_model.specs.Areas.{Areas}
-use Rattle.exchange_model.specs.Exchange.{plain}
-use Rattle.protocol_models.specs.CoeMails.{CoeMail, is_emission}
-use Rattle.protocol_models.specs.CoeOctets.{coe_mail_heard}
+use Rattle.coe_client.specs.of_exchange_model.Areas.{Areas}
+use Rattle.coe_client.specs.of_exchange_model.Exchange.{plain}
+use Rattle.coe_client.specs.of_protocol_models.CoeMails.{CoeMail, is_emission}
+use Rattle.coe_client.specs.of_protocol_models.CoeOctets.{coe_mail_heard}
 use Rattle.coe_server.specs.Serving.{waiting_mails}
 use Rattle.coe_law.specs.Talks.{emission_mails, IsAwaited}
 use Rattle.coe_law.proofs.Hearing.{carried_is, one_more, few_left, emerged, awaited_behind, hears_more, first_given}

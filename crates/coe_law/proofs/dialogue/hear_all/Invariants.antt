@@ -1,6 +1,6 @@
 use Rattle.std.proofs.Common.{◌≡◌, List, ◌++◌, length}
-use Rattle.exchange_model.specs.Exchange.{plain, emitted}
-use Rattle.protocol_models.specs.CoeMails.{CoeMail, is_emission}
+use Rattle.coe_client.specs.of_exchange_model.Exchange.{plain, emitted}
+use Rattle.coe_client.specs.of_protocol_models.CoeMails.{CoeMail, is_emission}
 use Rattle.coe_server.specs.Serving.{transfer_of, waiting_mails}
 use Rattle.coe_law.specs.Mailboxes.{lengths_of}
 use Rattle.coe_law.specs.Talks.{emission_mails, Hears}

@@ -1,10 +1,10 @@
-use Rattle.ec_outside.specs.Faults.{Rose}
+use Rattle.gateway_stream.specs.of_ec_outside.Faults.{Rose}
 use Rattle.std.proofs.Common.{◌∙◌}
-use Rattle.ecmbx_words.specs.declared.status.Status.TheVariants as statuses
-use Rattle.ecmbx_words.specs.Form.{as_serve}
-use Rattle.ecmbx_words.specs.Texts.{usage_line}
+use Rattle.tool_call.specs.of_ecmbx_words.declared.status.Status.TheVariants as statuses
+use Rattle.tool_call.specs.of_ecmbx_words.Form.{as_serve}
+use Rattle.tool_call.specs.of_ecmbx_words.Texts.{usage_line}
 use Rattle.ecmbx_call.specs.Course.{words_of, Course}
-use Rattle.ecmbx_words.proofs.Loads.{said}
+use Rattle.tool_call.proofs.of_ecmbx_words.Loads.{said}
 use Rattle.ecmbx_call.proofs.Courses.{serve_course}
 use Rattle.ecmbx_call.proofs.Servings.{some_served}
 use Rattle.ecmbx_call.specs.Linked.{told_first, told_last}

@@ -1,5 +1,5 @@
-use Rattle.ec_outside.specs.Faults.{Rose}
-use Rattle.ecmbx_words.specs.Form.{as_serve, saved_in}
+use Rattle.gateway_stream.specs.of_ec_outside.Faults.{Rose}
+use Rattle.tool_call.specs.of_ecmbx_words.Form.{as_serve, saved_in}
 use Rattle.ecmbx_call.specs.Course.{words_of}
 use Rattle.ecmbx_call.proofs.Calls.{calls_of}
 use Rattle.ecmbx_call.proofs.Kept.{leaves_all}

@@ -1,5 +1,5 @@
 use Rattle.std.proofs.Common.{◌||◌, [], false}
-use Rattle.ec_outside.specs.Faults.{Rose}
+use Rattle.gateway_stream.specs.of_ec_outside.Faults.{Rose}
 use Rattle.gateway_stream.specs.Hearing.{heard_of, is_broken}
 use Rattle.gateway_stream.specs.Sending.{sent_of}
 use Rattle.ecmbx_call.specs.Linked.{told_first, told_last}

@@ -1,5 +1,5 @@
 use Rattle.std.proofs.Common.{◌≡◌, true, rules}
-use Rattle.ec_outside.specs.Faults.{Rose}
+use Rattle.gateway_stream.specs.of_ec_outside.Faults.{Rose}
 use Rattle.promised_run.specs.of_gateway_run.Serving.{told}
 use Rattle.ecmbx_call.specs.Course.{words_of}
 use Rattle.ecmbx_call.proofs.Calls.{calls_of}

@@ -1,8 +1,8 @@
 use Rattle.run_report.specs.Report.{report_lines}
-use Rattle.ecmbx_words.specs.Ends.{text_of}
+use Rattle.tool_call.specs.of_ecmbx_words.Ends.{text_of}
 use Rattle.ecmbx_call.specs.Course.{status_of, RunCourse}
 use Rattle.ecmbx_call.specs.Course.RunCourse.{ran}
-use Rattle.ecmbx_words.proofs.Loads.{said}
+use Rattle.tool_call.proofs.of_ecmbx_words.Loads.{said}
 use Rattle.ecmbx_call.proofs.Courses.{run_unread, has_run}
 use Rattle.ecmbx_call.proofs.running.run_octets.Goals as goal
 

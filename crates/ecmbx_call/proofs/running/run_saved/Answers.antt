@@ -1,9 +1,9 @@
-use Rattle.ec_outside.specs.Faults.{Rose}
+use Rattle.gateway_stream.specs.of_ec_outside.Faults.{Rose}
 use Rattle.run_report.specs.Report.{report_lines}
-use Rattle.ecmbx_words.specs.Ends.{text_of}
+use Rattle.tool_call.specs.of_ecmbx_words.Ends.{text_of}
 use Rattle.ecmbx_call.specs.Course.{status_of, SavedCourse}
 use Rattle.ecmbx_call.specs.Course.SavedCourse.{ran}
-use Rattle.ecmbx_words.proofs.Loads.{said}
+use Rattle.tool_call.proofs.of_ecmbx_words.Loads.{said}
 use Rattle.ecmbx_call.proofs.Courses.{save_unread, save_failed, has_run}
 use Rattle.ecmbx_call.proofs.running.run_saved.Goals as goal
 

@@ -1,10 +1,10 @@
 use Rattle.run_report.specs.Report.{report_lines}
 use Rattle.promised_run.specs.of_gateway_run.Serving.{told}
-use Rattle.ecmbx_words.specs.Ends.{text_of}
+use Rattle.tool_call.specs.of_ecmbx_words.Ends.{text_of}
 use Rattle.ecmbx_call.specs.Course.{status_of}
 use Rattle.ecmbx_call.specs.Serving.{ServeCourse}
 use Rattle.ecmbx_call.specs.Serving.ServeCourse.{served}
-use Rattle.ecmbx_words.proofs.Loads.{said}
+use Rattle.tool_call.proofs.of_ecmbx_words.Loads.{said}
 use Rattle.ecmbx_call.proofs.Servings.{serve_unread, has_served}
 use Rattle.ecmbx_call.proofs.serving.serve_octets.Goals as goal
 

@@ -1,11 +1,11 @@
 use Rattle.std.proofs.Common.{sym, ◌∙◌, []}
-use Rattle.ec_outside.specs.Faults.{Rose}
+use Rattle.gateway_stream.specs.of_ec_outside.Faults.{Rose}
 use Rattle.promised_run.specs.of_gateway_run.Serving.{told}
 use Rattle.scenario_made.specs.Made.{text_of}
-use Rattle.ecmbx_words.specs.declared.status.Status.TheVariants as statuses
-use Rattle.ecmbx_words.specs.Texts.{usage_line}
+use Rattle.tool_call.specs.of_ecmbx_words.declared.status.Status.TheVariants as statuses
+use Rattle.tool_call.specs.of_ecmbx_words.Texts.{usage_line}
 use Rattle.ecmbx_call.specs.Course.{words_of, Course}
-use Rattle.ecmbx_words.proofs.Loads.{said}
+use Rattle.tool_call.proofs.of_ecmbx_words.Loads.{said}
 use Rattle.ecmbx_call.proofs.Courses.{run_course, decode_course, audit_course, serve_course, saved_words, name_at, saved_at, run_other, saved_other, decode_other, audit_other, serve_other}
 use Rattle.ecmbx_call.proofs.Servings.{some_served}
 use Rattle.ecmbx_call.proofs.Streams.{began_words, ran_words}

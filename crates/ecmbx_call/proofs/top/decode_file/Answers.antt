@@ -1,6 +1,6 @@
-use Rattle.ec_outside.specs.Faults.{Rose}
+use Rattle.gateway_stream.specs.of_ec_outside.Faults.{Rose}
 use Rattle.ecmbx_call.specs.Course.{ViewCourse}
-use Rattle.ecmbx_words.proofs.Loads.{loaded, unloaded}
+use Rattle.tool_call.proofs.of_ecmbx_words.Loads.{loaded, unloaded}
 use Rattle.ecmbx_call.specs.Files.{limit}
 use Rattle.ecmbx_call.proofs.top.decode_file.Goals as goal
 

@@ -1,4 +1,4 @@
-use Rattle.ec_outside.specs.Faults.{Rose}
+use Rattle.gateway_stream.specs.of_ec_outside.Faults.{Rose}
 use Rattle.promised_run.specs.of_gateway_run.Serving.{told}
 use Rattle.ecmbx_call.specs.Course.{words_of}
 use Rattle.ecmbx_call.proofs.Causes.{usage_cause, absent_cause, long_cause, refused_cause, broken_cause, given_up_cause, spent_cause, file_fault_cause, port_cause, ending_is, runs_to, saves_to, serves_to, shows_to, audits_to, makes_to}

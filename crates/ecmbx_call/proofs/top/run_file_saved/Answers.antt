@@ -1,9 +1,9 @@
-use Rattle.ec_outside.specs.Faults.{Rose}
-use Rattle.run_book.specs.Book.{IsNew}
-use Rattle.ecmbx_words.proofs.Put.{rose_from}
-use Rattle.ecmbx_words.specs.Files.{Followed}
+use Rattle.gateway_stream.specs.of_ec_outside.Faults.{Rose}
+use Rattle.run_report.specs.of_run_book.Book.{IsNew}
+use Rattle.tool_call.proofs.of_ecmbx_words.Put.{rose_from}
+use Rattle.tool_call.specs.of_ecmbx_words.Files.{Followed}
 use Rattle.ecmbx_call.specs.Course.{SavedCourse}
-use Rattle.ecmbx_words.proofs.Loads.{loaded, unloaded}
+use Rattle.tool_call.proofs.of_ecmbx_words.Loads.{loaded, unloaded}
 use Rattle.ecmbx_call.specs.Files.{limit}
 use Rattle.ecmbx_call.proofs.Courses.{saved_later}
 use Rattle.ecmbx_call.proofs.top.run_file_saved.Goals as goal

@@ -1,8 +1,8 @@
-use Rattle.ec_outside.specs.Faults.{Rose}
-use Rattle.run_book.specs.Book.{IsNew}
+use Rattle.gateway_stream.specs.of_ec_outside.Faults.{Rose}
+use Rattle.run_report.specs.of_run_book.Book.{IsNew}
 use Rattle.promised_run.specs.of_gateway_run.Serving.{told}
 use Rattle.ecmbx_call.specs.Serving.{ServeCourse}
-use Rattle.ecmbx_words.proofs.Loads.{loaded, unloaded}
+use Rattle.tool_call.proofs.of_ecmbx_words.Loads.{loaded, unloaded}
 use Rattle.ecmbx_call.specs.Files.{limit}
 use Rattle.ecmbx_call.proofs.Servings.{served_in_file}
 use Rattle.ecmbx_call.proofs.top.serve_file.Goals as goal

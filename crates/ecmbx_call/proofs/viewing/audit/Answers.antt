@@ -2,7 +2,7 @@ use Rattle.std.proofs.Common.{sym}
 use Rattle.capture_audit.specs.Audit.{verdict_of}
 use Rattle.ecmbx_call.specs.Audits.{verdict_status, verdict_text, AuditCourse}
 use Rattle.ecmbx_call.specs.Audits.AuditCourse.{audited, refused}
-use Rattle.ecmbx_words.proofs.Loads.{said}
+use Rattle.tool_call.proofs.of_ecmbx_words.Loads.{said}
 use Rattle.ecmbx_call.proofs.Courses.{capture_refused}
 use Rattle.ecmbx_call.proofs.viewing.audit.Goals as goal
 

@@ -1,9 +1,9 @@
 use Rattle.std.proofs.Common.{sym}
-use Rattle.capture_view.specs.View.{view_text}
-use Rattle.ecmbx_words.specs.declared.status.Status.TheVariants as statuses
+use Rattle.capture_audit.specs.of_capture_view.View.{view_text}
+use Rattle.tool_call.specs.of_ecmbx_words.declared.status.Status.TheVariants as statuses
 use Rattle.ecmbx_call.specs.Course.{ViewCourse}
 use Rattle.ecmbx_call.specs.Course.ViewCourse.{shown, refused}
-use Rattle.ecmbx_words.proofs.Loads.{said}
+use Rattle.tool_call.proofs.of_ecmbx_words.Loads.{said}
 use Rattle.ecmbx_call.proofs.Courses.{capture_refused}
 use Rattle.ecmbx_call.proofs.viewing.decode.Goals as goal
 

@@ -1,10 +1,10 @@
 -- The lemma on drained state services, at the types of the function.
 use Rattle.std.proofs.Common.{◌≡◌, ◌+◌, false, Some}
-use Rattle.state_model.specs.Accounts.{Duty, Stage}
-use Rattle.state_model.specs.Promise.{services_in, mails_in}
-use Rattle.state_model.specs.States.{Phase}
-use Rattle.life_model.proofs.Eras.{session_of, of_one}
-use Rattle.state_model.proofs.Sessions.{of_slaves}
+use Rattle.slave_parts.specs.of_state_model.Accounts.{Duty, Stage}
+use Rattle.slave_parts.specs.of_state_model.Promise.{services_in, mails_in}
+use Rattle.slave_parts.specs.of_state_model.States.{Phase}
+use Rattle.slave_parts.proofs.of_life_model.Eras.{session_of, of_one}
+use Rattle.slave_parts.proofs.of_state_model.Sessions.{of_slaves}
 use Rattle.few_replies.proofs.Drains
 use Rattle.few_replies.proofs.session_rows.drained_law.Goals as goal
 

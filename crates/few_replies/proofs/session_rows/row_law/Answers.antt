@@ -1,11 +1,11 @@
 -- The lemma on the newest row, at the types of the function.
 use Rattle.std.proofs.Common.{◌≡◌, true, false, Some, List, [], ◌∷◌, ◌++◌}
-use Rattle.segment_model.specs.Seats.{is_over}
-use Rattle.state_model.specs.Stated.{Service}
-use Rattle.state_model.specs.Accounts.{Started}
-use Rattle.life_model.proofs.Eras.{session_of, of_one}
+use Rattle.slave_parts.specs.of_segment_model.Seats.{is_over}
+use Rattle.slave_parts.specs.of_state_model.Stated.{Service}
+use Rattle.slave_parts.specs.of_state_model.Accounts.{Started}
+use Rattle.slave_parts.proofs.of_life_model.Eras.{session_of, of_one}
 use Rattle.few_replies.specs.Newest.{IsWholeRow}
-use Rattle.state_model.proofs.Sessions.{of_slaves}
+use Rattle.slave_parts.proofs.of_state_model.Sessions.{of_slaves}
 use Rattle.few_replies.proofs.Wholes
 use Rattle.few_replies.proofs.session_rows.row_law.Goals as goal
 

@@ -1,4 +1,4 @@
-use Rattle.exchange_model.proofs.Lifting.{lifted_law}
+use Rattle.protocol_models.proofs.of_exchange_model.Lifting.{lifted_law}
 use Rattle.protocol_models.specs.FoeModel.{foe_exchange}
 use Rattle.protocol_models.specs.FoeOctets.{foe_mail_heard, foe_mail_written}
 use Rattle.protocol_models.proofs.FoeLaw.{foe_law}

@@ -1,6 +1,6 @@
 use Rattle.std.proofs.Common.{◌≡◌, ℕ, [], true}
 use Rattle.std.specs.Bool.{OnTrue, OnFalse}
-use Rattle.segment_plan.specs.declared.plan.Scenario.{Scenario}
+use Rattle.run_record.specs.of_segment_plan.declared.plan.Scenario.{Scenario}
 use Rattle.run_record.specs.Served.{ServingLives, ServingRests}
 use Rattle.run_record.specs.Session.{IsDone, session_rows, are_at_rest}
 use Rattle.gateway_run.specs.Serving.{Told, told, IsServing, left}

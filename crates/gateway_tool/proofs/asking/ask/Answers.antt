@@ -1,5 +1,5 @@
 use Rattle.std.proofs.Common.{◌≡◌, Ok, Err, true, false}
-use Rattle.ec_outside.specs.declared.port.PortErr.{PortErr}
+use Rattle.gateway_core.specs.of_ec_outside.declared.port.PortErr.{PortErr}
 use Rattle.gateway_tool.specs.Told.{told}
 use Rattle.gateway_tool.proofs.Endings.{never_begun, goes_first, asked_reply, asked_unkept, asked_nothing, asked_failed, asked_lost}
 use Rattle.gateway_tool.proofs.asking.ask.Goals as goal

@@ -1,5 +1,5 @@
 use Rattle.plan_ring.proofs.of_run_frames.Tallying.{first_of_plan}
-use Rattle.segment_plan.specs.Bound.{slowest}
+use Rattle.plan_ring.specs.of_segment_plan.Bound.{slowest}
 use Rattle.idle_slaves.proofs.Ready.{never_all}
 use Rattle.idle_slaves.proofs.Walk.{Laws, walks, first_paces}
 use Rattle.idle_slaves.proofs.wait_runs.wait_runs_law.Goals as goal

@@ -1,7 +1,7 @@
 -- The order of the mails is that of the link behind the steps.
 use Rattle.std.proofs.Common.{List, ◌++◌, ap, sym, ◌∙◌, append_assoc}
-use Rattle.link_model.proofs.Law.{taken_of_held, accepted_of_offered}
-use Rattle.link_mails.specs.Body.{Body}
+use Rattle.mailbox_master.proofs.of_link_model.Law.{taken_of_held, accepted_of_offered}
+use Rattle.mailbox_master.specs.of_link_mails.Body.{Body}
 use Rattle.mailbox_law.specs.Waiting.{bodies_of}
 use Rattle.mailbox_law.specs.Steps.{link_behind}
 use Rattle.mailbox_law.proofs.Running.{behind_accords, behind_given}

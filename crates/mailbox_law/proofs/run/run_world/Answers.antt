@@ -2,10 +2,10 @@
 use Rattle.std.proofs.Common.{◌≡◌, ℕ, ◌+◌, ◌<◌, ◌≤◌, List, [], ◌∷◌, ◌++◌, length, take, ap, sym, ◌∙◌, subst, arith}
 use Rattle.std.proofs.lemmas.List.{take_all}
 use Rattle.std.proofs.lemmas.Grind.{take_at_read}
-use Rattle.link_model.specs.Link.{Link}
-use Rattle.link_model.specs.Agree.{Accords}
-use Rattle.link_model.proofs.Numbers.{numbered}
-use Rattle.link_mails.specs.Body.{Body}
+use Rattle.mailbox_master.specs.of_link_model.Link.{Link}
+use Rattle.mailbox_master.specs.of_link_model.Agree.{Accords}
+use Rattle.mailbox_master.proofs.of_link_model.Numbers.{numbered}
+use Rattle.mailbox_master.specs.of_link_mails.Body.{Body}
 use Rattle.mailbox_law.specs.Steps.{link_behind}
 use Rattle.mailbox_law.specs.World.{Shows, Runs, link_of}
 use Rattle.mailbox_law.specs.declared.steps.LinkStep.{LinkStep}

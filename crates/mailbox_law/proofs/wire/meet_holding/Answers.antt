@@ -1,7 +1,7 @@
 -- From what the datagram reads as, and from the access that it is.
 use Rattle.std.proofs.Common.{ap, sym, ◌∙◌, length}
-use Rattle.mailbox_mail.specs.Mail.{mail_read}
-use Rattle.esc_registers.specs.Access.{access}
+use Rattle.mailbox_master.specs.of_mailbox_mail.Mail.{mail_read}
+use Rattle.mailbox_slave.specs.of_esc_registers.Access.{access}
 use Rattle.mailbox_slave.specs.Registers.{in_len}
 use Rattle.mailbox_master.specs.Access.{access_head, write_access}
 use Rattle.mailbox_master.specs.Halves.{held_mail}

@@ -1,6 +1,6 @@
 -- Mailbox 0 met the write, whether it returned or not.
 use Rattle.std.proofs.Common.{ap, sym, ◌∙◌}
-use Rattle.link_model.specs.Link.{out_side_after}
+use Rattle.mailbox_master.specs.of_link_model.Link.{out_side_after}
 use Rattle.mailbox_slave.specs.Registers.{out_box}
 use Rattle.mailbox_slave.specs.Node.{out_side}
 use Rattle.mailbox_master.specs.Any.{out_half_of}

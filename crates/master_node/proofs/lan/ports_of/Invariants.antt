@@ -1,6 +1,6 @@
 use Rattle.std.proofs.Common.{◌≡◌, ◌≤◌, ◌+◌, ◌++◌, true, length, drop}
 use Rattle.std.specs.Prelude.{count_by}
-use Rattle.segment_plan.specs.declared.slave.SlaveSpec.{SlaveSpec}
+use Rattle.life_runs.specs.of_segment_plan.declared.slave.SlaveSpec.{SlaveSpec}
 use Rattle.master_node.specs.Ported.{are_ports}
 use Rattle.master_node.specs.Ports.{ports_behind}
 use Rattle.master_node.proofs.lan.ports_of.Given as goal

@@ -1,10 +1,10 @@
 use Rattle.std.proofs.Common.{ap, ◌∙◌, length, arith}
 use Rattle.std.proofs.lemmas.List.Elements.{All-same}
-use Rattle.segment_plan.specs.Sound.{IsService}
+use Rattle.life_runs.specs.of_segment_plan.Sound.{IsService}
 use Rattle.master_node.specs.Scripts.{script_for}
-use Rattle.master_hand.specs.Spoken.{hand_speech}
+use Rattle.life_runs.specs.of_master_hand.Spoken.{hand_speech}
 use Rattle.master_node.proofs.Script.{script_sound, script_few}
-use Rattle.master_hand.specs.Shown.{knows}
+use Rattle.life_runs.specs.of_master_hand.Shown.{knows}
 use Rattle.master_node.proofs.Firsts.{none_known}
 use Rattle.master_node.proofs.starting.side_of.Goals as goal
 

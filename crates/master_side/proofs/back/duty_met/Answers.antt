@@ -1,5 +1,5 @@
 use Rattle.std.proofs.Common.{sym, subst, ap, ◌∙◌}
-use Rattle.frame_view.specs.of_segment_model.Slaves.{Access}
+use Rattle.master_duty.specs.of_segment_model.Slaves.{Access}
 use Rattle.master_side.specs.declared.carried.Carried.{Carried}
 use Rattle.master_side.specs.Carried.{Asks}
 use Rattle.frame_view.specs.View.{found_of}

@@ -1,6 +1,6 @@
 use Rattle.std.proofs.Common.{◌==◌, ◌+◌, ◌%◌, Some, refl, ap}
-use Rattle.link_model.specs.Frames.{in_ask}
-use Rattle.link_model.specs.Master.{InState}
+use Rattle.whole_ring.specs.of_link_model.Frames.{in_ask}
+use Rattle.whole_ring.specs.of_link_model.Master.{InState}
 use Rattle.plan_ring.specs.SlaveAsked.{AllMet, AllRead}
 use Rattle.plan_ring.proofs.Answers.{just_one}
 use Rattle.plan_ring.proofs.Goes.{all_back, all_lost, all_unmet, first}

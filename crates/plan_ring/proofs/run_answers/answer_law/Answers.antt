@@ -2,7 +2,7 @@ use Rattle.std.proofs.Common.{[]}
 use Rattle.run_frames.specs.of_life_runs.First.{first_leads}
 use Rattle.run_frames.specs.of_life_runs.Led.{IsLed}
 use Rattle.run_frames.proofs.Tallying.{first_of_plan}
-use Rattle.scenario.specs.of_segment_plan.Bound.{slowest}
+use Rattle.slave_server.specs.of_segment_plan.Bound.{slowest}
 use Rattle.plan_ring.proofs.Runs.{answered}
 use Rattle.plan_ring.proofs.run_answers.answer_law.Goals as goal
 

@@ -1,7 +1,7 @@
 use Rattle.std.specs.Prelude.{⊤}
-use Rattle.life_runs.specs.First.{lens_of, first_leads}
-use Rattle.segment_plan.specs.Bound.{slowest}
-use Rattle.run_frames.proofs.Tallying.{first_of_plan}
+use Rattle.run_promises.specs.of_life_runs.First.{lens_of, first_leads}
+use Rattle.run_promises.specs.of_segment_plan.Bound.{slowest}
+use Rattle.seen_slaves.proofs.of_run_frames.Tallying.{first_of_plan}
 use Rattle.promised_run.proofs.News.{all_news}
 use Rattle.promised_run.proofs.Tours.{asks_none, bridged, frames_none, knows_none, stays_none}
 use Rattle.promised_run.proofs.bound_premises.toured_law.Goals as goal

@@ -1,12 +1,12 @@
 use Rattle.std.proofs.Common.{arith, length-append, ap, sym, ◌∙◌}
-use Rattle.life_runs.specs.First.{lens_of, first_leads}
-use Rattle.life_runs.proofs.First.{apart_from}
-use Rattle.segment_plan.specs.Bound.{slowest}
-use Rattle.run_frames.proofs.Tallying.{first_of_plan}
+use Rattle.run_promises.specs.of_life_runs.First.{lens_of, first_leads}
+use Rattle.gateway_run.proofs.of_life_runs.First.{apart_from}
+use Rattle.run_promises.specs.of_segment_plan.Bound.{slowest}
+use Rattle.seen_slaves.proofs.of_run_frames.Tallying.{first_of_plan}
 use Rattle.promised_run.proofs.News.{all_news}
 use Rattle.promised_run.proofs.Tours.{bridged}
-use Rattle.run_book.specs.of_master_node.Happened.{arrivals_at}
-use Rattle.run_record.specs.of_packets_heard.Recalled.{IsFirst}
+use Rattle.run_promises.specs.of_master_node.Happened.{arrivals_at}
+use Rattle.run_promises.specs.of_packets_heard.Recalled.{IsFirst}
 use Rattle.std.specs.Prelude.{[], length, ◌≡◌, ◌+◌}
 use Rattle.promised_run.specs.Runs.{remembered}
 use Rattle.promised_run.proofs.First.{first_unpassed}

@@ -5,19 +5,19 @@ use Rattle.promised_run.specs.Eager.{remembers}
 use Rattle.promised_run.proofs.Ranks.{steps_in}
 use Rattle.promised_run.proofs.EagerRests.{all_behind}
 use Rattle.promised_run.proofs.EagerWalk.{Holds, Known, Laws, Step, Ask, frames, starts, stays}
-use Rattle.life_runs.specs.First.{first_leads, leads_from, lens_of}
-use Rattle.life_runs.specs.Led.{Leads}
-use Rattle.life_runs.proofs.First.{apart_from}
-use Rattle.run_book.specs.of_master_node.Happened.{arrivals_at}
-use Rattle.run_book.specs.of_master_node.Shows.{is_opening_lead}
-use Rattle.run_book.specs.of_master_node.of_master_tour.Goes.{holds_at}
-use Rattle.run_record.specs.of_packets_heard.Recalled.{IsFirst}
-use Rattle.plan_ring.proofs.Known.{macs_in}
-use Rattle.segment_plan.specs.Bound.{slowest}
-use Rattle.segment_plan.specs.declared.service.Service as Plan
-use Rattle.segment_plan.specs.declared.slave.SlaveSpec.{SlaveSpec}
-use Rattle.run_record.proofs.of_served_places.Slaves.{begins_so, first_leads_in}
-use Rattle.life_runs.specs.Served.{all_serve}
+use Rattle.run_promises.specs.of_life_runs.First.{first_leads, leads_from, lens_of}
+use Rattle.run_promises.specs.of_life_runs.Led.{Leads}
+use Rattle.gateway_run.proofs.of_life_runs.First.{apart_from}
+use Rattle.run_promises.specs.of_master_node.Happened.{arrivals_at}
+use Rattle.run_promises.specs.of_master_node.Shows.{is_opening_lead}
+use Rattle.run_promises.specs.of_master_tour.Goes.{holds_at}
+use Rattle.run_promises.specs.of_packets_heard.Recalled.{IsFirst}
+use Rattle.seen_slaves.proofs.of_plan_ring.Known.{macs_in}
+use Rattle.run_promises.specs.of_segment_plan.Bound.{slowest}
+use Rattle.run_promises.specs.of_segment_plan.declared.service.Service as Plan
+use Rattle.run_promises.specs.of_segment_plan.declared.slave.SlaveSpec.{SlaveSpec}
+use Rattle.seen_slaves.proofs.of_served_places.Slaves.{begins_so, first_leads_in}
+use Rattle.run_promises.specs.of_life_runs.Served.{all_serve}
 use Rattle.promised_run.proofs.TouredTours.{bridged}
 use Rattle.promised_run.proofs.eager_servings.eager_serving_law.Goals as goal
 

@@ -1,6 +1,6 @@
 use Rattle.std.proofs.Common.{refl}
 use Rattle.gateway_run.specs.Serving.{told}
-use Rattle.life_runs.specs.First.{first_leads, lens_of}
+use Rattle.run_promises.specs.of_life_runs.First.{first_leads, lens_of}
 use Rattle.promised_run.proofs.Given.{all_given}
 use Rattle.promised_run.proofs.Rested.{rested}
 use Rattle.promised_run.proofs.SentWhole.{all_send}
@@ -13,11 +13,11 @@ use Rattle.promised_run.proofs.Through.{through}
 use Rattle.promised_run.proofs.Whole.{whole}
 use Rattle.promised_run.proofs.Written.{all_served_due, all_served_written, some_served_left}
 use Rattle.promised_run.proofs.promised_serving.serve.Goals as goal
-use Rattle.run_book.specs.of_master_node.Happened.{events_of}
+use Rattle.run_promises.specs.of_master_node.Happened.{events_of}
 use Rattle.run_promises.proofs.Known.{known}
-use Rattle.run_record.specs.Recalling.{state_of}
-use Rattle.run_work.specs.Lives.{first_server}
-use Rattle.slave_server.specs.Spec.{profile_of}
+use Rattle.gateway_run.specs.of_run_record.Recalling.{state_of}
+use Rattle.run_promises.specs.of_run_work.Lives.{first_server}
+use Rattle.run_promises.specs.of_slave_server.Spec.{profile_of}
 
 pub returns-clause-through : goal.returns-clause-through
 returns-clause-through g c =

@@ -1,6 +1,6 @@
 use Rattle.std.proofs.Common.{map}
-use Rattle.run_book.specs.of_master_node.Toured.{tour_of}
-use Rattle.run_record.specs.Led.{exchanged}
+use Rattle.run_promises.specs.of_master_node.Toured.{tour_of}
+use Rattle.gateway_run.specs.of_run_record.Led.{exchanged}
 use Rattle.promised_run.proofs.served_books.tour_law.Goals as goal
 
 pub returns : goal.returns

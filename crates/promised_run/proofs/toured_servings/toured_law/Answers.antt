@@ -1,12 +1,12 @@
 use Rattle.std.specs.Prelude.{⊤}
 use Rattle.std.proofs.Common.{ℕ, List, length, true, ◌≡◌, ◌<◌, sym, subst}
-use Rattle.life_runs.specs.First.{lens_of, first_leads}
-use Rattle.life_runs.specs.Led.{Leads}
-use Rattle.run_book.specs.of_master_node.Shows.{is_opening_lead}
-use Rattle.run_book.specs.of_master_node.of_master_tour.Goes.{holds_at}
-use Rattle.segment_plan.specs.Bound.{slowest}
-use Rattle.run_record.proofs.of_served_places.Slaves.{begins_so, first_leads_in}
-use Rattle.life_runs.specs.Served.{all_serve}
+use Rattle.run_promises.specs.of_life_runs.First.{lens_of, first_leads}
+use Rattle.run_promises.specs.of_life_runs.Led.{Leads}
+use Rattle.run_promises.specs.of_master_node.Shows.{is_opening_lead}
+use Rattle.run_promises.specs.of_master_tour.Goes.{holds_at}
+use Rattle.run_promises.specs.of_segment_plan.Bound.{slowest}
+use Rattle.seen_slaves.proofs.of_served_places.Slaves.{begins_so, first_leads_in}
+use Rattle.run_promises.specs.of_life_runs.Served.{all_serve}
 use Rattle.promised_run.proofs.News.{all_news}
 use Rattle.promised_run.proofs.TouredTours.{asks_none, bridged, frames_none, knows_none, stays_none, steps_none}
 use Rattle.promised_run.proofs.toured_servings.toured_law.Goals as goal

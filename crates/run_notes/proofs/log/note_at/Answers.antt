@@ -3,7 +3,7 @@ use Rattle.std.proofs.lemmas.Result.{on_ok_weaker}
 use Rattle.run_notes.specs.Reports.{Reports}
 use Rattle.run_notes.specs.declared.notes.Notes.{Notes}
 use Rattle.run_notes.proofs.Reports.{answered_reports}
-use Rattle.master_node.specs.declared.event.Event.{Event}
+use Rattle.run_book.specs.of_master_node.declared.event.Event.{Event}
 use Rattle.run_notes.specs.Handed.{GoesBy, kind_told}
 use Rattle.run_notes.proofs.Handed.{answered_goes, same_goes}
 use Rattle.run_notes.proofs.Times.{time_reply}

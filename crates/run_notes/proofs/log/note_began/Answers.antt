@@ -1,6 +1,6 @@
 use Rattle.std.proofs.Common.{sym, ap, ◌∙◌, subst}
 use Rattle.std.proofs.lemmas.Result.{on_ok_weaker}
-use Rattle.master_node.specs.declared.event.Origin.TheVariants.{Forward, Gateway}
+use Rattle.run_book.specs.of_master_node.declared.event.Origin.TheVariants.{Forward, Gateway}
 use Rattle.run_notes.specs.Reports.{Reports}
 use Rattle.run_notes.specs.declared.notes.Notes.{Notes}
 use Rattle.run_notes.proofs.Reports.{began_reports}

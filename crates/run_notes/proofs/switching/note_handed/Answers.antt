@@ -1,6 +1,6 @@
 use Rattle.std.proofs.Common.{Bool, [], ◌++◌, sym, ap, ◌∙◌, append-nil}
 use Rattle.std.specs.Prelude.{if◌then◌else◌}
-use Rattle.master_node.specs.Happened.{packet_of}
+use Rattle.run_book.specs.of_master_node.Happened.{packet_of}
 use Rattle.run_notes.specs.Switched.{octets_of}
 use Rattle.run_notes.proofs.switching.note_handed.Goals as goal
 

@@ -1,5 +1,5 @@
-use Rattle.life_runs.specs.First.{first_leads, lens_of}
-use Rattle.frames_seen.proofs.Returned as Returned
+use Rattle.packets_heard.specs.of_life_runs.First.{first_leads, lens_of}
+use Rattle.served_rings.proofs.of_frames_seen.Returned as Returned
 use Rattle.run_promises.proofs.Accepted.{all_unpassed, are_heard, run_are_heard}
 use Rattle.run_promises.proofs.accepted_mails.accepted_law.Goals as goal
 

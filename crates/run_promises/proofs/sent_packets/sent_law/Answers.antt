@@ -1,5 +1,5 @@
-use Rattle.life_runs.specs.First.{lens_of, first_leads}
-use Rattle.frames_seen.proofs.Returned as Returned
+use Rattle.packets_heard.specs.of_life_runs.First.{lens_of, first_leads}
+use Rattle.served_rings.proofs.of_frames_seen.Returned as Returned
 use Rattle.run_promises.proofs.All.{sent}
 use Rattle.run_promises.proofs.sent_packets.sent_law.Goals as goal
 

@@ -1,9 +1,9 @@
-use Rattle.life_runs.specs.First.{first_leads, lens_of}
-use Rattle.frames_seen.proofs.Returned as Returned
-use Rattle.run_work.proofs.Placed.{all_fresh}
+use Rattle.packets_heard.specs.of_life_runs.First.{first_leads, lens_of}
+use Rattle.served_rings.proofs.of_frames_seen.Returned as Returned
+use Rattle.served_rings.proofs.of_run_work.Placed.{all_fresh}
 use Rattle.run_promises.proofs.ServedAll.{sent}
 use Rattle.run_promises.proofs.Speaks.{quiet_speaks}
-use Rattle.life_runs.specs.Served.{all_serve}
+use Rattle.packets_heard.specs.of_life_runs.Served.{all_serve}
 use Rattle.run_promises.proofs.served_packets.served_sent_law.Goals as goal
 
 pub returns : goal.returns

@@ -1,10 +1,10 @@
 use Rattle.std.proofs.Common.{◌≡◌, ◌+◌, ◌-◌, ◌*◌, ◌≤◌, suc, length, subst, arith}
-use Rattle.life_runs.specs.First.{lens_of, first_leads}
+use Rattle.packets_heard.specs.of_life_runs.First.{lens_of, first_leads}
 use Rattle.packets_heard.specs.of_master_node.Ports.{ports_behind, ports_of}
 use Rattle.packets_heard.specs.Heard.{joined_in}
 use Rattle.packets_heard.specs.Over as Over
-use Rattle.run_work.specs.Packets.{waiting_work}
-use Rattle.run_work.specs.Together.{packets_begun}
+use Rattle.served_rings.specs.of_run_work.Packets.{waiting_work}
+use Rattle.served_rings.specs.of_run_work.Together.{packets_begun}
 use Rattle.run_promises.proofs.Begun.{begun_weights, none_begun, nothing_first}
 use Rattle.run_promises.proofs.Switched.{Laws, run_sent, switched_so}
 use Rattle.run_promises.proofs.switched_runs.switched_run_law.Goals as goal

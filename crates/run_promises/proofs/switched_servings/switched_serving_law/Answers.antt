@@ -1,14 +1,14 @@
 use Rattle.std.proofs.Common.{◌≡◌, ◌+◌, ◌-◌, ◌*◌, ◌≤◌, suc, length, map, subst, arith}
-use Rattle.life_runs.specs.First.{lens_of, first_leads}
+use Rattle.packets_heard.specs.of_life_runs.First.{lens_of, first_leads}
 use Rattle.packets_heard.specs.of_master_node.Ports.{ports_behind, ports_of}
 use Rattle.packets_heard.specs.of_master_node.Serving.{run_lead}
 use Rattle.packets_heard.specs.Servings.{served_joined, served_packets}
-use Rattle.run_work.specs.Packets.{waiting_work}
-use Rattle.run_work.specs.Together.{packets_begun}
-use Rattle.run_work.proofs.Placed.{all_fresh}
+use Rattle.served_rings.specs.of_run_work.Packets.{waiting_work}
+use Rattle.served_rings.specs.of_run_work.Together.{packets_begun}
+use Rattle.served_rings.proofs.of_run_work.Placed.{all_fresh}
 use Rattle.run_promises.proofs.Begun.{none_served, nothing_served, served_weights}
 use Rattle.run_promises.proofs.Switched.{Laws, served_sent, switched_so}
-use Rattle.life_runs.specs.Served.{all_serve}
+use Rattle.packets_heard.specs.of_life_runs.Served.{all_serve}
 use Rattle.run_promises.proofs.switched_servings.switched_serving_law.Goals as goal
 
 pub returns : goal.returns

@@ -1,5 +1,5 @@
 use Rattle.std.proofs.Common.{◌≡◌, ◌++◌, drop, map}
-use Rattle.slave_server.specs.Spec.{node_of}
+use Rattle.packets_heard.specs.of_slave_server.Spec.{node_of}
 use Rattle.run_record.proofs.session.new_nodes.Given as goal
 
 abbrev pub invariant-loop-spec : goal.invariant-loop-spec

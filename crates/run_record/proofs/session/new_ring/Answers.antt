@@ -1,9 +1,9 @@
 use Rattle.std.proofs.Common.{sym, ap, ◌∙◌, subst, length, map}
-use Rattle.segment_ring.specs.Ring.{ArePaces, AllFew}
-use Rattle.segment_ring.specs.Schedule.{Rises}
-use Rattle.slave_node.specs.Node.{Node}
-use Rattle.slave_server.specs.declared.server.SlaveServer.{SlaveServer}
-use Rattle.slave_server.specs.Spec.{node_of}
+use Rattle.served_places.specs.of_segment_ring.Ring.{ArePaces, AllFew}
+use Rattle.served_places.specs.of_segment_ring.Schedule.{Rises}
+use Rattle.packets_heard.specs.of_slave_node.Node.{Node}
+use Rattle.packets_heard.specs.of_slave_server.declared.server.SlaveServer.{SlaveServer}
+use Rattle.packets_heard.specs.of_slave_server.Spec.{node_of}
 use Rattle.run_record.proofs.Plans.{paces_are, lost_rise, few_new}
 use Rattle.run_record.proofs.session.new_ring.Goals as goal
 

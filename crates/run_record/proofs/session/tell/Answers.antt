@@ -1,17 +1,17 @@
 use Rattle.std.proofs.Common.{◌≡◌, ℕ, suc, map, refl, ap, sym, ◌∙◌, subst, List}
-use Rattle.master_node.specs.of_life_runs.Led.{gives_up_at, missed_behind}
-use Rattle.master_node.specs.Backtold.{returned_at}
-use Rattle.master_node.specs.Eager.{recalls}
-use Rattle.master_node.specs.Listing.{events_in, told_in}
-use Rattle.master_node.specs.Serving.{ServedShows, run_lead, run_turn}
-use Rattle.master_node.specs.Toured.{tour_of}
-use Rattle.segment_ring.specs.declared.wire.Fate.{Fate}
-use Rattle.segment_ring.specs.declared.wire.Fate.TheVariants as Fates
-use Rattle.master_node.specs.of_life_runs.Served.{served_behind}
+use Rattle.served_places.specs.of_life_runs.Led.{gives_up_at, missed_behind}
+use Rattle.packets_heard.specs.of_master_node.Backtold.{returned_at}
+use Rattle.packets_heard.specs.of_master_node.Eager.{recalls}
+use Rattle.packets_heard.specs.of_master_node.Listing.{events_in, told_in}
+use Rattle.packets_heard.specs.of_master_node.Serving.{ServedShows, run_lead, run_turn}
+use Rattle.packets_heard.specs.of_master_node.Toured.{tour_of}
+use Rattle.served_places.specs.of_segment_ring.declared.wire.Fate.{Fate}
+use Rattle.served_places.specs.of_segment_ring.declared.wire.Fate.TheVariants as Fates
+use Rattle.served_places.specs.of_life_runs.Served.{served_behind}
 use Rattle.packets_heard.specs.Toured.{tour_behind}
 use Rattle.packets_heard.specs.Served.{serves_behind}
-use Rattle.master_node.specs.of_frame_view.Seen.{seen}
-use Rattle.master_node.specs.Joined.{HasUnfinished, stand_before, unfinished_after, mails_back}
+use Rattle.plan_ring.specs.of_frame_view.Seen.{seen}
+use Rattle.packets_heard.specs.of_master_node.Joined.{HasUnfinished, stand_before, unfinished_after, mails_back}
 use Rattle.packets_heard.specs.Listed.{unfinished_of}
 use Rattle.packets_heard.specs.Heard.{mails_by}
 use Rattle.run_record.specs.Served.{events_behind}

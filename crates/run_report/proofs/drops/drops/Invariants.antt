@@ -1,5 +1,5 @@
 use Rattle.std.proofs.Common.{◌≡◌, ◌≤◌, ◌+◌, ◌*◌, length, drop}
-use Rattle.eoe_switch.specs.Switch.{first_switch}
+use Rattle.run_book.specs.of_eoe_switch.Switch.{first_switch}
 use Rattle.run_book.specs.Ports.{ports_of}
 use Rattle.run_report.specs.Drops.{drops_in}
 use Rattle.run_report.proofs.drops.drops.Given as goal

@@ -1,5 +1,5 @@
 use Rattle.std.proofs.Common.{◌≡◌, ap, sym, ◌∙◌, count_ones, arith}
-use Rattle.eoe_switch.specs.Switch.{Arrived, route_of, learned_from, drops_of}
+use Rattle.run_book.specs.of_eoe_switch.Switch.{Arrived, route_of, learned_from, drops_of}
 use Rattle.run_report.specs.Drops.{behind, drops_at}
 use Rattle.run_report.proofs.Dropped.{ones_of_full, few_drops}
 use Rattle.run_report.proofs.drops.drops_at.Goals as goal

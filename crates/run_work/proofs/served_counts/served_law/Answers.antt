@@ -1,10 +1,10 @@
-use Rattle.run_frames.specs.of_life_runs.First.{lens_of}
-use Rattle.serving_model.proofs.StatesLaw.{tagged_stated}
-use Rattle.slave_model.specs.Acknowledged.{acknowledged}
-use Rattle.slave_model.specs.Profile.{Profile, IsProfile}
-use Rattle.slave_parts.specs.Parts.{Server, parts}
-use Rattle.slave_parts.specs.Served.{product_whole}
-use Rattle.state_model.specs.Families.{InState, states_of}
+use Rattle.plan_ring.specs.of_life_runs.First.{lens_of}
+use Rattle.life_counts.proofs.of_serving_model.StatesLaw.{tagged_stated}
+use Rattle.life_counts.specs.of_slave_model.Acknowledged.{acknowledged}
+use Rattle.life_counts.specs.of_slave_model.Profile.{Profile, IsProfile}
+use Rattle.plan_ring.specs.of_slave_parts.Parts.{Server, parts}
+use Rattle.plan_ring.specs.of_slave_parts.Served.{product_whole}
+use Rattle.life_counts.specs.of_state_model.Families.{InState, states_of}
 use Rattle.run_work.proofs.ServedLasts.{led_unopened}
 use Rattle.run_work.proofs.Paid.{Owes, all_paid}
 use Rattle.run_work.proofs.served_counts.served_law.Goals as goal

@@ -1,8 +1,8 @@
-use Rattle.serving_model.proofs.StatesLaw.{tagged_stated}
-use Rattle.slave_model.specs.Acknowledged.{acknowledged}
-use Rattle.slave_parts.specs.Parts.{Server, parts}
-use Rattle.slave_parts.specs.Served.{product_whole}
-use Rattle.state_model.specs.Families.{InState, states_of}
+use Rattle.life_counts.proofs.of_serving_model.StatesLaw.{tagged_stated}
+use Rattle.life_counts.specs.of_slave_model.Acknowledged.{acknowledged}
+use Rattle.plan_ring.specs.of_slave_parts.Parts.{Server, parts}
+use Rattle.plan_ring.specs.of_slave_parts.Served.{product_whole}
+use Rattle.life_counts.specs.of_state_model.Families.{InState, states_of}
 use Rattle.run_work.proofs.Paid.{life_paid}
 use Rattle.run_work.proofs.served_counts.slave_law.Goals as goal
 

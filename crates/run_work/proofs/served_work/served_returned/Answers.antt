@@ -1,7 +1,7 @@
-use Rattle.run_frames.specs.of_life_runs.First.{lens_of, first_leads}
+use Rattle.plan_ring.specs.of_life_runs.First.{lens_of, first_leads}
 use Rattle.plan_ring.specs.Round.{ring_of}
-use Rattle.frames_seen.proofs.Returned as Returned
-use Rattle.life_runs.specs.Served.{all_serve}
+use Rattle.plan_ring.proofs.of_frames_seen.Returned as Returned
+use Rattle.plan_ring.specs.of_life_runs.Served.{all_serve}
 use Rattle.run_work.proofs.Rounds.{frames_returned, served_framed}
 use Rattle.run_work.proofs.served_work.served_returned.Goals as goal
 

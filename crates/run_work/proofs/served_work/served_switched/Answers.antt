@@ -1,5 +1,5 @@
 use Rattle.std.proofs.Common.{length}
-use Rattle.run_frames.specs.of_life_runs.First.{lens_of}
+use Rattle.plan_ring.specs.of_life_runs.First.{lens_of}
 use Rattle.life_counts.specs.Split.{entering}
 use Rattle.run_work.specs.ServedGained.{leads_of}
 use Rattle.run_work.proofs.Packets.{switched_few}

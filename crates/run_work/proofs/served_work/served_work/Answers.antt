@@ -1,4 +1,4 @@
-use Rattle.run_frames.specs.of_life_runs.First.{lens_of, first_leads}
+use Rattle.plan_ring.specs.of_life_runs.First.{lens_of, first_leads}
 use Rattle.run_work.proofs.Placed.{led_placed, all_fresh}
 use Rattle.run_work.proofs.ServedLasts.{led_came}
 use Rattle.run_work.proofs.ServedWorked.{together}

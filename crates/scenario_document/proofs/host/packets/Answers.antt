@@ -1,8 +1,8 @@
 use Rattle.std.proofs.lemmas.Result.{err_from_is_err_and}
 use Rattle.toml.specs.View.{table_view}
 use Rattle.scenario_document.specs.Top.{packet_of}
-use Rattle.segment_plan.specs.Sound.{IsPacket}
-use Rattle.scenario_keys.proofs.Each.{goes_on, ends}
+use Rattle.scenario_services.specs.of_segment_plan.Sound.{IsPacket}
+use Rattle.scenario_services.proofs.of_scenario_keys.Each.{goes_on, ends}
 use Rattle.scenario_document.proofs.host.packets.Goals as goal
 
 pub returns-in_err-packet-clause-gives : goal.returns-in_err-packet-clause-gives

@@ -1,8 +1,8 @@
 use Rattle.std.proofs.Common.{map}
 use Rattle.toml.specs.View.{table_view}
 use Rattle.scenario_document.specs.Top.{packet_of}
-use Rattle.segment_plan.specs.Sound.{IsPacket}
-use Rattle.scenario_keys.proofs.Each.{HasRead}
+use Rattle.scenario_services.specs.of_segment_plan.Sound.{IsPacket}
+use Rattle.scenario_services.proofs.of_scenario_keys.Each.{HasRead}
 use Rattle.scenario_document.proofs.host.packets.Given as goal
 
 abbrev pub invariant-loop-i : goal.invariant-loop-i

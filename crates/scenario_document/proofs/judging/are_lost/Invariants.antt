@@ -1,5 +1,5 @@
 use Rattle.std.proofs.Common.{◌≡◌, ◌≤◌, drop}
-use Rattle.segment_plan.specs.Sound.{are_lost_from}
+use Rattle.scenario_services.specs.of_segment_plan.Sound.{are_lost_from}
 use Rattle.scenario_document.proofs.judging.are_lost.Given as goal
 
 abbrev pub invariant-loop-frame : goal.invariant-loop-frame

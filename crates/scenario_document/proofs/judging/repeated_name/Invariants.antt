@@ -1,5 +1,5 @@
 use Rattle.std.proofs.Common.{◌≡◌, [], drop, take}
-use Rattle.segment_plan.specs.Sound.{repeated_from, is_same_name}
+use Rattle.scenario_services.specs.of_segment_plan.Sound.{repeated_from, is_same_name}
 use Rattle.scenario_document.proofs.judging.repeated_name.Given as goal
 
 abbrev pub invariant-loop-i : goal.invariant-loop-i

@@ -2,8 +2,8 @@ use Rattle.std.proofs.Common.{ℕ}
 use Rattle.std.proofs.lemmas.Result.{err_from_is_err_and}
 use Rattle.toml.specs.View.{view}
 use Rattle.scenario_document.specs.Losses.{lost_in}
-use Rattle.scenario_keys.proofs.Each.{goes_on, ends, whole}
-use Rattle.scenario_keys.proofs.Items.{list_of_items_view}
+use Rattle.scenario_services.proofs.of_scenario_keys.Each.{goes_on, ends, whole}
+use Rattle.scenario_services.proofs.of_scenario_keys.Items.{list_of_items_view}
 use Rattle.scenario_document.proofs.losses.all_lost.Goals as goal
 
 pub returns-in_err-lost-clause-gives : goal.returns-in_err-lost-clause-gives

@@ -1,7 +1,7 @@
 use Rattle.std.proofs.Common.{ℕ, map}
 use Rattle.toml.specs.View.{view}
 use Rattle.scenario_document.specs.Losses.{lost_in}
-use Rattle.scenario_keys.proofs.Each.{HasRead}
+use Rattle.scenario_services.proofs.of_scenario_keys.Each.{HasRead}
 use Rattle.scenario_document.proofs.losses.all_lost.Given as goal
 
 abbrev pub invariant-loop-value : goal.invariant-loop-value

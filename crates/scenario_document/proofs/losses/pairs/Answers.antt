@@ -1,10 +1,10 @@
 use Rattle.std.proofs.Common.{ℤ}
 use Rattle.std.proofs.lemmas.Result.{err_from_is_err_and}
 use Rattle.toml.specs.View.{view}
-use Rattle.scenario_keys.specs.declared.place.Place.TheVariants.{Top}
-use Rattle.scenario_keys.specs.Keys.{two_numbers_in}
-use Rattle.scenario_keys.proofs.Each.{goes_on, ends, whole}
-use Rattle.scenario_keys.proofs.Items.{list_of_items_view}
+use Rattle.scenario_services.specs.of_scenario_keys.declared.place.Place.TheVariants.{Top}
+use Rattle.scenario_services.specs.of_scenario_keys.Keys.{two_numbers_in}
+use Rattle.scenario_services.proofs.of_scenario_keys.Each.{goes_on, ends, whole}
+use Rattle.scenario_services.proofs.of_scenario_keys.Items.{list_of_items_view}
 use Rattle.scenario_document.proofs.losses.pairs.Goals as goal
 
 pub returns-in_err-pair_of-clause-gives : goal.returns-in_err-pair_of-clause-gives

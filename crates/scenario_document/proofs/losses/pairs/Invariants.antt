@@ -1,8 +1,8 @@
 use Rattle.std.proofs.Common.{ℤ, map}
 use Rattle.toml.specs.View.{view}
-use Rattle.scenario_keys.specs.declared.place.Place.TheVariants.{Top}
-use Rattle.scenario_keys.specs.Keys.{two_numbers_in}
-use Rattle.scenario_keys.proofs.Each.{HasRead}
+use Rattle.scenario_services.specs.of_scenario_keys.declared.place.Place.TheVariants.{Top}
+use Rattle.scenario_services.specs.of_scenario_keys.Keys.{two_numbers_in}
+use Rattle.scenario_services.proofs.of_scenario_keys.Each.{HasRead}
 use Rattle.scenario_document.proofs.losses.pairs.Given as goal
 
 abbrev pub invariant-loop-value : goal.invariant-loop-value

@@ -3,7 +3,7 @@ use Rattle.toml.specs.View.{table_view}
 use Rattle.scenario_services.specs.Services.{service_of}
 use Rattle.scenario_services.specs.Reading.{IsRead}
 use Rattle.scenario_services.proofs.Appended.{appended, stopped}
-use Rattle.scenario_keys.proofs.Each.{goes_on, ends}
+use Rattle.scenario_values.proofs.of_scenario_keys.Each.{goes_on, ends}
 use Rattle.scenario_services.proofs.reading.services.Goals as goal
 
 pub returns-in_err-add_service-clause-gives : goal.returns-in_err-add_service-clause-gives

@@ -2,7 +2,7 @@ use Rattle.std.proofs.Common.{map}
 use Rattle.toml.specs.View.{table_view}
 use Rattle.scenario_services.specs.Services.{service_of}
 use Rattle.scenario_services.specs.Reading.{IsRead}
-use Rattle.scenario_keys.proofs.Each.{HasRead}
+use Rattle.scenario_values.proofs.of_scenario_keys.Each.{HasRead}
 use Rattle.scenario_services.proofs.reading.services.Given as goal
 
 abbrev pub invariant-loop-i : goal.invariant-loop-i

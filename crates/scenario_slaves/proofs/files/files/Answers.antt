@@ -2,13 +2,13 @@ use Rattle.std.proofs.Common.{List, ℕ, ◌+◌, [], ◌∷◌, ◌++◌, map, 
 use Rattle.std.proofs.lemmas.Result.{err_from_is_err_and}
 use Rattle.std.proofs.lemmas.List.Sums.{sum_by_push}
 use Rattle.toml.specs.View.{table_view}
-use Rattle.block_pool.specs.Region.{blocks_for}
-use Rattle.file_store.specs.declared.file.FileSpec.{FileSpec}
-use Rattle.scenario_keys.specs.declared.place.Place.TheVariants.{File}
-use Rattle.segment_plan.specs.Sound.{IsFile}
+use Rattle.scenario_values.specs.of_block_pool.Region.{blocks_for}
+use Rattle.scenario_values.specs.of_file_store.declared.file.FileSpec.{FileSpec}
+use Rattle.scenario_values.specs.of_scenario_keys.declared.place.Place.TheVariants.{File}
+use Rattle.scenario_values.specs.of_segment_plan.Sound.{IsFile}
 use Rattle.scenario_slaves.specs.Files.{file_of}
 use Rattle.scenario_slaves.proofs.NewFiles.{are_new_files-push}
-use Rattle.scenario_keys.proofs.Each.{HasRead, goes_on, ends}
+use Rattle.scenario_values.proofs.of_scenario_keys.Each.{HasRead, goes_on, ends}
 use Rattle.scenario_slaves.proofs.files.files.Goals as goal
 
 pub returns-in_err-row-clause-gives : goal.returns-in_err-row-clause-gives

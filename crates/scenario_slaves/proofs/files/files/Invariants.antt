@@ -1,10 +1,10 @@
 use Rattle.std.proofs.Common.{◌≡◌, List, ℕ, ◌≤◌, true, [], ◌∷◌, ◌++◌, map}
 use Rattle.toml.specs.View.{table_view}
-use Rattle.file_store.specs.declared.file.FileSpec.{FileSpec}
-use Rattle.scenario_keys.specs.declared.place.Place.TheVariants.{File}
-use Rattle.segment_plan.specs.Sound.{IsFile, taken, are_new_files}
+use Rattle.scenario_values.specs.of_file_store.declared.file.FileSpec.{FileSpec}
+use Rattle.scenario_values.specs.of_scenario_keys.declared.place.Place.TheVariants.{File}
+use Rattle.scenario_values.specs.of_segment_plan.Sound.{IsFile, taken, are_new_files}
 use Rattle.scenario_slaves.specs.Files.{file_of}
-use Rattle.scenario_keys.proofs.Each.{HasRead}
+use Rattle.scenario_values.proofs.of_scenario_keys.Each.{HasRead}
 use Rattle.scenario_slaves.proofs.files.files.Given as goal
 
 abbrev pub invariant-loop-i : goal.invariant-loop-i

@@ -1,6 +1,6 @@
 use Rattle.std.proofs.Common.{subst, sym}
 use Rattle.std.proofs.lemmas.List.Elements.{All-get_or}
-use Rattle.segment_plan.specs.Sound.{IsFile}
+use Rattle.scenario_values.specs.of_segment_plan.Sound.{IsFile}
 use Rattle.scenario_slaves.proofs.files.taken.Goals as goal
 
 pub blocks_for-taken-requires : goal.blocks_for-taken-requires

@@ -1,5 +1,5 @@
 use Rattle.std.proofs.Common.{◌≡◌, ◌≤◌, ◌*◌, take}
-use Rattle.segment_plan.specs.Sound.{taken}
+use Rattle.scenario_values.specs.of_segment_plan.Sound.{taken}
 use Rattle.scenario_slaves.proofs.files.taken.Given as goal
 
 abbrev pub invariant-loop-value : goal.invariant-loop-value

@@ -1,12 +1,12 @@
 use Rattle.std.proofs.Common.{List, ◌+◌, [], ◌∷◌, ◌++◌, map, sym, subst}
 use Rattle.std.proofs.lemmas.Result.{err_from_is_err_and}
 use Rattle.toml.specs.View.{table_view}
-use Rattle.idn_table.specs.declared.spec.IdnSpec.{IdnSpec}
-use Rattle.scenario_keys.specs.declared.place.Place.TheVariants.{Idn}
-use Rattle.segment_plan.specs.Sound.{IsIdn}
+use Rattle.scenario_values.specs.of_idn_table.declared.spec.IdnSpec.{IdnSpec}
+use Rattle.scenario_values.specs.of_scenario_keys.declared.place.Place.TheVariants.{Idn}
+use Rattle.scenario_values.specs.of_segment_plan.Sound.{IsIdn}
 use Rattle.scenario_slaves.specs.Idns.{idn_of}
 use Rattle.scenario_slaves.proofs.NewIdns.{are_new_idns-push}
-use Rattle.scenario_keys.proofs.Each.{HasRead, goes_on, ends}
+use Rattle.scenario_values.proofs.of_scenario_keys.Each.{HasRead, goes_on, ends}
 use Rattle.scenario_slaves.proofs.idns.idns.Goals as goal
 
 pub returns-in_err-row-clause-gives : goal.returns-in_err-row-clause-gives

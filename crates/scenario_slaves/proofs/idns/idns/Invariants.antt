@@ -1,10 +1,10 @@
 use Rattle.std.proofs.Common.{◌≡◌, true, [], ◌∷◌, ◌++◌, map}
 use Rattle.toml.specs.View.{table_view}
-use Rattle.idn_table.specs.declared.spec.IdnSpec.{IdnSpec}
-use Rattle.scenario_keys.specs.declared.place.Place.TheVariants.{Idn}
-use Rattle.segment_plan.specs.Sound.{IsIdn, are_new_idns}
+use Rattle.scenario_values.specs.of_idn_table.declared.spec.IdnSpec.{IdnSpec}
+use Rattle.scenario_values.specs.of_scenario_keys.declared.place.Place.TheVariants.{Idn}
+use Rattle.scenario_values.specs.of_segment_plan.Sound.{IsIdn, are_new_idns}
 use Rattle.scenario_slaves.specs.Idns.{idn_of}
-use Rattle.scenario_keys.proofs.Each.{HasRead}
+use Rattle.scenario_values.proofs.of_scenario_keys.Each.{HasRead}
 use Rattle.scenario_slaves.proofs.idns.idns.Given as goal
 
 abbrev pub invariant-loop-i : goal.invariant-loop-i

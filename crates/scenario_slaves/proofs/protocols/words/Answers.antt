@@ -2,9 +2,9 @@ use Rattle.std.proofs.Common.{◌≡◌, ◌∙◌, List, ℕ, [], ◌∷◌, �
 use Rattle.std.proofs.lemmas.List.{map-append}
 use Rattle.std.proofs.lemmas.Result.{err_from_is_err_and}
 use Rattle.toml.specs.View.{view}
-use Rattle.scenario_keys.specs.Keys.{text_in}
-use Rattle.scenario_keys.proofs.Each.{goes_on, ends, whole}
-use Rattle.scenario_keys.proofs.Items.{list_of_items_view}
+use Rattle.scenario_values.specs.of_scenario_keys.Keys.{text_in}
+use Rattle.scenario_values.proofs.of_scenario_keys.Each.{goes_on, ends, whole}
+use Rattle.scenario_values.proofs.of_scenario_keys.Items.{list_of_items_view}
 use Rattle.scenario_slaves.proofs.protocols.words.Goals as goal
 
 pub returns-in_err-text : goal.returns-in_err-text

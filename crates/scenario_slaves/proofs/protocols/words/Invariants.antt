@@ -1,7 +1,7 @@
 use Rattle.std.proofs.Common.{List, ℕ, map}
 use Rattle.toml.specs.View.{view}
-use Rattle.scenario_keys.specs.Keys.{text_in}
-use Rattle.scenario_keys.proofs.Each.{HasRead}
+use Rattle.scenario_values.specs.of_scenario_keys.Keys.{text_in}
+use Rattle.scenario_values.proofs.of_scenario_keys.Each.{HasRead}
 use Rattle.scenario_slaves.proofs.protocols.words.Given as goal
 
 abbrev pub invariant-loop-value : goal.invariant-loop-value

@@ -1,9 +1,9 @@
 use Rattle.std.proofs.lemmas.Result.{err_from_is_err_and}
 use Rattle.toml.specs.View.{table_view}
 use Rattle.scenario_slaves.specs.Settings.{pace_at}
-use Rattle.scenario_keys.specs.declared.place.Place.TheVariants.{Slave}
-use Rattle.segment_plan.specs.Sound.{IsPace}
-use Rattle.scenario_keys.proofs.Each.{goes_on, ends}
+use Rattle.scenario_values.specs.of_scenario_keys.declared.place.Place.TheVariants.{Slave}
+use Rattle.scenario_values.specs.of_segment_plan.Sound.{IsPace}
+use Rattle.scenario_values.proofs.of_scenario_keys.Each.{goes_on, ends}
 use Rattle.scenario_slaves.proofs.ring.paces.Goals as goal
 
 pub returns-in_err-row-clause-gives : goal.returns-in_err-row-clause-gives

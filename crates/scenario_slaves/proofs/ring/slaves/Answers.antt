@@ -2,7 +2,7 @@ use Rattle.std.proofs.lemmas.Result.{err_from_is_err_and}
 use Rattle.toml.specs.View.{table_view}
 use Rattle.scenario_slaves.specs.Slave.{slave_of}
 use Rattle.scenario_slaves.specs.Distinct.{IsRead}
-use Rattle.scenario_keys.proofs.Each.{goes_on, ends}
+use Rattle.scenario_values.proofs.of_scenario_keys.Each.{goes_on, ends}
 use Rattle.scenario_slaves.proofs.ring.slaves.Goals as goal
 
 pub returns-in_err-row-clause-gives : goal.returns-in_err-row-clause-gives

@@ -2,7 +2,7 @@ use Rattle.std.proofs.Common.{map}
 use Rattle.toml.specs.View.{table_view}
 use Rattle.scenario_slaves.specs.Slave.{slave_of}
 use Rattle.scenario_slaves.specs.Distinct.{IsRead}
-use Rattle.scenario_keys.proofs.Each.{HasRead}
+use Rattle.scenario_values.proofs.of_scenario_keys.Each.{HasRead}
 use Rattle.scenario_slaves.proofs.ring.slaves.Given as goal
 
 abbrev pub invariant-loop-i : goal.invariant-loop-i

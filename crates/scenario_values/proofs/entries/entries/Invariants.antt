@@ -1,7 +1,6 @@
-use Rattle.std.proofs.Common.{map}
+use Rattle.std.proofs.Common.{map, None}
 use Rattle.toml.specs.View.{table_view}
 use Rattle.scenario_keys.specs.declared.place.Place.TheVariants.{Entry}
-use Rattle.std.proofs.Common.{None}
 use Rattle.scenario_values.specs.Entries.{kind_behind, entry_of}
 use Rattle.segment_plan.specs.Sound.{IsEntry}
 use Rattle.scenario_keys.proofs.Each.{HasRead}

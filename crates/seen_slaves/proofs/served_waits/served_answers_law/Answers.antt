@@ -1,5 +1,5 @@
-use Rattle.life_runs.specs.First.{lens_of}
-use Rattle.segment_plan.specs.Bound.{slowest}
+use Rattle.idle_slaves.specs.of_life_runs.First.{lens_of}
+use Rattle.idle_slaves.specs.of_segment_plan.Bound.{slowest}
 use Rattle.served_rings.proofs.of_served_places.Slaves.{begins_so}
 use Rattle.seen_slaves.proofs.Answered.{answered}
 use Rattle.seen_slaves.proofs.Clocks.{first_stand}

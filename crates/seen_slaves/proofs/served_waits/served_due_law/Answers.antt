@@ -1,21 +1,21 @@
 use Rattle.std.proofs.Common.{◌≡◌, ℕ, List, [], ◌∷◌, ◌++◌, length, sym, ◌∙◌, subst}
 use Rattle.std.proofs.lemmas.List.{length-map}
-use Rattle.datagrams.specs.Frame.{chained}
-use Rattle.frame_view.specs.Seen.{seen}
-use Rattle.frame_view.proofs.Octets.{seen_chained}
-use Rattle.life_runs.specs.First.{lens_of}
+use Rattle.idle_slaves.specs.of_datagrams.Frame.{chained}
+use Rattle.idle_slaves.specs.of_frame_view.Seen.{seen}
+use Rattle.idle_slaves.proofs.of_frame_view.Octets.{seen_chained}
+use Rattle.idle_slaves.specs.of_life_runs.First.{lens_of}
 use Rattle.idle_slaves.specs.of_plan_ring.PlanMet.{AllMet}
 use Rattle.idle_slaves.specs.of_plan_ring.Round.{all_seen, frame_seen, ring_after, ring_of}
 use Rattle.idle_slaves.proofs.of_plan_ring.Known.{macs_in}
 use Rattle.idle_slaves.proofs.of_plan_ring.Lives.{front_round, last_round}
-use Rattle.served_rings.specs.of_life_runs.Served.{AllServedTurn}
+use Rattle.idle_slaves.specs.of_life_runs.Served.{AllServedTurn}
 use Rattle.seen_slaves.specs.Eager.{leads_of}
 use Rattle.seen_slaves.proofs.Dues.{all_due}
 use Rattle.seen_slaves.proofs.Meets.{served_met}
 use Rattle.seen_slaves.proofs.Seats.{Laws, nodes_are}
 use Rattle.seen_slaves.proofs.served_waits.served_due_law.Goals as goal
 use Rattle.idle_slaves.specs.of_slave_server.Serving.{Serving}
-use Rattle.slave_node.specs.Node.{Node}
+use Rattle.idle_slaves.specs.of_slave_node.Node.{Node}
 
 pub returns : goal.returns
 returns c = λ plan is known fs missed ws f vs led frame round pass.

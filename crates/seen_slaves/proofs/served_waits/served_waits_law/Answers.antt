@@ -1,6 +1,6 @@
 use Rattle.std.proofs.Common.{subst, sym, ◌∙◌}
 use Rattle.idle_slaves.proofs.Fits.{AllSeated}
-use Rattle.life_runs.specs.First.{first_leads, lens_of}
+use Rattle.idle_slaves.specs.of_life_runs.First.{first_leads, lens_of}
 use Rattle.idle_slaves.specs.of_plan_ring.Round.{all_seen, ring_of}
 use Rattle.idle_slaves.proofs.of_plan_ring.Known.{macs_in}
 use Rattle.idle_slaves.proofs.of_plan_ring.Lives.{front_round, last_round}

@@ -1,4 +1,4 @@
-use Rattle.slave_parts.specs.Parts.{parts}
+use Rattle.idle_slaves.specs.of_slave_parts.Parts.{parts}
 use Rattle.seen_slaves.proofs.Served.{whole_never}
 use Rattle.seen_slaves.proofs.tagged_waits.parts_never.Goals as goal
 

@@ -1,7 +1,7 @@
 use Rattle.std.proofs.Common.{◌<◌, ◌+◌, ◌*◌, length, subst}
 use Rattle.run_frames.specs.of_life_runs.First.{lens_of, first_leads}
-use Rattle.segment_plan.specs.Bound.{slowest}
-use Rattle.life_runs.specs.Served.{all_serve}
+use Rattle.run_frames.specs.of_segment_plan.Bound.{slowest}
+use Rattle.run_frames.specs.of_life_runs.Served.{all_serve}
 use Rattle.served_places.specs.Toured.{first_served}
 use Rattle.run_frames.proofs.Within.{plan_within}
 use Rattle.served_places.proofs.Runs.{counts}

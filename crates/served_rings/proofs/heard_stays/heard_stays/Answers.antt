@@ -1,5 +1,5 @@
-use Rattle.plan_ring.proofs.Lives.{front_round, last_round}
-use Rattle.plan_ring.specs.Round.{ring_of}
+use Rattle.run_work.proofs.of_plan_ring.Lives.{front_round, last_round}
+use Rattle.run_work.specs.of_plan_ring.Round.{ring_of}
 use Rattle.served_rings.proofs.NoMore.{none_more}
 use Rattle.served_rings.proofs.heard_stays.heard_stays.Goals as goal
 

@@ -1,4 +1,4 @@
-use Rattle.slave_parts.specs.Parts.{parts}
+use Rattle.run_work.specs.of_slave_parts.Parts.{parts}
 use Rattle.served_rings.proofs.Slaves.{slave_tells}
 use Rattle.served_rings.proofs.last_told.parts_last_told.Goals as goal
 

@@ -1,6 +1,6 @@
 use Rattle.std.proofs.Common.{refl, suc, ◌-◌, length, arith}
-use Rattle.protocol_models.specs.CoeClient as CoeClient
-use Rattle.protocol_models.specs.SoeClient as SoeClient
+use Rattle.run_work.specs.of_protocol_models.CoeClient as CoeClient
+use Rattle.run_work.specs.of_protocol_models.SoeClient as SoeClient
 use Rattle.served_rings.proofs.Ends
 use Rattle.served_rings.proofs.last_told.parts_told.Goals as goal
 

@@ -1,5 +1,5 @@
 use Rattle.run_work.specs.of_master_hand.Spoken.{is_followed}
-use Rattle.slave_parts.specs.Served.{product_whole}
+use Rattle.run_work.specs.of_slave_parts.Served.{product_whole}
 use Rattle.served_rings.proofs.Slaves.{slave_tells}
 use Rattle.served_rings.proofs.Passed as Passed
 use Rattle.served_rings.proofs.last_told.passed_told.Goals as goal

@@ -1,5 +1,5 @@
 use Rattle.std.proofs.Common.{refl}
-use Rattle.plan_ring.specs.of_slave_lives.Ends.{no_pick}
+use Rattle.run_work.specs.of_slave_lives.Ends.{no_pick}
 use Rattle.served_rings.proofs.LedLives as Lives
 use Rattle.served_rings.proofs.led_eras.led_law.Goals as goal
 

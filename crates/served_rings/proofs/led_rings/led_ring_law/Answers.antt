@@ -1,4 +1,4 @@
-use Rattle.plan_ring.specs.of_whole_ring.Members.{Passes}
+use Rattle.run_work.specs.of_whole_ring.Members.{Passes}
 use Rattle.served_rings.proofs.Rings.{all_led, led_begins, led_turns}
 use Rattle.served_rings.proofs.led_rings.led_ring_law.Goals as goal
 

@@ -1,5 +1,5 @@
 use Rattle.std.proofs.Common.{refl}
-use Rattle.plan_ring.specs.of_slave_server.Serving.{fresh}
+use Rattle.run_work.specs.of_slave_server.Serving.{fresh}
 use Rattle.served_rings.proofs.plan_speakers.run_law.Goals as goal
 
 pub returns-clause-runs : goal.returns-clause-runs

@@ -1,6 +1,6 @@
 use Rattle.std.proofs.Common.{refl}
 use Rattle.served_rings.proofs.Gifts.{replies}
-use Rattle.slave_parts.specs.Parts.{parts}
+use Rattle.run_work.specs.of_slave_parts.Parts.{parts}
 use Rattle.served_rings.proofs.Speakers.{speaks}
 use Rattle.served_rings.proofs.plan_speakers.speaker_law.Goals as goal
 

@@ -1,15 +1,15 @@
 use Rattle.std.proofs.Common.{◌+◌, ◌*◌, ◌<◌, length, subst, arith}
-use Rattle.life_runs.specs.First.{lens_of, first_leads}
+use Rattle.served_places.specs.of_life_runs.First.{lens_of, first_leads}
 use Rattle.run_work.specs.of_life_counts.Split.{own_work}
-use Rattle.run_work.specs.of_run_frames.Fates.{gained_in, lost_of}
+use Rattle.served_places.specs.of_run_frames.Fates.{gained_in, lost_of}
 use Rattle.run_work.specs.ServedGained.{asked_in, leads_of, served_in}
 use Rattle.run_work.specs.Switched.{cuts_begun}
 use Rattle.run_work.specs.Together.{packets_begun}
-use Rattle.run_work.specs.of_run_frames.Begun.{work_in}
-use Rattle.segment_plan.specs.Bound.{services_work, host_work, slowest}
+use Rattle.served_places.specs.of_run_frames.Begun.{work_in}
+use Rattle.run_work.specs.of_segment_plan.Bound.{services_work, host_work, slowest}
 use Rattle.served_rings.proofs.Within.{less_gained, sums}
 use Rattle.served_rings.proofs.served_bound.served_bound.Goals as goal
-use Rattle.life_runs.specs.Served.{all_serve}
+use Rattle.served_places.specs.of_life_runs.Served.{all_serve}
 
 pub returns-clause-within : goal.returns-clause-within
 returns-clause-within c = λ plan fs missed ws p cs count is known run fair packets few.

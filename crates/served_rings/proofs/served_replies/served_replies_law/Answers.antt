@@ -1,7 +1,7 @@
 use Rattle.std.proofs.Common.{sym, ◌∙◌, subst}
-use Rattle.life_runs.specs.First.{lens_of}
-use Rattle.plan_ring.specs.Round.{all_seen}
-use Rattle.plan_ring.proofs.Known.{macs_in}
+use Rattle.served_places.specs.of_life_runs.First.{lens_of}
+use Rattle.run_work.specs.of_plan_ring.Round.{all_seen}
+use Rattle.run_work.proofs.of_plan_ring.Known.{macs_in}
 use Rattle.served_rings.specs.Rings.{nodes_behind}
 use Rattle.served_rings.specs.Stood.{ServeStood}
 use Rattle.served_rings.proofs.ServedAll.{all_serve_so, nodes_of}

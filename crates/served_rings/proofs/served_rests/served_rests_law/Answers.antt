@@ -1,7 +1,7 @@
 use Rattle.std.proofs.Common.{[], sym, ◌∙◌, subst}
 use Rattle.served_places.proofs.of_life_runs.First.{apart_from, have_lens}
-use Rattle.life_runs.specs.First.{first_leads, lens_of}
-use Rattle.plan_ring.specs.Round.{ring_after, ring_of}
+use Rattle.served_places.specs.of_life_runs.First.{first_leads, lens_of}
+use Rattle.run_work.specs.of_plan_ring.Round.{ring_after, ring_of}
 use Rattle.run_work.proofs.Placed.{all_fresh}
 use Rattle.served_rings.specs.Rings.{AllServedAt, nodes_behind}
 use Rattle.served_rings.proofs.RestAll.{all_done}

@@ -1,9 +1,9 @@
-use Rattle.life_runs.specs.First.{lens_of}
-use Rattle.plan_ring.specs.Plan.{plan_of}
-use Rattle.plan_ring.proofs.Known.{macs_in}
+use Rattle.served_places.specs.of_life_runs.First.{lens_of}
+use Rattle.run_work.specs.of_plan_ring.Plan.{plan_of}
+use Rattle.run_work.proofs.of_plan_ring.Known.{macs_in}
 use Rattle.served_rings.proofs.ToldLives.{lives_so}
 use Rattle.served_rings.proofs.told_eras.told_eras_law.Goals as goal
-use Rattle.plan_ring.specs.of_slave_server.Spec.{profile_of}
+use Rattle.run_work.specs.of_slave_server.Spec.{profile_of}
 
 pub returns : goal.returns
 returns c = λ plan is known fs missed ws l round.

@@ -1,7 +1,7 @@
 -- The laws of coe_states, at the object dictionary's tables.
 use Rattle.std.proofs.Common.{refl}
-use Rattle.coe_server.specs.ObjectTables.{tables_with}
-use Rattle.coe_server.proofs.ObjectsLaw.{lawful, spelled}
+use Rattle.slave_server.specs.of_coe_server.ObjectTables.{tables_with}
+use Rattle.slave_server.proofs.of_coe_server.ObjectsLaw.{lawful, spelled}
 use Rattle.slave_app.proofs.StatesLaw.{coe_states_law, coe_states_are, coe_mail_states_law, coe_mail_states_are}
 use Rattle.slave_app.proofs.object_states.objects_are_stated.Goals as goal
 

@@ -1,4 +1,4 @@
-use Rattle.datagrams.proofs.Changing.{IsPart-inside}
+use Rattle.al_state.proofs.of_datagrams.Changing.{IsPart-inside}
 use Rattle.slave_node.proofs.Parts.{inside, part_with, one_passed, exact_passed}
 use Rattle.slave_node.proofs.frame_pass.carry_out.Goals as goal
 

@@ -1,9 +1,9 @@
 use Rattle.std.proofs.Common.{◌<◌, ◌-◌, ℕ, List, length, drop, refl, sym, ap, subst, Some}
-use Rattle.datagrams.specs.declared.frame.Part.{Part}
-use Rattle.datagrams.specs.Datagram.{Datagram}
-use Rattle.datagrams.specs.Frame.{IsFrame, IsPart, part_at}
-use Rattle.datagrams.proofs.Changing.{IsPart-inside}
-use Rattle.datagrams.proofs.Walking.{first_found, none_found}
+use Rattle.al_state.specs.of_datagrams.declared.frame.Part.{Part}
+use Rattle.al_state.specs.of_datagrams.Datagram.{Datagram}
+use Rattle.al_state.specs.of_datagrams.Frame.{IsFrame, IsPart, part_at}
+use Rattle.al_state.proofs.of_datagrams.Changing.{IsPart-inside}
+use Rattle.al_state.proofs.of_datagrams.Walking.{first_found, none_found}
 use Rattle.slave_node.proofs.Passes.{NextIs, AllPassing, Ends, begins, part_is, goes_on, ends, whole, shrinks, kept_twice}
 use Rattle.slave_node.proofs.Skipped.{next_behind, at_part}
 use Rattle.slave_node.proofs.frame_pass.pass_parts.Goals as goal

@@ -1,6 +1,6 @@
 use Rattle.std.proofs.Common.{length, drop, ◌-◌}
-use Rattle.datagrams.specs.Frame.{part_at}
-use Rattle.esc_registers.specs.Access.{KeepsLengths}
+use Rattle.al_state.specs.of_datagrams.Frame.{part_at}
+use Rattle.mailbox_slave.specs.of_esc_registers.Access.{KeepsLengths}
 use Rattle.slave_node.proofs.Passes.{AllPassing}
 use Rattle.slave_node.proofs.frame_pass.pass_parts.Given as goal
 

@@ -1,5 +1,5 @@
 use Rattle.std.proofs.Common.{◌≡◌, ◌<◌, List, length, get_or, subst}
-use Rattle.idn_table.specs.declared.spec.IdnSpec.{IdnSpec}
+use Rattle.soe_server.specs.of_idn_table.declared.spec.IdnSpec.{IdnSpec}
 use Rattle.slave_server.proofs.Idns.{takes_more}
 use Rattle.slave_server.proofs.spec.idns_of.Goals as goal
 

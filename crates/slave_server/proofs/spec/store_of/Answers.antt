@@ -1,5 +1,5 @@
 use Rattle.std.proofs.Common.{ℕ, ◌≡◌, ◌<◌, ◌∙◌, List, length, get_or, subst, ap}
-use Rattle.file_store.specs.declared.file.FileSpec.{FileSpec}
+use Rattle.segment_plan.specs.of_file_store.declared.file.FileSpec.{FileSpec}
 use Rattle.slave_server.proofs.Files.{next_fits, takes_more}
 use Rattle.slave_server.specs.Spec.{with_file}
 use Rattle.slave_server.proofs.spec.store_of.Goals as goal

@@ -1,5 +1,5 @@
 use Rattle.std.proofs.Common.{◌≡◌}
-use Rattle.ec_outside.specs.Faults.{Rose}
+use Rattle.ecmbx_words.specs.of_ec_outside.Faults.{Rose}
 use Rattle.gateway_tool.specs.Told.{told}
 use Rattle.tool_call.specs.declared.asked.Act.{Act}
 use Rattle.tool_call.proofs.Causes.{acted_at}

@@ -1,5 +1,5 @@
 use Rattle.std.proofs.Common.{◌≡◌, map, string_bytes}
-use Rattle.ec_outside.specs.Faults.{Rose}
+use Rattle.ecmbx_words.specs.of_ec_outside.Faults.{Rose}
 use Rattle.gateway_tool.specs.Told.{told}
 use Rattle.tool_call.proofs.Causes.{usage_cause, absent_cause, long_cause, no_answer_cause, port_cause, file_cause}
 use Rattle.tool_call.proofs.call.ask_call.Goals as goal

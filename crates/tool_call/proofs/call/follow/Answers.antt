@@ -1,5 +1,5 @@
 use Rattle.std.proofs.Common.{◌≡◌, map, string_bytes, refl, sym}
-use Rattle.ec_outside.specs.Faults.{Rose}
+use Rattle.ecmbx_words.specs.of_ec_outside.Faults.{Rose}
 use Rattle.gateway_tool.specs.Told.{told}
 use Rattle.ecmbx_words.specs.declared.status.Status.TheVariants as statuses
 use Rattle.ecmbx_words.specs.Texts.{usage_line}

@@ -1,6 +1,6 @@
 use Rattle.std.proofs.Common.{◌≡◌, refl}
-use Rattle.ec_outside.specs.Faults.{Rose}
-use Rattle.segment_plan.specs.declared.service.Service.{Service}
+use Rattle.ecmbx_words.specs.of_ec_outside.Faults.{Rose}
+use Rattle.gateway_tool.specs.of_segment_plan.declared.service.Service.{Service}
 use Rattle.gateway_tool.specs.Told.{told}
 use Rattle.ecmbx_words.proofs.Loads.{loaded, unloaded}
 use Rattle.tool_call.specs.Course.{limit, call_of, CallCourse}

@@ -1,8 +1,8 @@
 use Rattle.std.proofs.Common.{◌≡◌, ◌-◌, ◌<◌, ◌∷◌, true, Some, sym, ap, ◌∙◌, subst, arith}
-use Rattle.mailbox_mail.specs.declared.mail.Kind.TheVariants.{CoE}
-use Rattle.coe_codec.specs.View.{coe_seen}
-use Rattle.coe_codec.specs.declared.viewing.CoeView.{CoeView}
-use Rattle.coe_codec.proofs.Only.{read-only}
+use Rattle.protocol_models.specs.of_mailbox_mail.declared.mail.Kind.TheVariants.{CoE}
+use Rattle.protocol_models.specs.of_coe_codec.View.{coe_seen}
+use Rattle.protocol_models.specs.of_coe_codec.declared.viewing.CoeView.{CoeView}
+use Rattle.protocol_models.proofs.of_coe_codec.Only.{read-only}
 use Rattle.protocol_models.specs.CoeMails.{mail}
 use Rattle.protocol_models.specs.CoeOctets.{heard, mail_with}
 use Rattle.coe_client.specs.declared.state.Unsent.{Unsent}

@@ -1,7 +1,7 @@
 use Rattle.std.proofs.Common.{◌≡◌, Ok, Result, ap, ◌∙◌}
-use Rattle.mailbox_mail.specs.Counter.{counter_behind}
-use Rattle.mailbox_mail.specs.declared.mail.Mail.{Mail}
-use Rattle.mailbox_mail.specs.declared.mail.MailFault.{MailFault}
+use Rattle.coe_client.specs.of_mailbox_mail.Counter.{counter_behind}
+use Rattle.coe_client.specs.of_mailbox_mail.declared.mail.Mail.{Mail}
+use Rattle.coe_client.specs.of_mailbox_mail.declared.mail.MailFault.{MailFault}
 use Rattle.coe_law.specs.Mailboxes.{Posted}
 use Rattle.coe_law.proofs.mailbox.Mailbox.carry.Goals as goal
 

@@ -1,6 +1,6 @@
 use Rattle.std.proofs.Common.{ap}
-use Rattle.mailbox_mail.specs.declared.mail.Kind.TheVariants.{CoE}
-use Rattle.coe_codec.proofs.Only.{read-only}
+use Rattle.protocol_models.specs.of_mailbox_mail.declared.mail.Kind.TheVariants.{CoE}
+use Rattle.protocol_models.proofs.of_coe_codec.Only.{read-only}
 use Rattle.protocol_models.specs.CoeMails.{mail}
 use Rattle.protocol_models.specs.CoeOctets.{heard, mail_with}
 use Rattle.coe_server.specs.Serving.{message_of}

@@ -1,5 +1,4 @@
-use Rattle.std.proofs.Common.{ap, arith}
-use Rattle.std.proofs.Common.{Some}
+use Rattle.std.proofs.Common.{ap, arith, Some}
 use Rattle.ec_outside.proofs.HeardItems.{heard_pause, heard_gram}
 use Rattle.ec_outside.proofs.mem_port.MemPort.give.Goals as goal
 

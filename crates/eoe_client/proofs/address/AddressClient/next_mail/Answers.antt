@@ -1,5 +1,5 @@
 use Rattle.std.proofs.Common.{ap, ◌∙◌, subst}
-use Rattle.eoe.specs.Message.{eoe_text}
+use Rattle.protocol_models.specs.of_eoe.Message.{eoe_text}
 use Rattle.protocol_models.specs.EoeMails.{SetIp}
 use Rattle.eoe_client.specs.declared.address.Unsent.{Unsent}
 use Rattle.eoe_client.specs.Talk.{Talking, SendsNext}

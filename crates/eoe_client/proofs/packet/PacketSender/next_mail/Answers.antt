@@ -1,6 +1,6 @@
 use Rattle.std.proofs.Common.{sym, subst}
-use Rattle.eoe.specs.Cutting.{Cutting}
-use Rattle.eoe.specs.View.{fragment_seen}
+use Rattle.protocol_models.specs.of_eoe.Cutting.{Cutting}
+use Rattle.protocol_models.specs.of_eoe.View.{fragment_seen}
 use Rattle.eoe_client.specs.Talk.{Sending, SendsPart}
 use Rattle.eoe_client.proofs.Sends.{part_sent}
 use Rattle.eoe_client.proofs.packet.PacketSender.next_mail.Goals as goal

@@ -1,5 +1,5 @@
 use Rattle.std.proofs.Common.{◌≡◌, ◌≤◌, true, sym, ap, ◌∙◌, subst}
-use Rattle.mailbox_mail.specs.declared.mail.Kind.TheVariants.{FoE}
+use Rattle.protocol_models.specs.of_mailbox_mail.declared.mail.Kind.TheVariants.{FoE}
 use Rattle.protocol_models.specs.FoeMails.{mail}
 use Rattle.protocol_models.specs.FoeOctets.{mail_with}
 use Rattle.foe_client.specs.Talk.{Talking, is_left}

@@ -1,6 +1,6 @@
 use Rattle.std.proofs.Common.{[], sym, subst}
-use Rattle.master_node.specs.declared.event.Event.TheVariants as events
-use Rattle.master_node.specs.declared.event.Origin.{Origin}
+use Rattle.run_record.specs.of_master_node.declared.event.Event.TheVariants as events
+use Rattle.run_record.specs.of_master_node.declared.event.Origin.{Origin}
 use Rattle.gateway_run.specs.Account.{left_by}
 use Rattle.gateway_run.specs.Desk.{Tells}
 use Rattle.gateway_run.proofs.Accounts.{owes_none}

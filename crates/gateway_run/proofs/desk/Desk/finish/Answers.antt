@@ -3,11 +3,10 @@ use Rattle.std.specs.Prelude.{All, filter, IsSome, IsTrue}
 use Rattle.std.proofs.lemmas.List.Elements.{All-filter}
 use Rattle.slab.specs.Slab.{get}
 use Rattle.gateway_core.specs.declared.asker.Asker.{Asker}
-use Rattle.gateway_run.specs.Desk.{IsOpen}
+use Rattle.gateway_run.specs.Desk.{IsOpen, AreApart}
 use Rattle.gateway_run.specs.declared.desk.Request.{Request}
 use Rattle.std.proofs.lemmas.Fn.{filter_same}
 use Rattle.gateway_run.specs.Account.{is_other}
-use Rattle.gateway_run.specs.Desk.{AreApart}
 use Rattle.gateway_run.proofs.Accounts.{apart_filter, free_of, others_free, others_least}
 use Rattle.gateway_run.proofs.Desks.{finished}
 use Rattle.gateway_run.proofs.desk.Desk.finish.Goals as goal

@@ -1,5 +1,5 @@
 use Rattle.std.proofs.Common.{List, length}
-use Rattle.ec_outside.specs.Port.{HeardGram}
+use Rattle.gateway_core.specs.of_ec_outside.Port.{HeardGram}
 use Rattle.gateway_run.specs.Desk.{IsSound}
 use Rattle.gateway_run.proofs.Told.{IsGivingUp}
 use Rattle.gateway_run.proofs.desk.Desk.give_up.Given as goal

@@ -1,7 +1,7 @@
 use Rattle.std.proofs.Common.{◌∷◌, ◌++◌, [], refl, sym, ◌∙◌, subst, arith}
 use Rattle.std.specs.Prelude.{All, false}
 use Rattle.std.proofs.lemmas.List.Elements.{All-push}
-use Rattle.ec_outside.specs.Port.{HeardGram}
+use Rattle.gateway_core.specs.of_ec_outside.Port.{HeardGram}
 use Rattle.gateway_run.specs.Heard.{IsOwed, IsJudged}
 use Rattle.std.proofs.lemmas.Result.{on_ok_weaker, IfOk-weaker}
 use Rattle.gateway_run.specs.Desk.{IsTakenSo}

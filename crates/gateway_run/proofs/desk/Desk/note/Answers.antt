@@ -1,6 +1,6 @@
 use Rattle.std.proofs.Common.{sym, subst}
 use Rattle.std.proofs.lemmas.Result.{on_ok_weaker}
-use Rattle.master_node.specs.declared.event.Event.{Event}
+use Rattle.run_record.specs.of_master_node.declared.event.Event.{Event}
 use Rattle.gateway_run.specs.Account.{left_by, owed_by}
 use Rattle.gateway_run.specs.Desk.{Tells}
 use Rattle.gateway_run.proofs.Accounts.{owes_none}

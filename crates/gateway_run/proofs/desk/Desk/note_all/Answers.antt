@@ -1,6 +1,6 @@
 use Rattle.std.proofs.Common.{◌≡◌, ◌+◌, List, length, drop, ap, subst, arith}
 use Rattle.std.specs.Prelude.{slice_index_or}
-use Rattle.master_node.specs.declared.event.Event.{Event}
+use Rattle.run_record.specs.of_master_node.declared.event.Event.{Event}
 use Rattle.gateway_run.specs.Events.{events_of}
 use Rattle.gateway_run.proofs.Accounts.{next_of, none_behind}
 use Rattle.gateway_run.proofs.Told.{IsNoting, noting_on, noted_all}

@@ -1,5 +1,5 @@
 use Rattle.std.proofs.Common.{List, drop}
-use Rattle.ec_outside.specs.Port.{HeardGram}
+use Rattle.gateway_core.specs.of_ec_outside.Port.{HeardGram}
 use Rattle.gateway_run.specs.Events.{events_of}
 use Rattle.gateway_run.specs.Desk.{IsSound}
 use Rattle.gateway_run.proofs.Told.{IsNoting}

@@ -1,6 +1,6 @@
 use Rattle.std.proofs.Common.{sym, ◌∙◌, subst}
 use Rattle.std.proofs.lemmas.Result.{on_ok_weaker}
-use Rattle.run_book.specs.declared.book.Book.{Book}
+use Rattle.run_record.specs.of_run_book.declared.book.Book.{Book}
 use Rattle.gateway_run.specs.Goes.{MaySend}
 use Rattle.gateway_run.specs.declared.turn.Serving.{Serving}
 use Rattle.gateway_run.proofs.Waits.{may_busy, may_full}

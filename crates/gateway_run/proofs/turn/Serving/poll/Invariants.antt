@@ -1,5 +1,5 @@
 use Rattle.std.proofs.Common.{◌≤◌, ℕ}
-use Rattle.segment_plan.specs.declared.plan.Scenario.{Scenario}
+use Rattle.run_record.specs.of_segment_plan.declared.plan.Scenario.{Scenario}
 use Rattle.gateway_run.specs.Desk.{SameLive, StaysBusy}
 use Rattle.gateway_run.specs.Goes.{MaySend}
 use Rattle.gateway_run.specs.Serving.{Told, told, IsHearing, left}

@@ -1,10 +1,10 @@
 use Rattle.std.proofs.Common.{ℕ, List, refl, ap, ◌∙◌, subst, arith}
 use Rattle.gateway_run.specs.Serving.{Listens}
-use Rattle.ec_outside.specs.declared.port.Heard.{Heard}
+use Rattle.gateway_core.specs.of_ec_outside.declared.port.Heard.{Heard}
 use Rattle.gateway_run.specs.Desk.{Takes}
 use Rattle.std.specs.Prelude.{Err}
 use Rattle.std.proofs.lemmas.Result.{err_from_is_err_and}
-use Rattle.run_book.specs.declared.book.Book.{Book}
+use Rattle.run_record.specs.of_run_book.declared.book.Book.{Book}
 use Rattle.gateway_run.proofs.Turns.{took, frames_of, goes_without, over, quiet}
 use Rattle.gateway_run.proofs.Room.{not_over, room}
 use Rattle.gateway_run.proofs.turn.Serving.take.Goals as goal

@@ -1,6 +1,6 @@
 use Rattle.std.proofs.Common.{◌≡◌, ◌≤◌, ◌||◌, [], length, Ok}
-use Rattle.ec_outside.specs.Port.{Hears}
-use Rattle.ec_outside.specs.declared.port.Heard.TheVariants.{Quiet}
+use Rattle.ec_links.specs.of_ec_outside.Port.{Hears}
+use Rattle.ec_links.specs.of_ec_outside.declared.port.Heard.TheVariants.{Quiet}
 use Rattle.gateway_stream.specs.Hearing.{heard_of, is_broken}
 use Rattle.gateway_stream.proofs.Asked.{AskedFew}
 use Rattle.gateway_stream.proofs.stream.StreamPort.hear.Given as goal

@@ -1,6 +1,6 @@
 use Rattle.std.proofs.Common.{sym, subst, ◌∙◌}
 use Rattle.std.specs.Prelude.{Result}
-use Rattle.ec_outside.specs.declared.port.PortErr.{PortErr}
+use Rattle.gateway_core.specs.of_ec_outside.declared.port.PortErr.{PortErr}
 use Rattle.gateway_tool.specs.Told.{told}
 use Rattle.gateway_tool.specs.Talk.{EndsSo}
 use Rattle.gateway_tool.proofs.Talks.{ends_so, never_failed}

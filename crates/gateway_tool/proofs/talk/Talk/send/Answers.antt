@@ -1,5 +1,5 @@
 use Rattle.std.proofs.Common.{List, ℕ, subst}
-use Rattle.ec_outside.specs.Port.{Sends}
+use Rattle.gateway_core.specs.of_ec_outside.Port.{Sends}
 use Rattle.gateway_tool.specs.Told.{told}
 use Rattle.gateway_tool.proofs.Talks.{sends_nothing, sends_laid}
 use Rattle.gateway_tool.proofs.talk.Talk.send.Goals as goal

@@ -2,7 +2,7 @@
 use Rattle.std.proofs.Common.{sym, subst, List}
 use Rattle.std.specs.Prelude.{All}
 use Rattle.std.proofs.lemmas.List.Elements.{All-drop}
-use Rattle.mailbox_mail.specs.declared.mail.Mail.{Mail}
+use Rattle.mailbox_master.specs.of_mailbox_mail.declared.mail.Mail.{Mail}
 use Rattle.mailbox_law.specs.Waiting.{HasRoom}
 use Rattle.mailbox_law.proofs.keeper.KeeperServer.next.Goals as goal
 

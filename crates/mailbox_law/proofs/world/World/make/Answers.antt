@@ -1,6 +1,6 @@
 -- What stands in mailbox 1 was placed there by the box.
 use Rattle.std.proofs.Common.{sym, subst}
-use Rattle.link_model.specs.Link.{happens}
+use Rattle.mailbox_master.specs.of_link_model.Link.{happens}
 use Rattle.mailbox_law.specs.Waiting.{keeper}
 use Rattle.mailbox_law.specs.Steps.{event_of}
 use Rattle.mailbox_law.specs.World.{Shows}

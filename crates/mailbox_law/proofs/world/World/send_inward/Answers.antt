@@ -1,6 +1,6 @@
 -- Field by field, each by what the link has in its place.
 use Rattle.std.proofs.Common.{◌∙◌, ◌++◌, ap}
-use Rattle.link_model.specs.Link.{in_half_after, in_side_after, in_news}
+use Rattle.mailbox_master.specs.of_link_model.Link.{in_half_after, in_side_after, in_news}
 use Rattle.mailbox_law.specs.Steps.{fate_of}
 use Rattle.mailbox_law.specs.Waiting.{bodies_of}
 use Rattle.mailbox_law.proofs.world.World.send_inward.Goals as goal

@@ -1,8 +1,8 @@
 -- The box makes the processor's step over the keeper, of which the link sees what waits.
 use Rattle.std.proofs.Common.{◌≡◌, ◌∙◌, ap, List}
-use Rattle.link_model.specs.Slave.{Node, node_seen, processor_step}
-use Rattle.link_model.proofs.Servers.{step_seen}
-use Rattle.link_mails.specs.Body.{Body}
+use Rattle.mailbox_master.specs.of_link_model.Slave.{Node, node_seen, processor_step}
+use Rattle.mailbox_master.proofs.of_link_model.Servers.{step_seen}
+use Rattle.mailbox_master.specs.of_link_mails.Body.{Body}
 use Rattle.mailbox_slave.specs.Node.{node_of}
 use Rattle.mailbox_law.specs.Waiting.{Kept, keeper, bodies_of}
 use Rattle.mailbox_law.proofs.Stepping.{kept_server, waiting_of, seen_keeper, step_taken, step_given}

@@ -1,12 +1,11 @@
 -- What the read gave is the news of the mail that it brought.
-use Rattle.std.proofs.Common.{◌∙◌, refl}
-use Rattle.mailbox_mail.specs.Mail.{mail_read}
+use Rattle.std.proofs.Common.{◌∙◌, refl, ap}
+use Rattle.link_mails.specs.of_mailbox_mail.Mail.{mail_read}
 use Rattle.link_mails.specs.of_link_model.Master.{InState}
 use Rattle.mailbox_master.specs.Halves.{in_half}
 use Rattle.link_mails.specs.Body.{mail_brought}
 use Rattle.mailbox_master.specs.Next.{accepted_by}
 use Rattle.mailbox_master.proofs.Agreement.{clear_read, got_by-accepts}
-use Rattle.std.proofs.Common.{ap}
 use Rattle.mailbox_master.proofs.inward.Inward+Clear.answered.Goals as goal
 
 pub returns-clause-agrees : goal.returns-clause-agrees

@@ -2,7 +2,7 @@ use Rattle.std.proofs.Common.{◌≡◌, [], refl, subst, ap}
 use Rattle.std.proofs.lemmas.Bool.{OnFalse_at, OnFalse_from}
 use Rattle.std.specs.Bool.{OnFalse}
 use Rattle.std.specs.Prelude.{map}
-use Rattle.mailbox_mail.specs.declared.mail.Kind.{Kind}
+use Rattle.eoe_client.specs.of_mailbox_mail.declared.mail.Kind.{Kind}
 use Rattle.master_hand.specs.Spoken.{told_drive}
 use Rattle.master_hand.specs.Talk.{Talking, IsSent, client_later}
 use Rattle.master_hand.specs.declared.clients.Which.{Which}

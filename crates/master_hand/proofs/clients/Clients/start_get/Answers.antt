@@ -1,6 +1,6 @@
 use Rattle.std.proofs.Common.{subst}
-use Rattle.soe_client.specs.of_protocol_models.SoeClient as SoeClient
-use Rattle.soe_client.specs.of_protocol_models.Elements.{target}
+use Rattle.eoe_client.specs.of_protocol_models.SoeClient as SoeClient
+use Rattle.eoe_client.specs.of_protocol_models.Elements.{target}
 use Rattle.master_hand.specs.Spoken.{drive}
 use Rattle.master_hand.specs.Talk.{Talking, Starts}
 use Rattle.master_hand.specs.declared.clients.Which.{Which}

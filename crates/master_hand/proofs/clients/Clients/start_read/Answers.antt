@@ -1,5 +1,5 @@
 use Rattle.std.proofs.Common.{ℕ, List, subst}
-use Rattle.foe_client.specs.of_protocol_models.FoeMeaning as FoeMeaning
+use Rattle.eoe_client.specs.of_protocol_models.FoeMeaning as FoeMeaning
 use Rattle.master_hand.specs.Spoken.{file}
 use Rattle.master_hand.specs.Talk.{Talking, Starts}
 use Rattle.master_hand.specs.declared.clients.Which.{Which}

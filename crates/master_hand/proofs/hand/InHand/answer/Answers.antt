@@ -1,6 +1,6 @@
 use Rattle.std.proofs.Common.{◌≡◌, Bool, true, false, Option, Some, None, [], refl, sym, ap, ◌∙◌}
 use Rattle.std.specs.Prelude.{IfSome, if◌then◌else◌}
-use Rattle.mailbox_mail.specs.declared.outcome.ReplyKind.{ReplyKind}
+use Rattle.eoe_client.specs.of_mailbox_mail.declared.outcome.ReplyKind.{ReplyKind}
 use Rattle.master_hand.specs.Hears.{kind_in}
 use Rattle.master_hand.specs.Passed.{at_end}
 use Rattle.master_hand.specs.Spoken.{passed_ends}

@@ -1,18 +1,16 @@
-use Rattle.std.proofs.Common.{[], ◌∷◌, sym, subst}
+use Rattle.std.proofs.Common.{[], ◌∷◌, sym, subst, ap, ◌∙◌}
 use Rattle.std.specs.Prelude.{option_map}
 use Rattle.foe_client.specs.of_exchange_model.Rows.{row_heard}
-use Rattle.mailbox_mail.specs.declared.mail.Mail.{Mail}
-use Rattle.mailbox_mail.specs.View.{mail_seen}
+use Rattle.eoe_client.specs.of_mailbox_mail.declared.mail.Mail.{Mail}
+use Rattle.eoe_client.specs.of_mailbox_mail.View.{mail_seen}
 use Rattle.master_hand.specs.Passed.{body_of}
-use Rattle.master_hand.specs.Shown.{HandShows}
+use Rattle.master_hand.specs.Shown.{HandShows, awaits_reply, knows}
 use Rattle.master_hand.specs.Spoken.{hand_speech}
 use Rattle.master_hand.specs.Talk.{ClientTook}
 use Rattle.master_hand.specs.declared.course.Course.{Course}
 use Rattle.master_hand.proofs.Hands.{took_shown}
-use Rattle.std.proofs.Common.{ap, ◌∙◌}
 use Rattle.master_side.specs.declared.hand.Heard.{Heard}
 use Rattle.master_side.specs.Passing.{goes_on}
-use Rattle.master_hand.specs.Shown.{awaits_reply, knows}
 use Rattle.master_hand.proofs.Knowing.{due_knows, sure_before}
 use Rattle.master_hand.specs.Replied.{kept_where}
 use Rattle.master_hand.proofs.Replies.{took_tells, took_awaits, took_replies}

@@ -1,15 +1,13 @@
-use Rattle.std.proofs.Common.{sym, ◌∙◌, ap, subst}
+use Rattle.std.proofs.Common.{sym, ◌∙◌, ap, subst, true, false}
 use Rattle.master_side.specs.Due.{IsDue}
 use Rattle.master_side.specs.of_link_mails.Body.{Body}
 use Rattle.foe_client.specs.of_exchange_model.Exchange.{Speech}
 use Rattle.master_side.specs.of_master_duty.Reply.{Reply}
-use Rattle.master_hand.specs.Spoken.{Asked}
+use Rattle.master_hand.specs.Spoken.{Asked, is_followed}
 use Rattle.master_hand.proofs.Knowing.{due_answered}
-use Rattle.mailbox_mail.specs.View.{mail_seen}
+use Rattle.eoe_client.specs.of_mailbox_mail.View.{mail_seen}
 use Rattle.master_hand.specs.Passed.{body_of}
 use Rattle.master_hand.proofs.Hands.{emission_shown, heard_shown}
-use Rattle.master_hand.specs.Spoken.{is_followed}
-use Rattle.std.proofs.Common.{true, false}
 use Rattle.master_hand.specs.Shown.{awaits_reply, is_awaiting, knows}
 use Rattle.master_hand.proofs.Replies.{emission_tells, emission_kept, unawaited_kept, reply_is_kept}
 use Rattle.master_hand.proofs.hand.InHandHand.hear.Goals as goal

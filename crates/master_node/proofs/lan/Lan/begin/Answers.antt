@@ -1,4 +1,4 @@
-use Rattle.std.proofs.Common.{refl, sym, ap, ◌∙◌}
+use Rattle.std.proofs.Common.{refl, sym, ap, ◌∙◌, ◌≡◌, true, subst}
 use Rattle.std.specs.Prelude.{slice_get}
 use Rattle.master_node.specs.Begins.{oldest_by}
 use Rattle.master_node.specs.Forwards.{port_by}
@@ -6,7 +6,6 @@ use Rattle.master_node.proofs.Begins.{takes_one, takes_none}
 use Rattle.master_node.proofs.Forwards.{taken_from, none_from, fewer_from}
 use Rattle.master_node.proofs.Happenings.{happens_none, begun_goes}
 use Rattle.master_node.proofs.Made.{makes_one, makes_none}
-use Rattle.std.proofs.Common.{◌≡◌, true, subst}
 use Rattle.eoe_switch.specs.Switch.{Switched}
 use Rattle.master_node.specs.Ported.{are_queued}
 use Rattle.master_node.proofs.Queued.{queued_begun}

@@ -1,8 +1,7 @@
-use Rattle.std.proofs.Common.{refl, true, sym, ap, ◌∙◌}
+use Rattle.std.proofs.Common.{refl, true, sym, ap, ◌∙◌, ◌≡◌, subst}
 use Rattle.master_node.specs.Downs.{down_by}
 use Rattle.master_node.proofs.Downs.{lists_one, lists_none}
 use Rattle.master_node.proofs.Happenings.{down_goes}
-use Rattle.std.proofs.Common.{◌≡◌, subst}
 use Rattle.eoe_switch.specs.Switch.{Switched}
 use Rattle.master_node.specs.Ported.{are_queued}
 use Rattle.master_node.proofs.Queued.{queued_down}

@@ -1,12 +1,11 @@
 use Rattle.std.proofs.Common.{◌≡◌, ◌+◌, ◌∙◌, refl, ap, arith, length, List, ℕ}
 use Rattle.arrayvec.specs.ArrayVec.{ArrayVec}
 use Rattle.eoe_switch.specs.Switch.{Switched, first_switch}
-use Rattle.segment_plan.specs.declared.slave.SlaveSpec.{SlaveSpec}
-use Rattle.master_node.specs.Ported.{are_long}
+use Rattle.life_runs.specs.of_segment_plan.declared.slave.SlaveSpec.{SlaveSpec}
+use Rattle.master_node.specs.Ported.{are_long, are_queued}
 use Rattle.master_node.specs.Ports.{ports_of, ports_behind}
 use Rattle.master_node.proofs.Happenings.{happened_none}
 use Rattle.master_node.proofs.Ports.{long_all}
-use Rattle.master_node.specs.Ported.{are_queued}
 use Rattle.master_node.proofs.Queued.{queued_first}
 use Rattle.master_node.proofs.lan.Lan.new.Goals as goal
 

@@ -1,5 +1,5 @@
 use Rattle.std.proofs.Common.{◌<◌, ◌∷◌, [], refl, ap, ◌∙◌, arith, length}
-use Rattle.master_hand.specs.Brings.{emergency_kept}
+use Rattle.life_runs.specs.of_master_hand.Brings.{emergency_kept}
 use Rattle.master_node.specs.Besides.{emergency_told, emitted_does}
 use Rattle.master_node.specs.declared.event.Event.{Event}
 use Rattle.master_node.proofs.Besides.{besides_as, besides_none, besides_one, does_told, so_here}

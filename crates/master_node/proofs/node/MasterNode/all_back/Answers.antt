@@ -1,6 +1,6 @@
-use Rattle.std.proofs.Common.{◌≡◌, ◌<◌, refl, ◌∙◌, arith, ap, sym, length, get_or}
-use Rattle.std.specs.Prelude.{slice_get}
-use Rattle.std.proofs.lemmas.List.{take_all}
+use Rattle.std.proofs.Common.{◌≡◌, ◌<◌, refl, ◌∙◌, arith, ap, sym, length, get_or, subst, take, ◌∷◌, [], ◌++◌, ◌+◌, ◌==◌, ℕ, Bool, true, false}
+use Rattle.std.specs.Prelude.{slice_get, ◌||◌, not, if◌then◌else◌}
+use Rattle.std.proofs.lemmas.List.{take_all, take_more}
 use Rattle.master_node.specs.Arrivals.{arrive_by, arrivals_in, heard_at}
 use Rattle.master_node.specs.Forwards.{port_by}
 use Rattle.master_node.proofs.Tells.{node_refl, node_then}
@@ -8,19 +8,13 @@ use Rattle.master_node.proofs.Arrivals.{arrivals_next, heard_kept}
 use Rattle.master_node.proofs.Downs.{lists_none, lists_then, lists_as}
 use Rattle.master_node.proofs.Happenings.{happens_none, happens_then, happens_more}
 use Rattle.master_node.proofs.Servings.{tells_refl, tells_then}
-use Rattle.std.proofs.Common.{subst, take, ◌∷◌, []}
-use Rattle.std.proofs.lemmas.List.{take_more}
-use Rattle.master_node.specs.Handed.{EndsWork, passing_at}
-use Rattle.master_node.proofs.Endings.{ends_from, ends_same, ends_then}
-use Rattle.std.proofs.Common.{◌++◌, ◌+◌, ◌==◌, ℕ, Bool, true, false}
-use Rattle.std.specs.Prelude.{◌||◌, not, if◌then◌else◌}
+use Rattle.master_node.specs.Handed.{EndsWork, passing_at, work_at}
+use Rattle.master_node.proofs.Endings.{ends_from, ends_same, ends_then, in_more}
 use Rattle.std.proofs.lemmas.Bool.{eqb-true}
-use Rattle.master_tour.specs.Made.{is_in}
+use Rattle.life_runs.specs.of_master_tour.Made.{is_in}
 use Rattle.master_node.specs.Besides.{back_does, back_told, does_at}
-use Rattle.master_node.specs.Handed.{work_at}
 use Rattle.master_node.specs.Listing.{told_in}
 use Rattle.master_node.proofs.Besides.{back_same, besides_as, besides_none, besides_then, not_in_one, once_fresh, or_left, or_right}
-use Rattle.master_node.proofs.Endings.{in_more}
 use Rattle.master_node.proofs.Listing.{told_push}
 use Rattle.master_node.proofs.node.MasterNode.all_back.Goals as goal
 

@@ -1,6 +1,6 @@
 use Rattle.std.proofs.Common.{◌≡◌, ℕ, true, false, vec_len, take}
-use Rattle.master_tour.specs.Made.{is_in}
-use Rattle.master_tour.specs.Orders.{AreOnce}
+use Rattle.life_runs.specs.of_master_tour.Made.{is_in}
+use Rattle.life_runs.specs.of_master_tour.Orders.{AreOnce}
 use Rattle.master_node.specs.Besides.{TellsAll, back_does, back_told, does_at}
 use Rattle.master_node.specs.Listing.{events_before, told_in}
 use Rattle.master_node.specs.Arrivals.{arrivals_in, heard_at}

@@ -1,19 +1,16 @@
-use Rattle.std.proofs.Common.{◌≡◌, ◌<◌, refl, ◌∙◌, arith, ap, sym, length, get_or}
+use Rattle.std.proofs.Common.{◌≡◌, ◌<◌, refl, ◌∙◌, arith, ap, sym, length, get_or, subst, take, ◌∷◌, [], ◌++◌, ◌+◌, ℕ}
 use Rattle.std.specs.Prelude.{slice_get}
 use Rattle.master_node.specs.Forwards.{port_by}
-use Rattle.std.proofs.lemmas.List.{take_all}
+use Rattle.std.proofs.lemmas.List.{take_all, take_more}
 use Rattle.master_node.specs.Downs.{down_by, downs_in, gives_at}
 use Rattle.master_node.proofs.Tells.{node_refl, node_then}
 use Rattle.master_node.proofs.Happenings.{happens_none, happens_then, happens_more}
 use Rattle.master_node.proofs.Downs.{lists_none, lists_then, lists_as, downs_next}
-use Rattle.std.proofs.Common.{subst, take, ◌∷◌, []}
-use Rattle.std.proofs.lemmas.List.{take_more}
 use Rattle.master_node.specs.Dropped.{Drops, gave_at}
 use Rattle.master_node.specs.Serving.{mails_in}
 use Rattle.master_node.proofs.Droppeds.{drops_on, drops_start}
 use Rattle.master_node.specs.Handed.{DropsWork}
 use Rattle.master_node.proofs.Endings.{drop_on, drop_start}
-use Rattle.std.proofs.Common.{◌++◌, ◌+◌, ℕ}
 use Rattle.master_node.specs.Besides.{given_at}
 use Rattle.master_node.specs.Listing.{told_in}
 use Rattle.master_node.proofs.Besides.{besides_as, besides_none, besides_then}

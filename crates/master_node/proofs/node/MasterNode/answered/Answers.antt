@@ -1,15 +1,13 @@
-use Rattle.std.proofs.Common.{refl, arith}
+use Rattle.std.proofs.Common.{refl, arith, ◌≡◌, ◌<◌, length, Some}
 use Rattle.master_node.specs.Shows.{WaitsNone}
 use Rattle.master_node.proofs.Kepts.{node_same}
 use Rattle.master_node.proofs.Lists.{all_set}
 use Rattle.master_node.proofs.Servings.{posts_set}
 use Rattle.master_node.proofs.Listing.{forwards_set}
 use Rattle.master_node.proofs.Numbereds.{numbers_same, numbers_set}
-use Rattle.std.proofs.Common.{◌≡◌, ◌<◌, length, arith, refl}
-use Rattle.master_tour.proofs.Walks.{steps_set}
+use Rattle.life_runs.proofs.of_master_tour.Walks.{steps_set}
 use Rattle.master_node.specs.declared.post.Work.{Work}
 use Rattle.master_node.proofs.Besides.{besides_one, does_answered}
-use Rattle.std.proofs.Common.{Some}
 use Rattle.master_node.proofs.Answereds.{answered_answers}
 use Rattle.master_node.proofs.node.MasterNode.answered.Goals as goal
 

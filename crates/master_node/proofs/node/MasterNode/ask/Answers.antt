@@ -1,7 +1,7 @@
 use Rattle.std.proofs.Common.{◌≡◌, ◌<◌, ◌∙◌, [], sym, arith, length, subst}
 use Rattle.std.specs.Prelude.{slice_get}
 use Rattle.master_node.proofs.Restings.{if_less, none_before}
-use Rattle.master_tour.proofs.Walks.{steps_both, steps_set}
+use Rattle.life_runs.proofs.of_master_tour.Walks.{steps_both, steps_set}
 use Rattle.master_node.specs.Appends.{AppendsMail}
 use Rattle.master_node.proofs.Places.{waiting_here}
 use Rattle.life_runs.specs.of_frame_view.Shares.{AreDistinct}

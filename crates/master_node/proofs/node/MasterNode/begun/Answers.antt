@@ -1,25 +1,21 @@
-use Rattle.std.proofs.Common.{◌<◌, refl, sym, ap, subst, arith, length}
-use Rattle.master_tour.specs.Walks.{StepsAt}
+use Rattle.std.proofs.Common.{◌<◌, refl, sym, ap, subst, arith, length, ◌++◌, ◌∷◌, [], Some, ◌∙◌, append-nil, ◌≡◌, None}
+use Rattle.life_runs.specs.of_master_tour.Walks.{StepsAt}
 use Rattle.master_node.specs.Begins.{TakesOn, taken_for}
 use Rattle.master_node.specs.Coming.{PassesBy}
 use Rattle.master_node.proofs.Kepts.{stop_same}
 use Rattle.master_node.proofs.Lists.{steps_same}
-use Rattle.std.proofs.Common.{refl}
-use Rattle.master_tour.proofs.Walks.{each_same}
+use Rattle.life_runs.proofs.of_master_tour.Walks.{each_same, steps_set}
 use Rattle.master_node.proofs.Rooms.{sends_same}
 use Rattle.master_node.proofs.Begins.{takes_none}
 use Rattle.master_node.proofs.Happenings.{happens_none}
 use Rattle.master_node.proofs.Made.{makes_none}
-use Rattle.std.proofs.Common.{◌++◌, ◌∷◌, [], Some, ◌∙◌, append-nil}
 use Rattle.master_node.specs.Listing.{ListsOne, events_in}
 use Rattle.master_node.specs.declared.event.Event.{Event}
-use Rattle.master_tour.proofs.Walks.{steps_set}
 use Rattle.master_node.proofs.Listing.{before_of_list, events_of_list}
 use Rattle.std.specs.Prelude.{map}
 use Rattle.master_node.specs.Serving.{waits_of}
 use Rattle.master_node.proofs.Servings.{posts_set}
 use Rattle.master_node.specs.Handed.{work_from}
-use Rattle.std.proofs.Common.{◌≡◌, None}
 use Rattle.master_node.proofs.Numbereds.{numbers_same}
 use Rattle.master_node.proofs.node.MasterNode.begun.Goals as goal
 

@@ -1,19 +1,16 @@
-use Rattle.std.proofs.Common.{◌<◌, refl, sym, ap, subst, arith, length}
-use Rattle.master_tour.specs.Walks.{StepsAt}
+use Rattle.std.proofs.Common.{◌<◌, refl, sym, ap, subst, arith, length, append-nil, ◌≡◌, None}
+use Rattle.life_runs.specs.of_master_tour.Walks.{StepsAt}
 use Rattle.master_node.specs.Begins.{TakesOn, taken_where}
 use Rattle.master_node.specs.Coming.{CameBy}
 use Rattle.master_node.proofs.Kepts.{stop_same}
 use Rattle.master_node.proofs.Lists.{steps_same}
-use Rattle.std.proofs.Common.{refl}
-use Rattle.master_tour.proofs.Walks.{each_same}
+use Rattle.life_runs.proofs.of_master_tour.Walks.{each_same}
 use Rattle.master_node.proofs.Rooms.{sends_same}
 use Rattle.master_node.proofs.Begins.{takes_none}
 use Rattle.master_node.proofs.Happenings.{happens_none}
 use Rattle.master_node.proofs.Made.{makes_none}
-use Rattle.std.proofs.Common.{append-nil}
 use Rattle.master_node.specs.Listing.{ListsOne, events_in, where_began}
 use Rattle.master_node.specs.Handed.{work_from}
-use Rattle.std.proofs.Common.{◌≡◌, None}
 use Rattle.master_node.proofs.node.MasterNode.came.Goals as goal
 
 pub returns-then-began-clause-came : goal.returns-then-began-clause-came

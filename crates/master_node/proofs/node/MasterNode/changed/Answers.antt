@@ -1,5 +1,5 @@
 use Rattle.std.proofs.Common.{◌≡◌, ◌<◌, length, arith}
-use Rattle.master_tour.specs.of_life_model.Lives.{Stand}
+use Rattle.life_runs.specs.of_life_model.Lives.{Stand}
 use Rattle.master_node.specs.Changed.{TellsChange}
 use Rattle.master_node.specs.Told.{IsTold}
 use Rattle.master_node.proofs.Says.{both_here, lead_open}

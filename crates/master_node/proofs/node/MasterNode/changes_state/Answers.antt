@@ -1,6 +1,6 @@
 use Rattle.std.proofs.Common.{◌≡◌, ◌<◌, ◌∙◌, ap, length, arith}
 use Rattle.std.specs.Prelude.{is_some}
-use Rattle.master_tour.specs.of_life_model.Lives.{Stand}
+use Rattle.life_runs.specs.of_life_model.Lives.{Stand}
 use Rattle.master_node.specs.Told.{IsTold}
 use Rattle.master_node.proofs.Says.{both_here, duty_open}
 use Rattle.master_node.proofs.node.MasterNode.changes_state.Goals as goal

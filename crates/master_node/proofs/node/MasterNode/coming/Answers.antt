@@ -1,7 +1,7 @@
 use Rattle.std.proofs.Common.{◌≡◌, ◌<◌, Option, Some, None, [], true, false, sym, ◌∙◌, arith, length}
 use Rattle.std.specs.Prelude.{IfSome, is_some, slice_get}
-use Rattle.master_side.specs.Free.{is_free_side}
-use Rattle.master_tour.specs.declared.stop.Stand.{Stand}
+use Rattle.life_runs.specs.of_master_side.Free.{is_free_side}
+use Rattle.life_runs.specs.of_master_tour.declared.stop.Stand.{Stand}
 use Rattle.master_node.specs.Coming.{next_of}
 use Rattle.master_node.specs.Starts.{NoneComes, SideFrees}
 use Rattle.master_node.specs.Passes.{waits_in}

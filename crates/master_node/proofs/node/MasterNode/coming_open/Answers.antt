@@ -1,7 +1,7 @@
 use Rattle.std.proofs.Common.{◌≡◌, ◌<◌, true, false, Some, [], sym, ◌∙◌, arith, length, rules}
 use Rattle.std.specs.Prelude.{is_some}
-use Rattle.master_side.specs.Free.{is_free_side}
-use Rattle.master_tour.specs.declared.stop.Stand.{Stand}
+use Rattle.life_runs.specs.of_master_side.Free.{is_free_side}
+use Rattle.life_runs.specs.of_master_tour.declared.stop.Stand.{Stand}
 use Rattle.master_node.specs.Coming.{IsComing, next_of}
 use Rattle.master_node.specs.Starts.{IsByMails, NoneComes, SideFrees}
 use Rattle.master_node.specs.declared.coming.Coming.{Coming}

@@ -1,7 +1,7 @@
 use Rattle.std.proofs.Common.{◌<◌, refl, ap, sym, ◌∙◌, arith, length, true, false}
 use Rattle.std.specs.Prelude.{not, slice_get}
 use Rattle.master_node.specs.Forwards.{port_by}
-use Rattle.master_tour.specs.Goes.{is_live}
+use Rattle.life_runs.specs.of_master_tour.Goes.{is_live}
 use Rattle.master_node.specs.Downs.{down_by}
 use Rattle.master_node.proofs.Tells.{node_refl, node_told}
 use Rattle.master_node.proofs.Happenings.{happens_none}

@@ -1,14 +1,12 @@
-use Rattle.std.proofs.Common.{refl, arith}
+use Rattle.std.proofs.Common.{refl, arith, ◌≡◌, ◌<◌, length, None}
 use Rattle.master_node.specs.Shows.{WaitsNone}
 use Rattle.master_node.proofs.Kepts.{node_same}
 use Rattle.master_node.proofs.Lists.{all_set}
 use Rattle.master_node.proofs.Listing.{forwards_set}
 use Rattle.master_node.proofs.Numbereds.{numbers_set}
 use Rattle.master_node.proofs.Droppeds.{drops_set}
-use Rattle.std.proofs.Common.{◌≡◌, ◌<◌, length, arith}
-use Rattle.master_tour.proofs.Walks.{steps_set}
+use Rattle.life_runs.proofs.of_master_tour.Walks.{steps_set}
 use Rattle.master_node.specs.declared.post.Work.{Work}
-use Rattle.std.proofs.Common.{None}
 use Rattle.master_node.proofs.node.MasterNode.dropped.Goals as goal
 
 pub returns-clause-kept : goal.returns-clause-kept

@@ -1,7 +1,7 @@
 use Rattle.std.proofs.Common.{◌≡◌, ◌<◌, length, arith}
 use Rattle.std.specs.Prelude.{option_map}
-use Rattle.master_hand.specs.Brings.{as_list, emergencies_in}
-use Rattle.master_tour.specs.Brings.{accepted_in}
+use Rattle.life_runs.specs.of_master_hand.Brings.{as_list, emergencies_in}
+use Rattle.life_runs.specs.of_master_tour.Brings.{accepted_in}
 use Rattle.master_node.specs.Brought.{StopBrought}
 use Rattle.master_node.proofs.Says.{both_here}
 use Rattle.master_node.proofs.node.MasterNode.emergency.Goals as goal

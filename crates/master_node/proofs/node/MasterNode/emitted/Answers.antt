@@ -1,6 +1,6 @@
 use Rattle.std.proofs.Common.{◌<◌, ◌∷◌, [], refl, sym, ap, ◌∙◌, arith, length}
 use Rattle.std.specs.Prelude.{slice_get}
-use Rattle.master_hand.specs.Brings.{as_list}
+use Rattle.life_runs.specs.of_master_hand.Brings.{as_list}
 use Rattle.master_node.specs.Arrivals.{arrive_by, kept_at}
 use Rattle.master_node.specs.Besides.{emitted_does}
 use Rattle.master_node.specs.Forwards.{port_by}

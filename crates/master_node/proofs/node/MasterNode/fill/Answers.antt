@@ -1,17 +1,16 @@
 use Rattle.std.proofs.Common.{◌≡◌, ◌∙◌, ◌+◌, true, false, Bool, None, Some, refl, sym, subst, arith}
-use Rattle.std.specs.Prelude.{if◌then◌else◌}
-use Rattle.master_tour.specs.Goes.{is_live, holds_at}
+use Rattle.std.specs.Prelude.{if◌then◌else◌, map}
+use Rattle.life_runs.specs.of_master_tour.Goes.{is_live, holds_at}
 use Rattle.master_node.specs.Filling.{IsFilling}
 use Rattle.master_node.proofs.Filleds.{fills_first, fills_last, fills_same, fills_more, fills_still}
-use Rattle.master_tour.specs.Walks.{EachPair}
-use Rattle.master_tour.proofs.Walks.{each_same}
+use Rattle.life_runs.specs.of_master_tour.Walks.{EachPair}
+use Rattle.life_runs.proofs.of_master_tour.Walks.{each_same}
 use Rattle.master_node.proofs.Lists.{each_trans}
 use Rattle.master_node.proofs.Leaves.{few_stops}
 use Rattle.master_node.proofs.Toureds.{counts_more, unvisited, visiting_first, visiting_more, visiting_still, visiting_same, visiting_last}
 use Rattle.master_node.specs.Eager.{StopGoes}
 use Rattle.master_node.proofs.Happenings.{happens_none, happens_then, happens_more}
 use Rattle.master_node.proofs.Made.{makes_none, makes_then}
-use Rattle.std.specs.Prelude.{map}
 use Rattle.master_node.specs.Passes.{IsPassing}
 use Rattle.master_node.specs.Serving.{run_lead}
 use Rattle.master_node.proofs.Roundings.{rounds_first, rounds_last, rounds_more, rounds_same, rounds_still, on_same, on_on, passes_some, passes_at, some_count}

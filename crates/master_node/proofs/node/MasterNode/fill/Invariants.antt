@@ -1,7 +1,7 @@
 use Rattle.std.proofs.Common.{◌≡◌, ◌≤◌, ◌+◌, ℕ, List, length, vec_len}
 use Rattle.std.specs.Prelude.{map}
-use Rattle.datagrams.specs.Datagram as Raw
-use Rattle.datagrams.specs.Frame.{IsBegun}
+use Rattle.life_runs.specs.of_datagrams.Datagram as Raw
+use Rattle.life_runs.specs.of_datagrams.Frame.{IsBegun}
 use Rattle.life_runs.specs.of_frame_view.View.{Lens}
 use Rattle.life_runs.specs.of_frame_view.Shares.{AreDistinct}
 use Rattle.life_runs.specs.Led.{Leads}

@@ -1,13 +1,12 @@
-use Rattle.std.proofs.Common.{◌≡◌, ◌<◌, refl, ap, sym, ◌∙◌, arith, length, true, false}
+use Rattle.std.proofs.Common.{◌≡◌, ◌<◌, refl, ap, sym, ◌∙◌, arith, length, true, false, subst, [], ◌∷◌}
 use Rattle.std.specs.Prelude.{◌&&◌, not, slice_get}
-use Rattle.master_tour.specs.Goes.{is_live, holds_at}
+use Rattle.life_runs.specs.of_master_tour.Goes.{is_live, holds_at}
 use Rattle.master_node.specs.Downs.{is_given_up, down_by}
 use Rattle.master_node.specs.Forwards.{port_by}
 use Rattle.master_node.proofs.Downs.{lists_as, lists_from, lists_none, down_not, here_is}
 use Rattle.master_node.proofs.Tells.{node_then, node_told, node_refl}
 use Rattle.master_node.proofs.Happenings.{happens_none, happens_from}
-use Rattle.std.proofs.Common.{subst, [], ◌∷◌}
-use Rattle.master_tour.specs.Walks.{StepsAt}
+use Rattle.life_runs.specs.of_master_tour.Walks.{StepsAt}
 use Rattle.master_node.specs.Serving.{mails_in}
 use Rattle.master_node.proofs.Droppeds.{drops_none, drops_one}
 use Rattle.master_node.specs.declared.post.Work.{Work}

@@ -1,6 +1,6 @@
-use Rattle.std.proofs.Common.{◌≤◌, refl, ap, arith, length}
+use Rattle.std.proofs.Common.{◌≤◌, refl, ap, arith, length, [], sym}
 use Rattle.std.specs.Prelude.{◌&&◌, not}
-use Rattle.master_tour.specs.Goes.{is_live, holds_at}
+use Rattle.life_runs.specs.of_master_tour.Goes.{is_live, holds_at}
 use Rattle.master_node.specs.Downs.{is_given_up}
 use Rattle.master_node.proofs.Downs.{lists_none, down_not, holds_beyond}
 use Rattle.master_node.proofs.Tells.{node_refl}
@@ -8,7 +8,6 @@ use Rattle.master_node.proofs.Happenings.{happens_none}
 use Rattle.master_node.specs.Serving.{mails_in}
 use Rattle.master_node.proofs.Droppeds.{drops_none}
 use Rattle.master_node.proofs.Endings.{drop_none}
-use Rattle.std.proofs.Common.{[], sym}
 use Rattle.master_node.specs.Besides.{given_at, given_told}
 use Rattle.master_node.proofs.Besides.{besides_as, besides_none, stop_beyond}
 use Rattle.master_node.proofs.node.MasterNode.given_up_at.Goals as goal

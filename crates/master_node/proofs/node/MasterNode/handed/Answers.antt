@@ -1,9 +1,8 @@
-use Rattle.std.proofs.Common.{refl}
+use Rattle.std.proofs.Common.{refl, ◌<◌, ap, arith, length, sym, ◌∙◌}
 use Rattle.master_node.proofs.Tells.{node_refl}
 use Rattle.master_node.proofs.Servings.{tells_refl}
 use Rattle.master_node.proofs.Endings.{ends_other, ends_told}
-use Rattle.std.proofs.Common.{◌<◌, ap, arith, length, sym, ◌∙◌}
-use Rattle.mailbox_mail.specs.declared.outcome.ReplyKind.{ReplyKind}
+use Rattle.life_runs.specs.of_mailbox_mail.declared.outcome.ReplyKind.{ReplyKind}
 use Rattle.master_node.specs.Besides.{answers, handed_does, handed_where, stays}
 use Rattle.master_node.specs.Handed.{work_at}
 use Rattle.master_node.proofs.Besides.{does_as, does_none, so_here}

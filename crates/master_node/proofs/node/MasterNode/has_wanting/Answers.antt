@@ -2,7 +2,7 @@ use Rattle.std.proofs.Common.{◌≡◌, ◌∙◌, sym, true, false, rules, ari
 use Rattle.std.specs.Prelude.{IfSome, slice_get}
 use Rattle.master_node.proofs.Restings.{never}
 use Rattle.std.proofs.lemmas.Bool.{OnTrue_at, OnFalse_at}
-use Rattle.master_tour.specs.Goes.{holds_at, is_live}
+use Rattle.life_runs.specs.of_master_tour.Goes.{holds_at, is_live}
 use Rattle.master_node.specs.Wants.{IsQuietBy, MaillessAt, NoneWaiting}
 use Rattle.master_node.proofs.Quiets.{below_more, held_inside, live_some, none_or_all}
 use Rattle.master_node.proofs.node.MasterNode.has_wanting.Goals as goal

@@ -1,6 +1,6 @@
 use Rattle.std.proofs.Common.{◌≡◌, ◌<◌, ℕ, true}
 use Rattle.std.specs.Prelude.{IfSome, slice_get}
-use Rattle.master_tour.specs.Goes.{holds_at, is_live}
+use Rattle.life_runs.specs.of_master_tour.Goes.{holds_at, is_live}
 use Rattle.master_node.specs.Wants.{IsQuietBy, MaillessAt, NoneWaiting}
 use Rattle.master_node.proofs.node.MasterNode.has_wanting.Given as goal
 

@@ -1,7 +1,7 @@
 use Rattle.std.proofs.Common.{◌≡◌, ◌⊎◌, inl, inr, ◌<◌, ℕ, [], refl, sym, ap, ◌∙◌, length, arith}
-use Rattle.master_hand.specs.contracts.hand.InHandHand.TheImpl as Impl
-use Rattle.master_hand.specs.declared.hand.InHand.{InHand}
-use Rattle.master_tour.specs.declared.stop.Stop.{Stop}
+use Rattle.life_runs.specs.of_master_hand.contracts.hand.InHandHand.TheImpl as Impl
+use Rattle.life_runs.specs.of_master_hand.declared.hand.InHand.{InHand}
+use Rattle.life_runs.specs.of_master_tour.declared.stop.Stop.{Stop}
 use Rattle.master_node.specs.Besides.{complete_does, emitted_does, mail_does, replied_does, stays}
 use Rattle.master_node.specs.Handed.{passing_at, work_at}
 use Rattle.master_node.specs.declared.post.Work.{Work}

@@ -1,5 +1,5 @@
 use Rattle.std.proofs.Common.{◌<◌, ◌∙◌, sym, subst, length, arith}
-use Rattle.master_tour.specs.declared.stop.Stand.{Stand}
+use Rattle.life_runs.specs.of_master_tour.declared.stop.Stand.{Stand}
 use Rattle.master_node.specs.Resting.{StandRests, StopRests}
 use Rattle.master_node.proofs.Restings.{if_here, never}
 use Rattle.master_node.proofs.node.MasterNode.holds_packet.Goals as goal

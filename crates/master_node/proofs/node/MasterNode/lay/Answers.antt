@@ -1,16 +1,13 @@
-use Rattle.std.proofs.Common.{◌<◌, sym, subst, arith, length}
-use Rattle.master_tour.specs.Walks.{StepsAt}
+use Rattle.std.proofs.Common.{◌<◌, sym, subst, arith, length, ap, refl, ◌≡◌, None}
+use Rattle.life_runs.specs.of_master_tour.Walks.{StepsAt}
 use Rattle.master_node.specs.Begins.{LaysOldest}
 use Rattle.master_node.specs.Coming.{IsLaid}
 use Rattle.master_node.specs.Kept.{StopStays}
 use Rattle.master_node.proofs.Kepts.{stop_same}
-use Rattle.master_node.proofs.Lists.{steps_same}
-use Rattle.std.proofs.Common.{ap, refl}
-use Rattle.master_tour.proofs.Walks.{each_same}
-use Rattle.master_node.proofs.Lists.{steps_each}
+use Rattle.master_node.proofs.Lists.{steps_same, steps_each}
+use Rattle.life_runs.proofs.of_master_tour.Walks.{each_same}
 use Rattle.master_node.specs.Origins.{LaysFrom}
 use Rattle.master_node.specs.Starts.{LaysPacket, WaitsFor}
-use Rattle.std.proofs.Common.{◌≡◌, None}
 use Rattle.master_node.specs.Passes.{LaysMail, waits_behind, waits_in}
 use Rattle.master_node.specs.Serving.{mails_in}
 use Rattle.master_node.proofs.Mailings.{waits_stay}

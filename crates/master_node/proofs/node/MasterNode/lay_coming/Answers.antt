@@ -1,6 +1,6 @@
-use Rattle.std.proofs.Common.{◌<◌, sym, subst, arith, length, Some}
+use Rattle.std.proofs.Common.{◌<◌, sym, subst, arith, length, Some, ◌≡◌, refl}
 use Rattle.std.specs.Prelude.{⊤}
-use Rattle.master_tour.specs.Walks.{StepsAt}
+use Rattle.life_runs.specs.of_master_tour.Walks.{StepsAt}
 use Rattle.master_node.specs.Begins.{LaysOldest}
 use Rattle.master_node.specs.Coming.{IsLaid}
 use Rattle.master_node.specs.Kept.{StopStays}
@@ -9,7 +9,6 @@ use Rattle.master_node.proofs.Lists.{steps_same, steps_map}
 use Rattle.master_node.specs.Origins.{LaysFrom}
 use Rattle.master_node.specs.declared.coming.Coming.{Coming}
 use Rattle.master_node.specs.Starts.{LaysPacket, WaitsFor}
-use Rattle.std.proofs.Common.{◌≡◌, refl}
 use Rattle.master_node.specs.Passes.{LaysMail, waits_behind, waits_in}
 use Rattle.master_node.specs.Serving.{mails_in}
 use Rattle.master_node.proofs.Mailings.{waits_stay}

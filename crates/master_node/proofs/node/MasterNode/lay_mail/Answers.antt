@@ -1,8 +1,7 @@
-use Rattle.std.proofs.Common.{◌<◌, refl, arith, length}
-use Rattle.master_tour.proofs.Walks.{steps_set}
+use Rattle.std.proofs.Common.{◌<◌, refl, arith, length, ◌≡◌, ◌∙◌, ◌+◌, ◌≤◌, Some, None, sym, ap, subst}
+use Rattle.life_runs.proofs.of_master_tour.Walks.{steps_set}
 use Rattle.master_node.proofs.Kepts.{stop_side, stop_same}
 use Rattle.master_node.proofs.Lists.{steps_same}
-use Rattle.std.proofs.Common.{◌≡◌, ◌∙◌, ◌+◌, ◌≤◌, Some, None, sym, ap, subst}
 use Rattle.master_node.specs.declared.coming.Coming.{Coming}
 use Rattle.master_node.specs.Passes.{IsReady}
 use Rattle.master_node.proofs.Mailings.{ready_none, ready_so, waits_here, waits_set, waits_taken}

@@ -1,7 +1,7 @@
 use Rattle.std.proofs.Common.{◌≡◌, ◌∙◌, ◌<◌, Some, inl, inr, refl, sym, ap, arith, length}
-use Rattle.master_hand.specs.declared.laying.Laid.{Laid}
+use Rattle.life_runs.specs.of_master_hand.declared.laying.Laid.{Laid}
 use Rattle.master_node.specs.Begins.{IsOldest}
-use Rattle.master_tour.proofs.Walks.{steps_set}
+use Rattle.life_runs.proofs.of_master_tour.Walks.{steps_set}
 use Rattle.master_node.proofs.Kepts.{stop_side}
 use Rattle.master_node.proofs.Servings.{posts_set}
 use Rattle.master_node.specs.Handed.{LaysWork}

@@ -1,12 +1,10 @@
-use Rattle.std.proofs.Common.{◌<◌, refl, arith, length}
-use Rattle.master_tour.proofs.Walks.{steps_set}
+use Rattle.std.proofs.Common.{◌<◌, refl, arith, length, ap, Some}
+use Rattle.life_runs.proofs.of_master_tour.Walks.{steps_set}
 use Rattle.master_node.proofs.Kepts.{stop_side}
-use Rattle.std.proofs.Common.{ap}
 use Rattle.master_node.specs.declared.event.Origin.{Origin}
 use Rattle.master_node.proofs.Servings.{posts_set}
 use Rattle.master_node.specs.Handed.{LaysWork}
 use Rattle.master_node.specs.declared.coming.Coming.{Coming}
-use Rattle.std.proofs.Common.{Some}
 use Rattle.master_node.proofs.Numbereds.{numbers_same}
 use Rattle.master_node.proofs.node.MasterNode.lay_script.Goals as goal
 

@@ -1,11 +1,10 @@
-use Rattle.std.proofs.Common.{◌<◌, refl, ap, arith, length}
-use Rattle.master_tour.proofs.Walks.{steps_set}
+use Rattle.std.proofs.Common.{◌<◌, refl, ap, arith, length, Some}
+use Rattle.life_runs.proofs.of_master_tour.Walks.{steps_set}
 use Rattle.master_node.specs.declared.event.Origin.{Origin}
 use Rattle.master_node.proofs.Listing.{steps_stay}
 use Rattle.master_node.proofs.Servings.{posts_set}
 use Rattle.master_node.specs.Handed.{LaysWork}
 use Rattle.master_node.specs.declared.coming.Coming.{Coming}
-use Rattle.std.proofs.Common.{Some}
 use Rattle.master_node.proofs.Numbereds.{numbers_same}
 use Rattle.master_node.proofs.node.MasterNode.lay_state.Goals as goal
 

@@ -1,23 +1,23 @@
 use Rattle.std.proofs.Common.{◌≡◌, ◌≤◌, ◌+◌, Bool, [], refl, sym, ap, ◌∙◌, arith, length, subst, None, ℕ, suc, ◌++◌}
 use Rattle.std.specs.Prelude.{map, not, nat_lt, if◌then◌else◌, ◌&&◌}
 use Rattle.life_runs.specs.Led.{speech_at, gives_up_at, led_behind}
-use Rattle.master_tour.specs.Orders.{last_behind}
+use Rattle.life_runs.specs.of_master_tour.Orders.{last_behind}
 use Rattle.master_node.specs.Shows.{is_opening_lead, turned_of, IsOnFrame, IsUnder, is_led, is_live_turn, is_live_lead, side_shows, GoesOn}
 use Rattle.master_node.proofs.Toureds.{lost_same}
 use Rattle.master_node.proofs.Behinds.{opens_behind, behind_long, life_lost_is, lead_behind, all_led, goes_lost, behind_shows, missed_is}
-use Rattle.master_hand.specs.Spoken.{Asked, acknowledged, is_followed, is_passed}
-use Rattle.master_tour.specs.Goes.{is_opened, opened_behind, is_live, holds_at}
+use Rattle.life_runs.specs.of_master_hand.Spoken.{Asked, acknowledged, is_followed, is_passed}
+use Rattle.life_runs.specs.of_master_tour.Goes.{is_opened, opened_behind, is_live, holds_at}
 use Rattle.master_node.proofs.Lists.{both_map, each_length}
 use Rattle.life_runs.specs.of_frame_view.Seen.{seen}
 use Rattle.life_runs.specs.of_frame_view.Shares.{Lived, AllThree}
-use Rattle.master_duty.specs.Reply.{Reply}
-use Rattle.master_hand.specs.Joins.{unfinished_behind}
-use Rattle.master_tour.specs.Joins.{join_at}
+use Rattle.life_runs.specs.of_master_duty.Reply.{Reply}
+use Rattle.life_runs.specs.of_master_hand.Joins.{unfinished_behind}
+use Rattle.life_runs.specs.of_master_tour.Joins.{join_at}
 use Rattle.master_node.specs.Joined.{IsUnfinished, stand_before, stand_under, mails_lost, unfinished_after}
 use Rattle.master_node.proofs.ServedJoins.{holds_map, lost_life, on_frame, served_after}
 use Rattle.master_node.proofs.ServedSents.{map_map}
-use Rattle.master_side.specs.of_link_mails.Body.{Body}
-use Rattle.master_tour.specs.of_life_model.Lives.{Life}
+use Rattle.life_runs.specs.of_link_mails.Body.{Body}
+use Rattle.life_runs.specs.of_life_model.Lives.{Life}
 use Rattle.master_node.proofs.Joineds.{lost_unfinished, three_on, three_kept, three_of, three_after, unfinished_kept, pair_both}
 use Rattle.master_node.specs.Rooms.{FitAgain}
 use Rattle.master_node.proofs.Fits.{again_lost}
@@ -28,17 +28,17 @@ use Rattle.master_node.proofs.OnFrames.{all_run}
 use Rattle.master_node.proofs.Recalled.{recalls_lost, recalls_run}
 use Rattle.master_node.specs.Eager.{recalls}
 use Rattle.life_runs.proofs.Lives.{stands_kept}
-use Rattle.master_tour.specs.Stands.{StandShows}
+use Rattle.life_runs.specs.of_master_tour.Stands.{StandShows}
 use Rattle.life_runs.specs.Served.{served_behind}
 use Rattle.master_node.specs.Serving.{IsServed, IsServedUnder, mails_in, run_lead, run_turn}
 use Rattle.master_node.proofs.Serveds.{distinct_served, long_served, opens_served, three_both}
-use Rattle.master_tour.specs.Made.{is_in}
+use Rattle.life_runs.specs.of_master_tour.Made.{is_in}
 use Rattle.master_node.specs.Dropped.{gave_at}
 use Rattle.master_node.specs.Passes.{waits_in}
 use Rattle.master_node.proofs.ServedLosts as Losts
 use Rattle.master_node.specs.Handed.{work_at}
 use Rattle.master_node.proofs.Numbereds.{numbers_behind}
-use Rattle.master_side.specs.Passing.{news_lost}
+use Rattle.life_runs.specs.of_master_side.Passing.{news_lost}
 use Rattle.master_node.specs.Besides.{given_at, given_told}
 use Rattle.master_node.specs.Lifetold.{lost_at}
 use Rattle.master_node.proofs.Listing.{listed_whole, told_same}

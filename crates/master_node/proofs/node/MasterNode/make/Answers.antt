@@ -2,10 +2,10 @@ use Rattle.std.proofs.Common.{◌≡◌, ◌∙◌, ◌%◌, ℕ, Option, None, 
 use Rattle.std.specs.Prelude.{map, is_some}
 use Rattle.life_runs.specs.of_frame_view.Seen.{seen}
 use Rattle.life_runs.specs.Led.{speech_at}
-use Rattle.master_hand.specs.Spoken.{Asked, is_followed, is_passed}
-use Rattle.master_tour.specs.Goes.{is_live, holds_at}
-use Rattle.master_tour.specs.Made.{FrameMade, is_in}
-use Rattle.master_duty.specs.of_state_model.Stated.{Service}
+use Rattle.life_runs.specs.of_master_hand.Spoken.{Asked, is_followed, is_passed}
+use Rattle.life_runs.specs.of_master_tour.Goes.{is_live, holds_at}
+use Rattle.life_runs.specs.of_master_tour.Made.{FrameMade, is_in}
+use Rattle.life_runs.specs.of_state_model.Stated.{Service}
 use Rattle.master_node.specs.Filling.{IsAmong, StopFills}
 use Rattle.master_node.specs.Shows.{IsLead, GoesOn, lived_of, is_live_lead, IsLived, IsUnder}
 use Rattle.master_node.proofs.Begins.{begun_nothing, nothing_for, packets_begin}
@@ -14,14 +14,14 @@ use Rattle.master_node.specs.Listing.{run_tells}
 use Rattle.master_node.proofs.Listing.{listed_nothing, services_begin}
 use Rattle.master_node.proofs.Lists.{both_map, both_holds, both_length, each_trans}
 use Rattle.master_node.proofs.Sents.{stand_lives, each_holds, each_any, begins_live, both_from, lead_among, turns, turns_all, begun_turns, under_all, same_all, distinct_same, goes_under, sent_is, sent_some, sent_many, goes_begun, some_not}
-use Rattle.master_tour.proofs.Steps as Steps
-use Rattle.master_tour.proofs.Walks.{each_map}
-use Rattle.master_tour.specs.Sizes.{frame_size}
+use Rattle.life_runs.proofs.of_master_tour.Steps as Steps
+use Rattle.life_runs.proofs.of_master_tour.Walks.{each_map}
+use Rattle.life_runs.specs.of_master_tour.Sizes.{frame_size}
 use Rattle.master_node.specs.Rooms.{FitAgain, area_at}
 use Rattle.master_node.proofs.Fits.{again_on, side_sends}
 use Rattle.master_node.proofs.Leaves.{areas_from, area_planned, fit_under, visits_are}
-use Rattle.master_hand.specs.Shown.{knows, awaits_reply}
-use Rattle.master_side.specs.Recall.{recall_by}
+use Rattle.life_runs.specs.of_master_hand.Shown.{knows, awaits_reply}
+use Rattle.life_runs.specs.of_master_side.Recall.{recall_by}
 use Rattle.master_node.specs.Eager.{StopTakesUp, recall_of}
 use Rattle.master_node.proofs.Eagers.{each_comp}
 use Rattle.master_node.proofs.Lefts.{true_false}
@@ -31,7 +31,7 @@ use Rattle.master_node.specs.Starts.{HasStarted}
 use Rattle.master_node.proofs.Starts.{all_start, from_both, serves_start}
 use Rattle.life_runs.specs.of_frame_view.Shares.{AreDistinct, AllFrom, AllThree}
 use Rattle.master_node.specs.Serving.{IsServed, IsServedUnder, run_lead, run_turn}
-use Rattle.master_hand.specs.Laying.{scripted}
+use Rattle.life_runs.specs.of_master_hand.Laying.{scripted}
 use Rattle.master_node.proofs.Serveds.{long_served, three_both}
 use Rattle.master_node.proofs.ServedSents as Served
 use Rattle.master_node.proofs.Threes.{three_from}

@@ -2,12 +2,12 @@ use Rattle.master_node.proofs.Tells.{node_refl}
 use Rattle.master_node.proofs.Servings.{tells_refl}
 use Rattle.master_node.proofs.Endings.{ends_other, ends_told}
 use Rattle.std.proofs.Common.{◌≡◌, ◌<◌, ℕ, Option, Some, refl, ap, arith, length, sym, ◌∙◌}
-use Rattle.master_duty.specs.declared.stage.Met.{Met}
-use Rattle.master_tour.specs.declared.stop.Stand.{Stand}
+use Rattle.life_runs.specs.of_master_duty.declared.stage.Met.{Met}
+use Rattle.life_runs.specs.of_master_tour.declared.stop.Stand.{Stand}
 use Rattle.master_node.specs.declared.post.Work.{Work}
 use Rattle.master_node.proofs.Restings.{never}
 use Rattle.master_node.proofs.node.MasterNode.met.Goals.{in-Open, in_default}
-use Rattle.mailbox_mail.specs.declared.outcome.ReplyKind.{ReplyKind}
+use Rattle.life_runs.specs.of_mailbox_mail.declared.outcome.ReplyKind.{ReplyKind}
 use Rattle.master_node.specs.Besides.{answers, met_at, met_does, met_where, stays}
 use Rattle.master_node.specs.Handed.{work_at}
 use Rattle.master_node.proofs.Besides.{does_as, does_none, so_here}

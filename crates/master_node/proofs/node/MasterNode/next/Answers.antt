@@ -4,10 +4,10 @@ use Rattle.master_node.specs.Origins.{forwards_at}
 use Rattle.master_node.proofs.Listing.{before_of_list, listed_whole, services_made, unlisted}
 use Rattle.life_runs.specs.of_frame_view.Seen.{seen}
 use Rattle.std.specs.List.{list_any}
-use Rattle.master_tour.specs.Goes.{is_live, holds_at}
+use Rattle.life_runs.specs.of_master_tour.Goes.{is_live, holds_at}
 use Rattle.master_node.proofs.Sents.{shows_same}
-use Rattle.master_tour.specs.Walks.{EachPair}
-use Rattle.master_tour.proofs.Walks.{each_same}
+use Rattle.life_runs.specs.of_master_tour.Walks.{EachPair}
+use Rattle.life_runs.proofs.of_master_tour.Walks.{each_same}
 use Rattle.master_node.proofs.Asking.{all_ask}
 use Rattle.master_node.proofs.OnFrames.{all_run, all_served}
 use Rattle.master_node.specs.Serving.{run_lead, run_turn}
@@ -18,8 +18,8 @@ use Rattle.master_node.proofs.Visitings.{all_asked, all_visit, sent_at}
 use Rattle.master_node.proofs.Toureds.{turns_tour, tour_by}
 use Rattle.master_node.specs.Shows.{is_live_lead, IsLead}
 use Rattle.master_node.specs.Toured.{stop_share, tour_of}
-use Rattle.master_tour.specs.Toured.{IsOfTour}
-use Rattle.master_tour.specs.Sizes.{frame_size}
+use Rattle.life_runs.specs.of_master_tour.Toured.{IsOfTour}
+use Rattle.life_runs.specs.of_master_tour.Sizes.{frame_size}
 use Rattle.master_node.specs.Rooms.{area_at}
 use Rattle.master_node.proofs.Happenings.{happens_so, happens_then}
 use Rattle.master_node.proofs.Made.{makes_all, makes_then, makes_none}

@@ -1,16 +1,14 @@
 use Rattle.master_node.proofs.Tells.{node_refl}
 use Rattle.master_node.proofs.Servings.{tells_refl}
-use Rattle.std.proofs.Common.{◌≡◌, ◌⊎◌, inl, inr, ◌<◌, ℕ, length, arith, refl, sym, ◌∙◌}
+use Rattle.std.proofs.Common.{◌≡◌, ◌⊎◌, inl, inr, ◌<◌, ℕ, length, arith, refl, sym, ◌∙◌, ap}
 use Rattle.master_node.specs.declared.post.Work.{Work}
 use Rattle.master_node.specs.Handed.{work_at}
-use Rattle.master_node.proofs.Endings.{ends_free, ends_told, not_passed}
-use Rattle.std.proofs.Common.{ap}
-use Rattle.master_hand.specs.contracts.hand.InHandHand.TheImpl as Impl
-use Rattle.master_hand.specs.declared.hand.InHand.{InHand}
-use Rattle.master_tour.specs.declared.stop.Stop.{Stop}
+use Rattle.master_node.proofs.Endings.{ends_free, ends_told, not_passed, work_got}
+use Rattle.life_runs.specs.of_master_hand.contracts.hand.InHandHand.TheImpl as Impl
+use Rattle.life_runs.specs.of_master_hand.declared.hand.InHand.{InHand}
+use Rattle.life_runs.specs.of_master_tour.declared.stop.Stop.{Stop}
 use Rattle.master_node.specs.Besides.{handed_does, met_does, over_does, passed_does, stays}
 use Rattle.master_node.proofs.Besides.{so_stays, so_where}
-use Rattle.master_node.proofs.Endings.{work_got}
 use Rattle.master_node.proofs.node.MasterNode.over.Goals as goal
 
 -- no mail is in hand that is passed on

@@ -1,7 +1,7 @@
 use Rattle.std.proofs.Common.{◌≡◌, ◌<◌, length, arith}
 use Rattle.std.specs.Prelude.{option_map}
-use Rattle.master_hand.specs.Brings.{as_list}
-use Rattle.master_hand.specs.Joins.{packets_in}
+use Rattle.life_runs.specs.of_master_hand.Brings.{as_list}
+use Rattle.life_runs.specs.of_master_hand.Joins.{packets_in}
 use Rattle.master_node.specs.Joined.{StopCompleted, mails_back}
 use Rattle.master_node.proofs.Joineds.{three_here}
 use Rattle.master_node.proofs.node.MasterNode.packet.Goals as goal

@@ -1,14 +1,11 @@
-use Rattle.std.proofs.Common.{◌≡◌, ◌<◌, refl, sym, subst, arith, length, Some}
-use Rattle.master_tour.specs.Walks.{StepsAt}
-use Rattle.master_tour.proofs.Walks.{steps_set}
+use Rattle.std.proofs.Common.{◌≡◌, ◌<◌, refl, sym, subst, arith, length, Some, ap}
+use Rattle.life_runs.specs.of_master_tour.Walks.{StepsAt}
+use Rattle.life_runs.proofs.of_master_tour.Walks.{steps_set, each_same}
 use Rattle.master_node.specs.Begins.{TakesOn, taken_for}
 use Rattle.master_node.specs.Coming.{PassesBy}
 use Rattle.master_node.proofs.Kepts.{stop_side, stop_same}
-use Rattle.master_node.proofs.Lists.{steps_same}
+use Rattle.master_node.proofs.Lists.{steps_same, steps_each}
 use Rattle.master_node.proofs.Visits.{state_passes}
-use Rattle.std.proofs.Common.{ap}
-use Rattle.master_tour.proofs.Walks.{each_same}
-use Rattle.master_node.proofs.Lists.{steps_each}
 use Rattle.master_node.proofs.Rooms.{sends_same}
 use Rattle.master_node.proofs.Begins.{takes_none}
 use Rattle.master_node.proofs.Happenings.{happens_none}

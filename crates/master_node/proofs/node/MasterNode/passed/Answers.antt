@@ -1,11 +1,10 @@
 use Rattle.master_node.proofs.Tells.{node_refl}
 use Rattle.master_node.proofs.Servings.{tells_refl}
-use Rattle.std.proofs.Common.{◌<◌, length, arith, refl, ap, ◌∙◌, true, false}
+use Rattle.std.proofs.Common.{◌<◌, length, arith, refl, ap, ◌∙◌, true, false, ◌∷◌, []}
 use Rattle.std.specs.Prelude.{is_some, not}
 use Rattle.master_node.proofs.Endings.{ends_free, ends_here, ends_told}
 use Rattle.master_node.proofs.Downs.{here_is}
-use Rattle.std.proofs.Common.{◌∷◌, []}
-use Rattle.mailbox_mail.specs.declared.outcome.ReplyKind.{ReplyKind}
+use Rattle.life_runs.specs.of_mailbox_mail.declared.outcome.ReplyKind.{ReplyKind}
 use Rattle.master_node.specs.Besides.{answers, passed_does, stays}
 use Rattle.master_node.specs.Handed.{work_at}
 use Rattle.master_node.specs.declared.event.Event.{Event}

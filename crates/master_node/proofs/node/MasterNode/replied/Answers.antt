@@ -1,9 +1,8 @@
-use Rattle.std.proofs.Common.{refl}
+use Rattle.std.proofs.Common.{refl, ◌<◌, ◌∷◌, [], ◌∙◌, ap, arith, length}
 use Rattle.master_node.proofs.Tells.{node_refl, node_told}
 use Rattle.master_node.proofs.Servings.{tells_refl, tells_told}
 use Rattle.master_node.proofs.Endings.{ends_told}
-use Rattle.std.proofs.Common.{◌<◌, ◌∷◌, [], ◌∙◌, ap, arith, length}
-use Rattle.master_hand.specs.Replied.{reply_kept}
+use Rattle.life_runs.specs.of_master_hand.Replied.{reply_kept}
 use Rattle.master_node.specs.Besides.{replied_does, reply_told}
 use Rattle.master_node.specs.declared.event.Event.{Event}
 use Rattle.master_node.proofs.Besides.{bare_is, besides_as, besides_none, besides_one, does_told, so_here}

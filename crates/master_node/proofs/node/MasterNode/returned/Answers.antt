@@ -2,47 +2,47 @@ use Rattle.std.proofs.Common.{[], refl, ap, ◌∙◌, arith, length, subst, Non
 use Rattle.std.specs.Prelude.{map, not, filter}
 use Rattle.life_runs.specs.of_frame_view.Seen.{seen}
 use Rattle.life_runs.specs.Led.{speech_at, gives_up_at, led_behind}
-use Rattle.master_tour.specs.Orders.{last_behind, AreOnce}
+use Rattle.life_runs.specs.of_master_tour.Orders.{last_behind, AreOnce}
 use Rattle.master_node.specs.Shows.{is_opening_lead, IsOnFrame, IsUnder, turned_of, GoesOn, side_shows}
 use Rattle.master_node.proofs.Toureds.{goes_same}
 use Rattle.master_node.proofs.Behinds.{opens_behind, behind_long, life_back_is, lead_behind, all_led, goes_behind, behind_shows}
-use Rattle.master_hand.specs.Spoken.{Asked, acknowledged, is_followed, is_passed}
+use Rattle.life_runs.specs.of_master_hand.Spoken.{Asked, acknowledged, is_followed, is_passed}
 use Rattle.master_node.specs.Brought.{StopBrought}
 use Rattle.master_node.specs.Kept.{StopStays}
 use Rattle.master_node.proofs.Broughts.{brought_kept}
 use Rattle.master_node.proofs.Lists.{both_each, both_map, each_length}
 use Rattle.life_runs.specs.of_frame_view.Shares.{Lived, AllThree}
-use Rattle.master_duty.specs.Reply.{Reply}
-use Rattle.master_hand.specs.Joins.{unfinished_behind}
-use Rattle.master_tour.specs.Joins.{join_at}
-use Rattle.master_tour.specs.Stands.{StandShows, came_at}
+use Rattle.life_runs.specs.of_master_duty.Reply.{Reply}
+use Rattle.life_runs.specs.of_master_hand.Joins.{unfinished_behind}
+use Rattle.life_runs.specs.of_master_tour.Joins.{join_at}
+use Rattle.life_runs.specs.of_master_tour.Stands.{StandShows, came_at}
 use Rattle.master_node.specs.Joined.{IsUnfinished, StopCompleted, stand_before, stand_under, mails_back, unfinished_after}
 use Rattle.master_node.proofs.ServedJoins.{back_life, on_frame, served_after, three_as}
 use Rattle.master_node.proofs.ServedSents.{map_map}
-use Rattle.master_side.specs.of_link_mails.Body.{Body}
-use Rattle.master_tour.specs.of_life_model.Lives.{Life, life_back}
+use Rattle.life_runs.specs.of_link_mails.Body.{Body}
+use Rattle.life_runs.specs.of_life_model.Lives.{Life, life_back}
 use Rattle.master_node.proofs.Joineds.{back_unfinished, completed_at as completed_at_stop, three_on, three_kept, three_map, three_of, three_after, pair_both, completed_kept}
 use Rattle.master_node.proofs.Lefts.{true_false}
 use Rattle.master_node.proofs.Happenings.{happens_so}
 use Rattle.master_node.specs.Arrivals.{arrivals_in, heard_at, completed_at}
 use Rattle.master_node.proofs.Arrivals.{arrivals_few, arrivals_same, heard_few, heard_completed}
 use Rattle.master_node.proofs.Downs.{lists_all, lists_as}
-use Rattle.master_tour.proofs.Backs.{seen_aims}
-use Rattle.master_tour.proofs.Walks.{each_map}
+use Rattle.life_runs.proofs.of_master_tour.Backs.{seen_aims}
+use Rattle.life_runs.proofs.of_master_tour.Walks.{each_map}
 use Rattle.master_node.proofs.Recalled.{came_so, recalls_back, recalls_run, runs_came}
 use Rattle.master_node.proofs.ServedPasses.{all_pass}
 use Rattle.master_node.proofs.Visitings.{visit_asks}
 use Rattle.life_runs.proofs.Lives.{stands_kept}
-use Rattle.master_hand.specs.Shown.{awaits_reply}
-use Rattle.master_side.specs.Passing.{counts_at, news_back}
-use Rattle.master_tour.specs.Counting.{CountsOn}
-use Rattle.master_tour.specs.Passing.{StandPassing}
+use Rattle.life_runs.specs.of_master_hand.Shown.{awaits_reply}
+use Rattle.life_runs.specs.of_master_side.Passing.{counts_at, news_back}
+use Rattle.life_runs.specs.of_master_tour.Counting.{CountsOn}
+use Rattle.life_runs.specs.of_master_tour.Passing.{StandPassing}
 use Rattle.life_runs.specs.Served.{served_behind}
 use Rattle.master_node.specs.Serving.{IsServed, run_lead, run_turn}
 use Rattle.master_node.proofs.Serveds.{back_made, served_back, all_served, distinct_served, back_spot, goes_served, opens_served, long_served, passes_behind, three_both}
 use Rattle.master_node.proofs.Unread.{behind_inhand}
-use Rattle.master_tour.specs.Goes.{holds_at}
-use Rattle.master_tour.specs.Made.{is_in}
+use Rattle.life_runs.specs.of_master_tour.Goes.{holds_at}
+use Rattle.life_runs.specs.of_master_tour.Made.{is_in}
 use Rattle.master_node.proofs.Endings.{unvisited}
 use Rattle.master_node.proofs.Numbereds.{numbers_behind}
 use Rattle.master_node.specs.Besides.{back_does, by_stop, stays}

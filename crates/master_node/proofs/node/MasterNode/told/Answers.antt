@@ -1,5 +1,5 @@
 use Rattle.std.proofs.Common.{◌≡◌, ◌<◌, length, arith}
-use Rattle.master_tour.specs.of_life_model.Lives.{Stand}
+use Rattle.life_runs.specs.of_life_model.Lives.{Stand}
 use Rattle.life_runs.specs.Led.{speech_at}
 use Rattle.master_node.specs.Told.{IsTold, Tells}
 use Rattle.master_node.proofs.Says.{if_ok_so, both_here, lead_open}

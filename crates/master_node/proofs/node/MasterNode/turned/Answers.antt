@@ -1,10 +1,8 @@
-use Rattle.std.proofs.Common.{refl}
+use Rattle.std.proofs.Common.{refl, sym, ◌∙◌, ◌<◌, Some, ◌∷◌, [], ap, arith, length}
 use Rattle.master_node.proofs.Tells.{node_refl, node_told}
 use Rattle.master_node.proofs.Servings.{tells_refl, tells_told}
 use Rattle.master_node.proofs.Endings.{ends_other, ends_told}
-use Rattle.std.proofs.Common.{sym, ◌∙◌}
-use Rattle.std.proofs.Common.{◌<◌, Some, ◌∷◌, [], ap, arith, length}
-use Rattle.mailbox_mail.specs.declared.outcome.ReplyKind.{ReplyKind}
+use Rattle.life_runs.specs.of_mailbox_mail.declared.outcome.ReplyKind.{ReplyKind}
 use Rattle.master_node.specs.Handed.{work_at}
 use Rattle.master_node.specs.Besides.{answers, opened_where, stays, turned_does, turned_where}
 use Rattle.master_node.specs.declared.event.Event.{Event}

@@ -1,5 +1,5 @@
 use Rattle.std.proofs.Common.{◌≡◌, ◌<◌, ◌≤◌, ◌∙◌, ◌++◌, true, false, length, ap, sym, arith}
-use Rattle.master_tour.specs.of_life_model.Lives.{Stand}
+use Rattle.life_runs.specs.of_life_model.Lives.{Stand}
 use Rattle.life_runs.specs.Led.{speech_at}
 use Rattle.master_node.specs.Shows.{IsLived}
 use Rattle.master_node.specs.Told.{has_value, value_in}

@@ -4,17 +4,17 @@ use Rattle.std.proofs.lemmas.Bool.{le-ltb, lt-ltb}
 use Rattle.master_node.proofs.Lefts.{true_false}
 use Rattle.master_node.specs.Toured.{StaysPut, TakesPart}
 use Rattle.master_node.proofs.Toureds.{takes_part, part_steps}
-use Rattle.master_hand.specs.Laying.{ready_of, Scripted}
-use Rattle.master_hand.specs.contracts.hand.InHandHand.TheImpl as Impl
-use Rattle.master_hand.specs.declared.hand.InHand.{InHand}
-use Rattle.master_tour.specs.declared.stop.Stop.{Stop}
-use Rattle.master_side.specs.Shown.{wish_begun, SideShows}
+use Rattle.life_runs.specs.of_master_hand.Laying.{ready_of, Scripted}
+use Rattle.life_runs.specs.of_master_hand.contracts.hand.InHandHand.TheImpl as Impl
+use Rattle.life_runs.specs.of_master_hand.declared.hand.InHand.{InHand}
+use Rattle.life_runs.specs.of_master_tour.declared.stop.Stop.{Stop}
+use Rattle.life_runs.specs.of_master_side.Shown.{wish_begun, SideShows}
 use Rattle.life_runs.specs.Led.{speech_at}
-use Rattle.master_hand.specs.Spoken.{is_followed, is_passed, acknowledged}
-use Rattle.master_tour.specs.Goes.{is_live}
-use Rattle.master_tour.specs.Made.{FrameMade, ComesAt}
-use Rattle.master_tour.specs.Walks.{StepsAt}
-use Rattle.master_tour.proofs.Walks.{steps_both, each_map}
+use Rattle.life_runs.specs.of_master_hand.Spoken.{is_followed, is_passed, acknowledged}
+use Rattle.life_runs.specs.of_master_tour.Goes.{is_live}
+use Rattle.life_runs.specs.of_master_tour.Made.{FrameMade, ComesAt}
+use Rattle.life_runs.specs.of_master_tour.Walks.{StepsAt}
+use Rattle.life_runs.proofs.of_master_tour.Walks.{steps_both, each_map}
 use Rattle.master_node.specs.Filling.{StopFills}
 use Rattle.master_node.specs.Shows.{lived_of}
 use Rattle.master_node.proofs.Lists.{steps_map, steps_holds, steps_each, each_trans, steps_trans, steps_got, steps_mid, steps_some, both_each}
@@ -24,9 +24,9 @@ use Rattle.master_node.proofs.Begins.{begun_step, at_other, at_place}
 use Rattle.master_node.specs.Listing.{number_at, run_tells, where_began}
 use Rattle.master_node.proofs.Listing.{ToldSo, before_of_list, laid_from, listed_on, listed_step, listed_visit, number_here}
 use Rattle.master_node.specs.Begins.{NoneMore, TakesOn, taken_where, begun_for}
-use Rattle.master_side.specs.Again.{HasNoRoom, area_of}
-use Rattle.master_side.specs.Sent.{SameLink}
-use Rattle.master_tour.specs.Rooms.{Looks, StopRepeats, Visits, stop_len}
+use Rattle.life_runs.specs.of_master_side.Again.{HasNoRoom, area_of}
+use Rattle.life_runs.specs.of_master_side.Sent.{SameLink}
+use Rattle.life_runs.specs.of_master_tour.Rooms.{Looks, StopRepeats, Visits, stop_len}
 use Rattle.master_node.specs.Rooms.{SendsSame, Takes}
 use Rattle.master_node.proofs.Fits.{sends_again, sends_len, stays_sends, takes_before, takes_not, takes_visit}
 use Rattle.master_node.proofs.Rooms.{steps_room, looks_full, visits_full}
@@ -35,15 +35,15 @@ use Rattle.master_node.proofs.Visits as Visited
 use Rattle.master_node.specs.Eager.{StopGoes, recall_of}
 use Rattle.master_node.proofs.Happenings.{happens_none, happens_from}
 use Rattle.master_node.proofs.Made.{makes_none, makes_then}
-use Rattle.master_hand.specs.Shown.{Shows, knows, awaits_reply}
-use Rattle.master_tour.specs.Recalls.{BeginsAll as Begins}
+use Rattle.life_runs.specs.of_master_hand.Shown.{Shows, knows, awaits_reply}
+use Rattle.life_runs.specs.of_master_tour.Recalls.{BeginsAll as Begins}
 use Rattle.master_node.specs.Starts.{HasStarted}
 use Rattle.master_node.proofs.Fills.{from_each, from_map}
 use Rattle.master_node.proofs.Starts.{Asks, ComesSo, LeavesNone, Readies, from_both, from_steps, leaves_none, mail_none, readies, some_so, started_here, started_same, started_there, waits_yet}
-use Rattle.master_tour.specs.First.{FitsFirst}
-use Rattle.master_tour.specs.declared.stop.Stand.{Stand}
+use Rattle.life_runs.specs.of_master_tour.First.{FitsFirst}
+use Rattle.life_runs.specs.of_master_tour.declared.stop.Stand.{Stand}
 use Rattle.master_node.proofs.Unvisited.{Lacking, Roomed, Roomy, Went, roomy, some_wish, steps_behind, without}
-use Rattle.master_side.specs.Free.{is_free_side}
+use Rattle.life_runs.specs.of_master_side.Free.{is_free_side}
 use Rattle.master_node.specs.Coming.{IsComing, next_of, wish_of}
 use Rattle.master_node.specs.Handed.{IsHanding}
 use Rattle.master_node.specs.Kept.{StopKept}

@@ -1,6 +1,6 @@
 use Rattle.std.proofs.Common.{◌≡◌, ◌∙◌, Bool, [], refl, sym, true, false, rules, arith}
 use Rattle.std.specs.Prelude.{◌&&◌, slice_get}
-use Rattle.master_tour.specs.declared.stop.Stand.{Stand}
+use Rattle.life_runs.specs.of_master_tour.declared.stop.Stand.{Stand}
 use Rattle.master_node.specs.Passes.{waits_in}
 use Rattle.master_node.specs.Serving.{mails_in}
 use Rattle.master_node.proofs.Restings.{never, all_rest, if_with, quiet_in}

@@ -1,8 +1,8 @@
 use Rattle.std.proofs.Common.{◌≡◌, ◌<◌, ◌∙◌, true, false, [], sym, ap, subst, length, rules, arith}
 use Rattle.std.specs.Prelude.{slice_get}
 use Rattle.std.proofs.lemmas.Bool.{OnTrue_from, OnFalse_from, OnFalse_at}
-use Rattle.master_tour.specs.Goes.{is_live}
-use Rattle.master_tour.specs.declared.stop.Stand.{Stand}
+use Rattle.life_runs.specs.of_master_tour.Goes.{is_live}
+use Rattle.life_runs.specs.of_master_tour.declared.stop.Stand.{Stand}
 use Rattle.master_node.specs.Wants.{IsMaillessBy, IsQuietBy}
 use Rattle.master_node.proofs.Mailless.{gone_mailless, open_mailless, within}
 use Rattle.master_node.proofs.Places.{tested_here}

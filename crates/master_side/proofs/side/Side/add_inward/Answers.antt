@@ -1,5 +1,5 @@
 use Rattle.std.proofs.Common.{subst, ◌++◌, ◌∷◌, []}
-use Rattle.datagrams.specs.Frame.{IsBegun, datagram_of}
+use Rattle.mailbox_master.specs.of_datagrams.Frame.{IsBegun, datagram_of}
 use Rattle.mailbox_master.specs.Any.{in_access_of}
 use Rattle.master_side.proofs.Grams.{inward_sent}
 use Rattle.master_side.proofs.side.Side.add_inward.Goals as goal

@@ -1,5 +1,5 @@
 use Rattle.std.proofs.Common.{sym, ap, ◌∙◌}
-use Rattle.frame_view.specs.of_link_model.Link.{Halves}
+use Rattle.mailbox_master.specs.of_link_model.Link.{Halves}
 use Rattle.master_side.proofs.Grams.{held_meant, inward_meant}
 use Rattle.master_side.proofs.side.Side.add_link.Goals as goal
 

@@ -1,5 +1,5 @@
 use Rattle.std.proofs.Common.{◌+◌, ◌++◌, ◌∷◌, [], ◌∙◌, ap, length}
-use Rattle.datagrams.specs.Frame.{IsBegun}
+use Rattle.mailbox_master.specs.of_datagrams.Frame.{IsBegun}
 use Rattle.mailbox_master.specs.Seat.{seat_octets, text_of}
 use Rattle.master_side.proofs.Grams.{write_begun, write_sent}
 use Rattle.master_side.proofs.Agains.{seat_len}

@@ -1,11 +1,10 @@
-use Rattle.std.proofs.Common.{◌≡◌, true, sym, subst, ap, ◌∙◌, Option, Some, None}
+use Rattle.std.proofs.Common.{◌≡◌, true, sym, subst, ap, ◌∙◌, Option, Some, None, refl}
 use Rattle.master_side.specs.declared.carried.Wish.{Wish}
 use Rattle.master_side.specs.Shown.{SideShows, Begins, wish_begun, takes_ready}
-use Rattle.frame_view.specs.of_segment_model.Ends as Ends
+use Rattle.master_duty.specs.of_segment_model.Ends as Ends
 use Rattle.master_side.specs.Passing.{PassingShows, passing_seen, passing_behind}
 use Rattle.master_side.proofs.Passings.{still_shows}
 use Rattle.master_side.proofs.Agains.{again_most}
-use Rattle.std.proofs.Common.{refl}
 use Rattle.master_side.proofs.side.Side.begin.Goals as goal
 
 pub returns-in-Mails-clause-picked : goal.returns-in-Mails-clause-picked

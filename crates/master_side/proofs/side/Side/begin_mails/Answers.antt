@@ -1,21 +1,18 @@
-use Rattle.std.proofs.Common.{◌≡◌, sym, subst, ◌∙◌, true, false, Bool, refl}
-use Rattle.std.specs.Prelude.{if◌then◌else◌}
+use Rattle.std.proofs.Common.{◌≡◌, sym, subst, ◌∙◌, true, false, Bool, refl, ap}
+use Rattle.std.specs.Prelude.{if◌then◌else◌, Some, None, Option}
 use Rattle.master_side.proofs.Agains.{mails_most, never}
 use Rattle.master_side.proofs.Begins.{begins_ready, none_passed}
 use Rattle.master_side.proofs.Recalls.{begun_recall}
-use Rattle.std.specs.Prelude.{Some, None, Option}
 use Rattle.master_side.specs.Passing.{PassingShows, passing_behind}
 use Rattle.master_side.specs.Shown.{wish_begun}
 use Rattle.master_side.specs.declared.carried.Wish.{Wish}
 use Rattle.master_side.specs.declared.passing.Passing.{Passing}
 use Rattle.master_side.proofs.Passings.{begun_waits, begun_other, begun_none}
 use Rattle.master_side.proofs.side.Side.begin_mails.Goals.{then-began, else-began, then-passed, else-passed}
-use Rattle.std.proofs.Common.{ap}
 use Rattle.mailbox_master.specs.Any.{in_half_of}
-use Rattle.master_side.specs.First.{HoldsFirst}
+use Rattle.master_side.specs.First.{HoldsFirst, first_by}
 use Rattle.master_side.specs.Sent.{gram_len}
 use Rattle.master_side.proofs.First.{mails_at, wish_mails}
-use Rattle.master_side.specs.First.{first_by}
 use Rattle.master_side.proofs.side.Side.begin_mails.Goals as goal
 
 pub returns-clause-picked : goal.returns-clause-picked

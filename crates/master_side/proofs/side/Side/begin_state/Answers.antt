@@ -1,9 +1,8 @@
-use Rattle.std.proofs.Common.{Some, refl}
+use Rattle.std.proofs.Common.{Some, refl, ap, ◌∙◌}
 use Rattle.master_duty.specs.declared.stage.Met.{Met}
 use Rattle.master_side.proofs.Agains.{drains_most}
 use Rattle.master_side.proofs.Begins.{begins_state}
 use Rattle.master_side.proofs.Recalls.{begun_recall}
-use Rattle.std.proofs.Common.{ap, ◌∙◌}
 use Rattle.mailbox_master.specs.Any.{in_half_of}
 use Rattle.master_side.specs.Sent.{gram_len}
 use Rattle.master_side.proofs.First.{state_first, wish_state}

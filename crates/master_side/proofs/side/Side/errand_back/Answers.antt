@@ -6,8 +6,8 @@ use Rattle.master_side.specs.Carried.{one}
 use Rattle.master_side.specs.Shown.{DutyShows}
 use Rattle.master_side.proofs.Backs.{not_equal, errand_back, errand_asks, errand_done, errand_undone}
 use Rattle.std.specs.Prelude.{◌==◌, slice_index}
-use Rattle.ec_fields.specs.Fields.{bits_of}
-use Rattle.life_model.specs.Lives.{passes}
+use Rattle.master_duty.specs.of_ec_fields.Fields.{bits_of}
+use Rattle.frame_view.specs.of_life_model.Lives.{passes}
 use Rattle.master_side.specs.declared.passing.Passing.{Passing}
 use Rattle.master_side.specs.Passing.{PassingShows, counts_at, news_back}
 use Rattle.master_side.proofs.Passings.{full_shows}

@@ -1,15 +1,13 @@
 use Rattle.std.proofs.Common.{sym, subst, Option, [], ◌∷◌}
 use Rattle.master_side.specs.Due.{EachDue}
-use Rattle.std.specs.Prelude.{option_map}
+use Rattle.std.specs.Prelude.{option_map, map, Ok}
 use Rattle.frame_view.specs.of_exchange_model.Rows.{row_heard}
-use Rattle.mailbox_mail.specs.declared.mail.MailView.{MailView}
+use Rattle.master_duty.specs.of_mailbox_mail.declared.mail.MailView.{MailView}
 use Rattle.master_side.specs.Heard.{heard_of}
-use Rattle.std.specs.Prelude.{map}
-use Rattle.frame_view.specs.of_link_mails.Body.{uncounted}
-use Rattle.frame_view.specs.of_segment_model.Record.{News}
-use Rattle.life_model.specs.Lives.{passes}
-use Rattle.mailbox_mail.specs.View.{mail_seen}
-use Rattle.std.specs.Prelude.{Ok}
+use Rattle.mailbox_master.specs.of_link_mails.Body.{uncounted}
+use Rattle.master_duty.specs.of_segment_model.Record.{News}
+use Rattle.frame_view.specs.of_life_model.Lives.{passes}
+use Rattle.master_duty.specs.of_mailbox_mail.View.{mail_seen}
 use Rattle.master_side.specs.declared.passing.Passing.{Passing}
 use Rattle.master_side.specs.Passing.{PassingShows}
 use Rattle.master_side.proofs.Passings.{heard_shows, unheard_shows}

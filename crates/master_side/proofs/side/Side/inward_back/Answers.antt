@@ -1,22 +1,22 @@
 use Rattle.std.proofs.Common.{◌≡◌, true, subst, sym, ap, ◌∙◌, List, Option, rules}
 use Rattle.std.specs.Prelude.{option_map, ◌&&◌, ◌==◌, if◌then◌else◌, map}
 use Rattle.frame_view.specs.of_exchange_model.Rows.{row_heard}
-use Rattle.frame_view.specs.of_segment_model.Seats.{side_back}
-use Rattle.mailbox_mail.specs.declared.mail.MailView.{MailView}
+use Rattle.master_duty.specs.of_segment_model.Seats.{side_back}
+use Rattle.master_duty.specs.of_mailbox_mail.declared.mail.MailView.{MailView}
 use Rattle.master_side.specs.declared.carried.Carried.{Carried}
 use Rattle.master_duty.specs.of_state_model.Accounts.{duty_access, account_back}
 use Rattle.master_side.specs.Carried.{Meant, one}
-use Rattle.frame_view.specs.of_link_mails.Body.{Body}
+use Rattle.mailbox_master.specs.of_link_mails.Body.{Body}
 use Rattle.mailbox_master.specs.Any.{in_half_of}
 use Rattle.master_side.specs.Due.{EachDue}
 use Rattle.master_side.specs.Heard.{heard_of, Brought, HasJoined}
 use Rattle.master_side.proofs.Backs.{inward_back, inward_accepts, kept_side, view_short}
-use Rattle.frame_view.specs.of_link_model.Link.{Halves}
-use Rattle.frame_view.specs.of_segment_model.Record.{News}
-use Rattle.life_model.specs.Lives.{passes}
+use Rattle.mailbox_master.specs.of_link_model.Link.{Halves}
+use Rattle.master_duty.specs.of_segment_model.Record.{News}
+use Rattle.frame_view.specs.of_life_model.Lives.{passes}
 use Rattle.master_side.specs.Passes.{empty_by}
 use Rattle.master_side.specs.Passing.{PassingShows, passing_seen, counts_at}
-use Rattle.frame_view.specs.of_segment_model.Ends as Ends
+use Rattle.master_duty.specs.of_segment_model.Ends as Ends
 use Rattle.master_side.proofs.Passings.{read_shows}
 use Rattle.master_side.proofs.Tellings.{inward_seen}
 use Rattle.master_side.proofs.side.Side.inward_back.Goals as goal

@@ -1,7 +1,7 @@
 use Rattle.std.proofs.Common.{◌≡◌, ap, is_some, sym, ◌∙◌, subst, Option}
 use Rattle.master_side.specs.declared.carried.Carried.{Carried}
 use Rattle.master_side.proofs.Agains.{kept_lost}
-use Rattle.life_model.specs.Lives.{passes}
+use Rattle.frame_view.specs.of_life_model.Lives.{passes}
 use Rattle.master_duty.specs.of_state_model.Accounts.{duty_access}
 use Rattle.master_side.specs.declared.passing.Passing.{Passing}
 use Rattle.master_side.specs.Carried.{Meant, one}

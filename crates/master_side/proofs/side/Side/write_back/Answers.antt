@@ -6,7 +6,7 @@ use Rattle.master_side.proofs.Backs.{write_back}
 use Rattle.std.specs.Prelude.{Option}
 use Rattle.master_side.specs.declared.passing.Passing.{Passing}
 use Rattle.master_side.specs.Passes.{written_by}
-use Rattle.life_model.specs.Lives.{passes}
+use Rattle.frame_view.specs.of_life_model.Lives.{passes}
 use Rattle.master_side.specs.Passing.{PassingShows, counts_at, news_back}
 use Rattle.master_side.proofs.Passings.{sent_shows}
 use Rattle.master_side.proofs.Tellings.{write_seen}

@@ -1,8 +1,7 @@
-use Rattle.std.proofs.Common.{◌∙◌, sym, subst, ap}
+use Rattle.std.proofs.Common.{◌∙◌, sym, subst, ap, arith, refl}
 use Rattle.master_side.specs.Shown.{SideShows}
 use Rattle.master_tour.specs.Stands.{StopShows, StandShows, is_open}
 use Rattle.master_tour.proofs.Visits.{still_hold, open_hold}
-use Rattle.std.proofs.Common.{arith, refl}
 use Rattle.master_side.proofs.Agains.{least_area}
 use Rattle.master_tour.specs.Rooms.{StandRepeats}
 use Rattle.master_tour.proofs.Rooms.{ahead_opens, ahead_open}

@@ -1,6 +1,6 @@
 use Rattle.std.proofs.Common.{◌≡◌, [], Option, sym, subst, refl, ◌∙◌}
-use Rattle.frame_view.specs.Seen.{seen}
-use Rattle.frame_view.specs.of_life_model.Lives as Lives
+use Rattle.master_side.specs.of_frame_view.Seen.{seen}
+use Rattle.master_side.specs.of_life_model.Lives as Lives
 use Rattle.master_side.specs.Heard.{Brought}
 use Rattle.master_side.specs.Shown.{SideShows}
 use Rattle.master_side.specs.declared.hand.Heard.{Heard}

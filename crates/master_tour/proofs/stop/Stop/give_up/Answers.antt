@@ -1,6 +1,6 @@
 use Rattle.std.proofs.Common.{ℕ, true, false, ap, ◌∙◌, refl, arith, ◌-◌, ◌%◌}
 use Rattle.std.specs.Prelude.{nat_lt}
-use Rattle.al_state.specs.declared.bringing.BringUp.{BringUp}
+use Rattle.master_side.specs.of_al_state.declared.bringing.BringUp.{BringUp}
 use Rattle.master_side.specs.Shown.{SideShows}
 use Rattle.master_tour.specs.Stands.{opening_of, is_still, has_step}
 use Rattle.master_tour.proofs.Backs.{given_up_follows}

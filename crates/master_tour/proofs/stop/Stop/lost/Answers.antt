@@ -1,8 +1,8 @@
 use Rattle.std.proofs.Common.{ℕ, sym, subst, ap, ◌∙◌, refl, suc, leb-true}
-use Rattle.frame_view.specs.Seen.{seen}
-use Rattle.frame_view.specs.of_segment_model.Seats
-use Rattle.frame_view.specs.of_life_model.Lives.{life_lost}
-use Rattle.frame_view.specs.of_life_model.Own
+use Rattle.master_side.specs.of_frame_view.Seen.{seen}
+use Rattle.master_side.specs.of_segment_model.Seats
+use Rattle.master_side.specs.of_life_model.Lives.{life_lost}
+use Rattle.master_side.specs.of_life_model.Own
 use Rattle.master_side.specs.Shown.{SideShows}
 use Rattle.master_tour.specs.Stands.{StopShows, FollowShows, StandUnder, is_open}
 use Rattle.master_tour.proofs.Backs.{still_follows, lost_follows, own_lost, seen_aims}

@@ -1,8 +1,8 @@
 use Rattle.std.proofs.Common.{sym, subst, ap, ◌∙◌, ◌≡◌, true, false}
 use Rattle.std.specs.Prelude.{◌&&◌, nat_lt}
 use Rattle.master_tour.specs.Stands.{IsSpot, FollowShows, given_where}
-use Rattle.frame_view.specs.Seen.{seen}
-use Rattle.frame_view.specs.of_life_model.Lives.{life_lost}
+use Rattle.master_side.specs.of_frame_view.Seen.{seen}
+use Rattle.master_side.specs.of_life_model.Lives.{life_lost}
 use Rattle.master_side.specs.Shown.{SideShows}
 use Rattle.master_tour.proofs.Backs.{gave_turned, lost_gave}
 use Rattle.master_side.specs.Passing.{news_lost}

@@ -1,9 +1,9 @@
 use Rattle.std.proofs.Common.{sym, subst, ◌∙◌, ap, ◌≤◌, get_or, Option, [], ◌≡◌, true, refl, suc, leb-true}
-use Rattle.datagrams.specs.Frame.{parts_of}
-use Rattle.frame_view.specs.Seen.{part_seen, seen}
-use Rattle.frame_view.specs.of_link_model.Frames.{all_accepted}
-use Rattle.frame_view.specs.of_segment_model.Slaves.{grams}
-use Rattle.frame_view.specs.of_state_model.Accounts.{duty_access}
+use Rattle.master_side.specs.of_datagrams.Frame.{parts_of}
+use Rattle.master_side.specs.of_frame_view.Seen.{part_seen, seen}
+use Rattle.master_side.specs.of_link_model.Frames.{all_accepted}
+use Rattle.master_side.specs.of_segment_model.Slaves.{grams}
+use Rattle.master_side.specs.of_state_model.Accounts.{duty_access}
 use Rattle.master_side.specs.Heard.{Brought, HasJoined}
 use Rattle.master_side.specs.declared.hand.Heard.{Heard}
 use Rattle.master_side.specs.Shown.{SideShows}
@@ -11,12 +11,12 @@ use Rattle.master_tour.specs.Under.{no_part}
 use Rattle.master_tour.proofs.Unders.{SameAim, aims, none_back, nothing_under, short_under, has_back, accepted_as, has_accepted}
 use Rattle.master_tour.proofs.Cursors.{stands_part, stands_in, parts_length, seen_parts}
 use Rattle.master_tour.proofs.Joins.{nothing_joined}
-use Rattle.frame_view.specs.of_life_model.Lives.{passes}
+use Rattle.master_side.specs.of_life_model.Lives.{passes}
 use Rattle.master_side.specs.Passing.{PassingShows, counts_at}
 use Rattle.master_tour.proofs.Passings.{has_told, nothing_told}
 use Rattle.master_side.specs.Due.{EachDue}
 use Rattle.master_tour.proofs.Behinds.{has_met}
-use Rattle.frame_view.specs.of_link_model.Link.{Halves}
+use Rattle.master_side.specs.of_link_model.Link.{Halves}
 use Rattle.master_side.specs.of_mailbox_master.Any.{in_half_of}
 use Rattle.master_side.specs.Counts.{CountsAt}
 use Rattle.master_tour.proofs.Counting.{nothing_counted, has_counted, came_counted}

@@ -1,8 +1,8 @@
-use Rattle.frame_view.specs.of_state_model.Accounts.{duty_access}
+use Rattle.master_side.specs.of_state_model.Accounts.{duty_access}
 use Rattle.master_side.specs.Shown.{SideShows}
 use Rattle.master_tour.proofs.Unders.{nothing_under, none_lost, has_lost}
 use Rattle.std.proofs.Common.{sym, ◌∙◌, refl}
-use Rattle.frame_view.specs.of_life_model.Lives.{passes}
+use Rattle.master_side.specs.of_life_model.Lives.{passes}
 use Rattle.master_side.specs.Passing.{PassingShows}
 use Rattle.master_tour.proofs.Passings.{has_gone, nothing_gone}
 use Rattle.master_tour.proofs.stop.Stop.open_lost.Goals as goal

@@ -1,14 +1,14 @@
 use Rattle.std.proofs.Common.{ℕ, sym, subst, ap, ◌∙◌, refl, ◌≡◌, true, suc}
 use Rattle.std.specs.Prelude.{is_some, nat_lt}
-use Rattle.datagrams.specs.Frame.{parts_of}
-use Rattle.frame_view.specs.Seen.{seen}
-use Rattle.frame_view.specs.of_segment_model.Seats
-use Rattle.frame_view.specs.of_state_model.Accounts.{account_back, duty_access}
-use Rattle.frame_view.specs.of_life_model.Lives as Lives
-use Rattle.frame_view.specs.of_life_model.Lives.{era_back}
-use Rattle.frame_view.specs.of_life_model.Own
-use Rattle.frame_view.specs.of_link_model.Frames.{all_accepted}
-use Rattle.frame_view.specs.of_segment_model.Slaves.{grams}
+use Rattle.master_side.specs.of_datagrams.Frame.{parts_of}
+use Rattle.master_side.specs.of_frame_view.Seen.{seen}
+use Rattle.master_side.specs.of_segment_model.Seats
+use Rattle.master_side.specs.of_state_model.Accounts.{account_back, duty_access}
+use Rattle.master_side.specs.of_life_model.Lives as Lives
+use Rattle.master_side.specs.of_life_model.Lives.{era_back}
+use Rattle.master_side.specs.of_life_model.Own
+use Rattle.master_side.specs.of_link_model.Frames.{all_accepted}
+use Rattle.master_side.specs.of_segment_model.Slaves.{grams}
 use Rattle.master_side.specs.Heard.{Brought, HasJoined}
 use Rattle.master_side.specs.Shown.{SideShows}
 use Rattle.master_tour.specs.Stands.{StopShows, StandUnder, StandShows, IsSpot, came_at}

@@ -1,6 +1,6 @@
 use Rattle.std.proofs.Common.{◌≡◌, sym, subst, ap, ◌∙◌, arith}
 use Rattle.master_side.specs.Recall.{recall_by}
-use Rattle.frame_view.specs.of_state_model.Accounts.{duty_access}
+use Rattle.master_side.specs.of_state_model.Accounts.{duty_access}
 use Rattle.master_tour.proofs.Visits.{picked_map, holds_map, same_shown, same_meant}
 use Rattle.master_side.specs.of_mailbox_master.Any.{in_half_of}
 use Rattle.master_tour.proofs.Grams.{choice_clear}

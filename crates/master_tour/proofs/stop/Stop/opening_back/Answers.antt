@@ -1,7 +1,7 @@
 use Rattle.std.proofs.Common.{sym, subst, ap, ◌∙◌, get_or, ◌≤◌, suc, refl}
-use Rattle.datagrams.specs.Frame.{parts_of}
-use Rattle.frame_view.specs.Seen.{seen}
-use Rattle.frame_view.specs.of_life_model.Lives.{life_back}
+use Rattle.master_side.specs.of_datagrams.Frame.{parts_of}
+use Rattle.master_side.specs.of_frame_view.Seen.{seen}
+use Rattle.master_side.specs.of_life_model.Lives.{life_back}
 use Rattle.master_side.specs.Shown.{SideShows}
 use Rattle.master_tour.specs.Under.{no_part}
 use Rattle.master_tour.specs.Stands.{StopShows, FollowShows, StandUnder, came_at, opening_of}

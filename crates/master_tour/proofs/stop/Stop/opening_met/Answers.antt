@@ -1,7 +1,7 @@
 use Rattle.std.proofs.Common.{sym, subst, ◌∙◌, ap, ◌≡◌, true, suc}
 use Rattle.master_side.specs.Shown.{SideShows}
 use Rattle.master_tour.specs.Stands.{StopShows, FollowShows}
-use Rattle.frame_view.specs.of_life_model.Lives.{life_back}
+use Rattle.master_side.specs.of_life_model.Lives.{life_back}
 use Rattle.std.specs.Prelude.{Some}
 use Rattle.master_tour.proofs.Openings.{opening_follows}
 use Rattle.master_tour.specs.Joins.{join_behind}

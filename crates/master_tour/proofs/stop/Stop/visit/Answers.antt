@@ -1,7 +1,7 @@
 use Rattle.std.proofs.Common.{◌≡◌, ℕ, true, sym, subst, ap, ◌∙◌, refl, false}
 use Rattle.std.specs.Prelude.{Bool, is_some}
-use Rattle.frame_view.specs.of_state_model.Accounts.{duty_access}
-use Rattle.frame_view.specs.View.{datagram_seen}
+use Rattle.master_side.specs.of_state_model.Accounts.{duty_access}
+use Rattle.master_side.specs.of_frame_view.View.{datagram_seen}
 use Rattle.master_side.specs.Shown.{SideShows, wish_begun}
 use Rattle.master_side.specs.Carried.{Meant}
 use Rattle.master_side.specs.Sent.{visit_gram}

@@ -1,12 +1,12 @@
 use Rattle.std.proofs.Common.{◌≡◌, ◌+◌, List, ℕ, sym, ◌∙◌, arith, add-one}
 use Rattle.std.specs.Prelude.{◌&&◌, Bool, false, None}
-use Rattle.frame_view.specs.of_segment_model.Record.{News, Kept}
-use Rattle.frame_view.specs.of_life_model.Lives.{Life, Spot, life_lost}
+use Rattle.master_side.specs.of_segment_model.Record.{News, Kept}
+use Rattle.master_side.specs.of_life_model.Lives.{Life, Spot, life_lost}
 use Rattle.master_tour.specs.Stands.{StopShows, FollowShows, IsSpot, StandUnder, given_where}
-use Rattle.frame_view.specs.View.{Lens}
-use Rattle.frame_view.specs.Seen.{seen}
-use Rattle.frame_view.specs.of_exchange_model.Exchange.{Speech}
-use Rattle.frame_view.specs.of_link_mails.Body.{Body}
+use Rattle.master_side.specs.of_frame_view.View.{Lens}
+use Rattle.master_side.specs.of_frame_view.Seen.{seen}
+use Rattle.master_side.specs.of_exchange_model.Exchange.{Speech}
+use Rattle.master_side.specs.of_link_mails.Body.{Body}
 use Rattle.master_side.specs.of_master_duty.Reply.{Reply}
 use Rattle.master_side.specs.Shown.{SideShows}
 use Rattle.master_tour.proofs.Walks.{walk_on, walk_over, walked_length}

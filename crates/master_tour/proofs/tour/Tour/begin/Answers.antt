@@ -3,7 +3,7 @@ use Rattle.std.specs.Prelude.{is_some, false}
 use Rattle.master_tour.specs.Walks.{EachPair}
 use Rattle.master_side.specs.of_mailbox_master.Any.{in_area_len}
 use Rattle.master_side.specs.Shown.{SideShows}
-use Rattle.frame_view.specs.Shares.{AllFrom}
+use Rattle.master_side.specs.of_frame_view.Shares.{AllFrom}
 use Rattle.master_tour.specs.Made.{StopMade}
 use Rattle.master_tour.proofs.Mades.{made_first, lives_on, all_first}
 use Rattle.master_tour.proofs.tour.Tour.begin.Goals as goal

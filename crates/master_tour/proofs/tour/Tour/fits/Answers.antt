@@ -1,11 +1,10 @@
-use Rattle.std.proofs.Common.{refl}
+use Rattle.std.proofs.Common.{refl, sym}
 use Rattle.std.specs.Prelude.{⊤}
 use Rattle.master_side.specs.Shown.{SideShows}
 use Rattle.master_tour.proofs.Walks.{steps_set}
 use Rattle.master_tour.proofs.Steps.{frame_grows}
 use Rattle.master_tour.proofs.Mades.{made_ahead, made_other, grown_none}
 use Rattle.master_tour.proofs.Rooms.{fits_in, looks}
-use Rattle.std.proofs.Common.{sym}
 use Rattle.master_tour.specs.First.{FitsFirst}
 use Rattle.master_tour.proofs.tour.Tour.fits.Goals as goal
 

@@ -1,10 +1,10 @@
 use Rattle.std.proofs.Common.{◌≡◌, ℕ, List, subst, sym, refl}
 use Rattle.std.specs.Prelude.{Bool}
-use Rattle.frame_view.specs.of_exchange_model.Exchange.{Speech}
-use Rattle.frame_view.specs.of_link_mails.Body.{Body}
-use Rattle.frame_view.specs.of_segment_model.Returned.{Returns}
-use Rattle.frame_view.specs.of_segment_model.Record.{News, Kept}
-use Rattle.frame_view.specs.of_life_model.Lives.{Life, Spot, life_back}
+use Rattle.master_side.specs.of_exchange_model.Exchange.{Speech}
+use Rattle.master_side.specs.of_link_mails.Body.{Body}
+use Rattle.master_side.specs.of_segment_model.Returned.{Returns}
+use Rattle.master_side.specs.of_segment_model.Record.{News, Kept}
+use Rattle.master_side.specs.of_life_model.Lives.{Life, Spot, life_back}
 use Rattle.master_side.specs.of_master_duty.Reply.{Reply}
 use Rattle.master_side.specs.Heard.{Brought}
 use Rattle.master_tour.specs.Brings.{accepted_in}
@@ -14,7 +14,7 @@ use Rattle.master_tour.specs.Behind.{StopBack}
 use Rattle.master_side.specs.Shown.{SideShows}
 use Rattle.master_tour.specs.Walks.{EachPair}
 use Rattle.master_tour.specs.Stands.{StopShows, FollowShows, IsSpot, StandUnder, came_at}
-use Rattle.frame_view.specs.Seen.{seen}
+use Rattle.master_side.specs.of_frame_view.Seen.{seen}
 use Rattle.master_tour.proofs.Cursors.{seen_none}
 use Rattle.master_tour.proofs.Frames.{none_returns}
 use Rattle.master_tour.proofs.Walks.{each_map, each_same}

@@ -1,13 +1,13 @@
 use Rattle.std.proofs.Common.{◌≡◌, ℕ, List, [], ◌∷◌, ◌++◌, true, false, sym, subst, ap, ◌∙◌, ◌+◌, ◌==◌, None, Some}
 use Rattle.std.specs.Prelude.{Bool, is_some, if◌then◌else◌}
-use Rattle.datagrams.specs.Datagram as Raw
+use Rattle.master_side.specs.of_datagrams.Datagram as Raw
 use Rattle.master_side.specs.Recall.{recall_by}
 use Rattle.master_tour.specs.Recalls.{TakesUp, BeginsAll}
-use Rattle.datagrams.specs.Frame.{IsBegun}
-use Rattle.frame_view.specs.of_exchange_model.Exchange.{Speech}
-use Rattle.frame_view.specs.of_link_mails.Body.{Body}
-use Rattle.frame_view.specs.of_life_model.Lives.{Life, Spot, life_next}
-use Rattle.frame_view.specs.View.{Lens, datagram_seen}
+use Rattle.master_side.specs.of_datagrams.Frame.{IsBegun}
+use Rattle.master_side.specs.of_exchange_model.Exchange.{Speech}
+use Rattle.master_side.specs.of_link_mails.Body.{Body}
+use Rattle.master_side.specs.of_life_model.Lives.{Life, Spot, life_next}
+use Rattle.master_side.specs.of_frame_view.View.{Lens, datagram_seen}
 use Rattle.master_side.specs.of_mailbox_master.Any.{in_area_len}
 use Rattle.master_side.specs.of_master_duty.Reply.{Reply}
 use Rattle.master_side.specs.Shown.{SideShows, wish_begun, takes_ready}
@@ -15,7 +15,7 @@ use Rattle.master_tour.specs.Walks.{StepsAt}
 use Rattle.master_tour.specs.Stands.{StopShows, IsSpot, stand_gram, StandMeant, NextShows, Counts}
 use Rattle.master_side.specs.Sent.{SameLink}
 use Rattle.master_tour.specs.Made.{IsClearFor, ComesAt}
-use Rattle.frame_view.proofs.Frames.{apart_back}
+use Rattle.master_side.proofs.of_frame_view.Frames.{apart_back}
 use Rattle.std.proofs.lemmas.List.{get_or-set_same}
 use Rattle.master_tour.specs.Goes.{is_live}
 use Rattle.master_tour.proofs.Goes.{holds_here}

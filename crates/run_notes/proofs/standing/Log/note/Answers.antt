@@ -5,10 +5,9 @@ use Rattle.run_notes.proofs.Kept.{slaves_more, at_log}
 use Rattle.run_notes.proofs.Ways.{any_ok}
 use Rattle.run_notes.proofs.Switched.{switch_at}
 use Rattle.run_notes.proofs.Handings.{mails_then, stay_services}
-use Rattle.run_notes.specs.Handed.{kinds_in}
-use Rattle.master_node.specs.declared.event.Event.{Event}
-use Rattle.master_node.specs.Listing.{events_in}
-use Rattle.run_notes.specs.Handed.{MailsBehind}
+use Rattle.run_notes.specs.Handed.{kinds_in, MailsBehind}
+use Rattle.run_book.specs.of_master_node.declared.event.Event.{Event}
+use Rattle.run_book.specs.of_master_node.Listing.{events_in}
 use Rattle.run_notes.proofs.Timings.{times_after}
 use Rattle.run_notes.specs.Times.{TimesGo, behind}
 use Rattle.run_notes.proofs.standing.Log.note.Goals as goal

@@ -9,8 +9,8 @@ use Rattle.run_notes.proofs.Stations.{same_noted}
 use Rattle.run_notes.proofs.Stays.{stays_set}
 use Rattle.run_notes.proofs.Ways.{any_ok}
 use Rattle.run_frames.specs.Steps.{PassesSo}
-use Rattle.master_node.specs.of_life_model.Lives.{Stand}
-use Rattle.master_node.specs.Told.{Tells}
+use Rattle.run_frames.specs.of_life_model.Lives.{Stand}
+use Rattle.run_book.specs.of_master_node.Told.{Tells}
 use Rattle.run_notes.proofs.Handings.{stay_set, told_goes}
 use Rattle.run_notes.specs.Handed.{GoesBy}
 use Rattle.run_notes.specs.Notes.{told_noted}

@@ -1,6 +1,6 @@
 use Rattle.std.proofs.Common.{◌+◌, ◌++◌, length, ap, ◌∙◌, subst, arith}
 use Rattle.std.proofs.lemmas.Result.{on_ok_weaker}
-use Rattle.master_node.specs.Listing.{events_in}
+use Rattle.run_book.specs.of_master_node.Listing.{events_in}
 use Rattle.run_notes.specs.Packets.{NotesBeside, beside_at, rows_by}
 use Rattle.run_notes.specs.Switched.{NotesSwitch}
 use Rattle.run_notes.proofs.Frees.{all_free}

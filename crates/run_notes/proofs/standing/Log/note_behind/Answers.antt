@@ -6,7 +6,7 @@ use Rattle.run_notes.proofs.Kept.{slaves_more}
 use Rattle.run_notes.proofs.Ways.{any_ok}
 use Rattle.run_notes.proofs.Handings.{mails_then}
 use Rattle.run_notes.specs.Handed.{kinds_in}
-use Rattle.master_node.specs.Listing.{events_in}
+use Rattle.run_book.specs.of_master_node.Listing.{events_in}
 use Rattle.run_notes.proofs.Timings.{times_before}
 use Rattle.run_notes.specs.Times.{behind, between}
 use Rattle.run_notes.proofs.standing.Log.note_behind.Goals as goal

@@ -1,8 +1,7 @@
 use Rattle.std.proofs.Common.{◌≡◌}
 use Rattle.run_notes.specs.Heard.{HeardTo}
-use Rattle.run_notes.specs.Slaves.{gaves_noted}
+use Rattle.run_notes.specs.Slaves.{gaves_noted, SameSlaves}
 use Rattle.run_notes.specs.Reports.{KeepsReports}
-use Rattle.run_notes.specs.Slaves.{SameSlaves}
 use Rattle.run_notes.specs.Packets.{begun_noted}
 use Rattle.run_notes.specs.Handed.{services_noted}
 use Rattle.run_notes.specs.Times.{KeepsTime, behind}

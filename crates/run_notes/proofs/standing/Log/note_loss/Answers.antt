@@ -2,9 +2,9 @@ use Rattle.std.proofs.Common.{◌≡◌, ◌<◌, ◌++◌, ◌∷◌, [], ℕ, 
 use Rattle.std.specs.Prelude.{Option, slice_get, slice_set}
 use Rattle.std.proofs.lemmas.List.{length-map}
 use Rattle.std.proofs.lemmas.Result.{on_ok_weaker}
-use Rattle.master_node.proofs.Lists.{both_length}
-use Rattle.master_node.proofs.Quiets.{told_lives}
-use Rattle.master_node.specs.Shows.{IsLived, lived_of}
+use Rattle.run_book.proofs.of_master_node.Lists.{both_length}
+use Rattle.run_book.proofs.of_master_node.Quiets.{told_lives}
+use Rattle.run_book.specs.of_master_node.Shows.{IsLived, lived_of}
 use Rattle.run_notes.specs.declared.notes.Notes.{Notes}
 use Rattle.run_notes.specs.Slaves.{gaves_noted}
 use Rattle.run_notes.specs.Notes.{stations_of, given_up}

@@ -1,9 +1,9 @@
 use Rattle.std.proofs.Common.{◌≡◌, ◌+◌, ℕ, suc, [], map, refl, sym, ap, ◌∙◌, subst, arith}
 use Rattle.std.proofs.lemmas.List.{length-map}
 use Rattle.run_notes.specs.declared.notes.Notes.{Notes}
-use Rattle.master_node.specs.Shows.{lived_of}
-use Rattle.master_node.specs.Told.{HasLeads, HasLives}
-use Rattle.master_node.specs.Wants.{gave_of, AllCounted}
+use Rattle.run_book.specs.of_master_node.Shows.{lived_of}
+use Rattle.run_book.specs.of_master_node.Told.{HasLeads, HasLives}
+use Rattle.run_book.specs.of_master_node.Wants.{gave_of, AllCounted}
 use Rattle.run_notes.specs.Slaves.{gaves_noted, gave_at}
 use Rattle.run_notes.proofs.Gaves.{walked, walked_on, walked_all}
 use Rattle.run_notes.proofs.Kept.{slaves_more}

@@ -1,6 +1,6 @@
 use Rattle.std.proofs.Common.{◌≡◌, ◌<◌, ◌+◌, ℕ, List, length, map, true, false, refl, sym, ap, ◌∙◌, subst, arith}
 use Rattle.std.specs.Prelude.{slice_get}
-use Rattle.master_node.specs.Lives.{waiting_of}
+use Rattle.packets_heard.specs.of_master_node.Lives.{waiting_of}
 use Rattle.run_notes.specs.declared.standing.AskedMail.{AskedMail}
 use Rattle.run_record.specs.Session.{IsDone, SessionState, asked_more, asked_mail}
 use Rattle.run_record.proofs.Asking.{full_so, asked_on, taken_back}

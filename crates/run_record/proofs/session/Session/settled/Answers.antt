@@ -1,6 +1,6 @@
 use Rattle.std.proofs.Common.{◌≡◌, inl, inr, true, false, sym, ap, ◌∙◌, subst, length, rules}
 use Rattle.std.proofs.lemmas.Bool.{OnTrue_at, OnTrue_from, OnFalse_at, OnFalse_from}
-use Rattle.master_node.specs.of_life_runs.First.{lens_of}
+use Rattle.served_places.specs.of_life_runs.First.{lens_of}
 use Rattle.run_record.specs.Served.{ServingRests}
 use Rattle.run_record.specs.Session.{IsDone, SessionState, has_live}
 use Rattle.run_record.proofs.ServedGaves.{serving_live}

@@ -1,12 +1,12 @@
 use Rattle.std.proofs.Common.{◌≡◌, ◌<◌, ◌^◌, refl, sym, ℕ, suc, List, ◌+◌, ◌++◌, ◌∷◌, [], length, vec_len, ap, ◌∙◌, subst, arith}
 use Rattle.arrayvec.specs.ArrayVec.{ArrayVec}
-use Rattle.segment_ring.specs.Ring.{RingState}
-use Rattle.slave_node.specs.Node.{Node}
-use Rattle.slave_server.specs.declared.server.SlaveServer.{SlaveServer}
-use Rattle.run_book.specs.declared.book.SentFrame.{SentFrame}
-use Rattle.master_node.specs.Happened.{events_of}
-use Rattle.master_node.specs.Listing.{events_in}
-use Rattle.master_node.specs.declared.event.Event.{Event}
+use Rattle.served_places.specs.of_segment_ring.Ring.{RingState}
+use Rattle.packets_heard.specs.of_slave_node.Node.{Node}
+use Rattle.packets_heard.specs.of_slave_server.declared.server.SlaveServer.{SlaveServer}
+use Rattle.run_notes.specs.of_run_book.declared.book.SentFrame.{SentFrame}
+use Rattle.packets_heard.specs.of_master_node.Happened.{events_of}
+use Rattle.packets_heard.specs.of_master_node.Listing.{events_in}
+use Rattle.packets_heard.specs.of_master_node.declared.event.Event.{Event}
 use Rattle.run_record.specs.Led.{exchanged}
 use Rattle.run_record.proofs.Nexts.{next_led}
 use Rattle.run_record.proofs.Servings.{serving_on}

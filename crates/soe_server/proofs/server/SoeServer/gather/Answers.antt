@@ -1,6 +1,6 @@
 use Rattle.std.proofs.Common.{◌≡◌, ◌≤◌, ◌-◌, ◌++◌, ℕ, List, length, take, ap, ◌∙◌, arith}
-use Rattle.soe_codec.specs.View.{soe_seen}
-use Rattle.protocol_models.specs.SoeServer.{ahead}
+use Rattle.soe_parts.specs.of_soe_codec.View.{soe_seen}
+use Rattle.idn_table.specs.of_protocol_models.SoeServer.{ahead}
 use Rattle.soe_server.specs.Serving.{Serving, join_of}
 use Rattle.soe_server.proofs.Joins.{kept_first}
 use Rattle.soe_server.proofs.server.SoeServer.gather.Goals as goal

@@ -1,0 +1,1 @@
+pub use Rattle.datagrams.proofs as of_datagrams
