@@ -1,5 +1,5 @@
 -- WHETHER THE LAST MAIL OF A SERVICE IN HAND IS AN ACKNOWLEDGEMENT, by its client: of a read that delivered its file it is.
-use Rattle.std.proofs.Common.{◌≡◌, ℕ, ◌+◌, List, [], ◌++◌, map, length, Bool, true, false, Option, Some, None, append-nil, refl, sym, ap, ap₂, ◌∙◌, arith, lt-ltb, le-ltb}
+use Rattle.std.proofs.Common.{◌≡◌, ℕ, ◌+◌, List, [], ◌++◌, map, length, Bool, true, false, Option, Some, None, append-nil, refl, sym, ap, ◌∙◌, arith, lt-ltb, le-ltb}
 use Rattle.std.proofs.lemmas.List.{length-map}
 use Rattle.std.specs.Prelude.{is_some, is_none, option_map, nat_lt, not, ◌&&◌, ◌||◌}
 use Rattle.eoe_client.specs.of_mailbox_mail.declared.outcome.ReplyKind.{ReplyKind}

@@ -6,6 +6,7 @@ use Rattle.life_runs.specs.of_master_duty.Reply.{Reply}
 use Rattle.life_runs.specs.of_exchange_model.Exchange.{Speech}
 use Rattle.life_runs.specs.of_exchange_model.Rows.{row_heard}
 use Rattle.life_runs.specs.of_segment_model.Record.{News}
+use Rattle.life_runs.specs.of_segment_model.Seats.{writes}
 use Rattle.life_runs.specs.of_segment_model.Slaves.{Datagram, Found, grams}
 use Rattle.life_runs.specs.of_state_model.Accounts.{Account, Change, Duty, is_free}
 use Rattle.life_runs.specs.of_master_duty.declared.stage.Met.{Met}
