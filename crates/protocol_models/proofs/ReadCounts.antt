@@ -3,7 +3,7 @@
 use Rattle.std.proofs.Common.{◌≡◌, ℕ, zero, suc, ◌+◌, ◌≤◌, ◌==◌, Bool, true, false, List, [], ◌∷◌, ◌++◌, length, Option, None, Some, refl, sym, ap, ap₂, ◌∙◌, arith, nat_lt, if◌then◌else◌}
 use Rattle.mailbox_mail.specs.declared.outcome.ReplyKind.{ReplyKind}
 use Rattle.exchange_model.specs.Areas.{Areas}
-use Rattle.exchange_model.specs.Dialogue.{Turn, next, stop, chosen, turn_at, rest_at, said}
+use Rattle.exchange_model.specs.Dialogue.{Turn, chosen, turn_at, rest_at, said}
 use Rattle.protocol_models.specs.FoeMails.{Foe, FoeMail, mail, unread, failed, other, Read, Write, Data, Ack, Error, Busy}
 use Rattle.protocol_models.specs.FoeServer.{is_last}
 use Rattle.protocol_models.specs.FoeMeaning.{read}
