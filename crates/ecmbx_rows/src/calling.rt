@@ -2,16 +2,16 @@
 
 ghost use Rattle.std.specs.Prelude.{◌≤◌, ◌≡◌, true};
 ghost use Rattle.std.specs.Bool.{OnTrue};
-ghost use Rattle.ecmbx_call.specs.of_run_book.Book.{IsShort};
+ghost use Rattle.run_book.specs.Book.{IsShort};
 
 use crate::scripts::{Script, octets_of, script_of};
 use crate::stage::Stage;
-use ecmbx_call::ec_links::MemLink;
-use ecmbx_call::ec_outside::{Files, MemPort, Peer, PortItem, SentGram};
-use ecmbx_call::run_report::saved;
+use ec_fields::{Octets, Rows};
+use ec_links::MemLink;
+use ec_outside::{Files, MemPort, Peer, PortItem, SentGram};
 use row_table::Page;
-use row_table::ec_fields::{Octets, Rows};
-use run_replay::run_book::SentFrame;
+use run_book::SentFrame;
+use run_report::saved;
 use sha2::{Digest, Sha256};
 
 /// Who asks, and the gateway.

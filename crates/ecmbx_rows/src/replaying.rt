@@ -3,7 +3,7 @@
 use crate::calling::{tell_number, words_of};
 use crate::scripts::plan_of;
 use crate::stage::Stage;
-use ecmbx_call::ec_outside::Files;
+use ec_outside::Files;
 use row_table::Page;
 use run_replay::{Measured, Replayed, Uncounted, replay};
 

@@ -1,14 +1,14 @@
 //! What stands in the files of a word.
 
 ghost use Rattle.std.specs.Prelude.{IfSome};
-ghost use Rattle.run_replay.specs.of_segment_plan.Sound.{IsPlan};
+ghost use Rattle.segment_plan.specs.Sound.{IsPlan};
 
-use ecmbx_call::ec_links::LinkItem;
-use ecmbx_call::ec_outside::{Files, Loaded, Peer, PortItem};
-use ecmbx_call::scenario::read;
-use row_table::ec_fields::{Octets, Rows};
+use ec_fields::{Octets, Rows};
+use ec_links::LinkItem;
+use ec_outside::{Files, Loaded, Peer, PortItem};
 use row_table::{Page, Row};
-use run_replay::segment_plan::Scenario;
+use scenario::read;
+use segment_plan::Scenario;
 
 /// The most octets that a file may have.
 const LIMIT: usize = 16_777_216;

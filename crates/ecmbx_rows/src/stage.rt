@@ -1,7 +1,7 @@
-use ecmbx_call::ec_links::MemLink;
-use ecmbx_call::ec_outside::{Files, MemPort, MemSink};
+use ec_fields::Rows;
+use ec_links::MemLink;
+use ec_outside::{Files, MemPort, MemSink};
 use ecmbx_call::{Book, program};
-use row_table::ec_fields::Rows;
 use row_table::{Page, Row};
 use std::alloc::Global;
 use std::mem;

@@ -2,8 +2,9 @@
 
 use crate::scripts::gram_in;
 use crate::stage::{Stage, numbers};
-use ecmbx_call::ec_outside::{Files, FilesErr, Loaded, MemFiles, MemPort, MemSink, Sink, SureSink};
-use row_table::ec_fields::{Octets, Rows};
+use crate::wholes::tell_whole;
+use ec_fields::{Octets, Rows};
+use ec_outside::{Files, FilesErr, Loaded, MemFiles, MemPort, MemSink, Sink, SureSink};
 use row_table::{Bench, Page, Row};
 use std::alloc::Global;
 
@@ -307,6 +308,7 @@ impl Stage<MemFiles> {
                 let text = row.text_in(octets);
                 tell_mails(row, text);
             }
+            "whole" => tell_whole(row, octets),
             _ => row.fail(),
         }
     }

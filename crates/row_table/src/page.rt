@@ -1,4 +1,3 @@
-use anyhow::{Result, bail};
 use ec_fields::Octets;
 use std::alloc::Global;
 
@@ -135,15 +134,5 @@ impl Page {
                 Octets::new(self.alloc)
             }
         }
-    }
-
-    /// Prints the text; a fault is an error.
-    pub fn print<R: Print>(&self, rt: &R) -> Result<()> {
-        let text = self.text();
-        print!(rt; "{text}")?;
-        if self.faulty {
-            bail!("a fault");
-        }
-        Ok(())
     }
 }
