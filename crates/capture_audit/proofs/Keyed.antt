@@ -1,13 +1,32 @@
 -- Rows that are found by a key, and the list of their keys.
-use Rattle.std.proofs.Common.{◌≡◌, ℕ, zero, suc, ◌+◌, ◌==◌, ◌<◌, Bool, true, false, List, [], ◌∷◌, ◌++◌, length, get_or, set, cond, refl, sym, ap, ◌∙◌, arith, length-append, Option, Some, None}
-use Rattle.std.specs.Prelude.{map, position, slice_set, slice_index_or}
-use Rattle.std.specs.List.{position_from}
+use Rattle.std.proofs.Common.{◌≡◌, ℕ, zero, suc, ◌+◌, ◌==◌, ◌<◌, Bool, true, false, List, [], ◌∷◌, ◌++◌, length, get_or, set, cond, refl, sym, ap, subst, ◌∙◌, arith, length-append, Option, Some, None}
+use Rattle.std.specs.Prelude.{map, nat_eq, position, slice_set, slice_index_or, Result, Ok, Err, IfOk, OnOk, OnErr}
+use Rattle.std.specs.List.{list_any, position_from}
+use Rattle.indexmap.specs.IndexSet.{insert_key}
 use Rattle.std.proofs.lemmas.List.Quantifiers.{position-Some}
 use Rattle.std.proofs.lemmas.Iterator.Adapters.{position_from-zero}
 use Rattle.std.proofs.Math.Seq.{map-set_same, set-append_seam, get_or-append_seam}
 use Rattle.std.proofs.lemmas.List.{map-append}
 use Rattle.capture_audit.specs.Audit.{row_of, changed_at}
 use Rattle.capture_audit.specs.Judged.{ArePlaces, HasRow}
+
+-- a row without the key is no first place
+no_first : (i : ℕ) (rest : Option ℕ) (b : Bool) → cond b (Some i) rest ≡ None → (b ≡ false) × (rest ≡ None)
+no_first i rest true none = absurd cc
+no_first i rest false none = (refl, none)
+
+none_is : (k i : ℕ) (ks : List ℕ) → position_from (λ s. s == k) i ks ≡ None → list_any (λ s. k == s) ks ≡ false
+none_is k i [] none = refl
+none_is k i (x ∷ ks) none =
+    let parts = no_first i (position_from (λ s. s == k) (i + 1) ks) (x == k) none in
+    let own : (k == x) ≡ false = omega (arith, parts.0) in
+    rw own (none_is k (i + 1) ks parts.1)
+
+-- a key that is new stands behind the others
+pub new_key : (k : ℕ) (ks : List ℕ) → position (λ s. s == k) ks ≡ None → insert_key nat_eq ks k ≡ ks ++ k ∷ []
+new_key k ks none =
+    let absent = none_is k 0 ks (sym (position_from-zero (λ s. s == k) ks) ∙ none) in
+    rw absent refl
 
 module _ {A : Type 0} (key : A → ℕ) (fresh : A) (k : ℕ) where
   row_first : (x : A) (xs : List A) (b : Bool) → (key x == k) ≡ b → b ≡ true → row_of key fresh k (x ∷ xs) ≡ x
@@ -55,11 +74,6 @@ module _ {A : Type 0} (key : A → ℕ) (fresh : A) (k : ℕ) where
         changed = λ f. found_changed f xs at fresh found.0 found.1 found.2;
       }
 
-  -- a row without the key is no first place
-  no_first : (i : ℕ) (rest : Option ℕ) (b : Bool) → cond b (Some i) rest ≡ None → (b ≡ false) × (rest ≡ None)
-  no_first i rest true none = absurd cc
-  no_first i rest false none = (refl, none)
-
   -- a key without a row
   absent_row : (i : ℕ) (xs : List A) → position_from (λ x. key x == k) i xs ≡ None → row_of key fresh k xs ≡ fresh
   absent_row i [] none = refl
@@ -99,10 +113,23 @@ module _ {A : Type 0} (key : A → ℕ) (fresh : A) (k : ℕ) where
   place_is ks xs are =
       position_from-zero (λ x. key x == k) xs ∙ sym (mapped_from 0 xs) ∙ sym (position_from-zero (λ s. s == k) (map key xs)) ∙ ap (position (λ s. s == k)) (sym are)
 
-  -- a row of a new key is put behind the others, and its key behind theirs
-  pub places_added : (ks : List ℕ) (xs : List A) → ArePlaces key ks xs → key fresh ≡ k → ArePlaces key (ks ++ k ∷ []) (xs ++ fresh ∷ [])
-  places_added ks xs are own =
-      (λ i. are i ++ sym own i ∷ []) ∙ sym (map-append key xs (fresh ∷ []))
+  -- a key that was found among the keys has its row at that place
+  pub row_found : (ks : List ℕ) (xs : List A) (at : ℕ) → ArePlaces key ks xs → position (λ s. s == k) ks ≡ Some at → HasRow key fresh k xs xs at
+  row_found ks xs at are is = has_found xs at (place_is ks xs are ∙ is)
+
+  -- the row of a new key, put behind the others
+  pub row_made : {E : Type 0} (ks ks' : List ℕ) (xs xs' : List A) (made : Result ℕ E) → ArePlaces key ks xs → position (λ s. s == k) ks ≡ None → IfOk made (λ at. at ≡ length xs)
+      → OnOk made ((ks' ≡ ks ++ k ∷ []) × (xs' ≡ xs ++ fresh ∷ [])) → IfOk made (HasRow key fresh k xs xs')
+  row_made ks ks' xs xs' (Ok at) are none last more =
+      subst (λ rows. HasRow key fresh k xs rows at) (sym more.1) (has_new xs at (place_is ks xs are ∙ none) last)
+  row_made ks ks' xs xs' (Err e) are none last more = tt
+
+  -- and its key behind theirs
+  pub places_made : {E : Type 0} (ks ks' : List ℕ) (xs xs' : List A) (made : Result ℕ E) → ArePlaces key ks xs → key fresh ≡ k → OnOk made ((ks' ≡ ks ++ k ∷ []) × (xs' ≡ xs ++ fresh ∷ []))
+      → OnErr made ((ks' ≡ ks) × (xs' ≡ xs)) → ArePlaces key ks' xs'
+  places_made ks ks' xs xs' (Ok at) are own more none =
+      more.0 ∙ (λ i. are i ++ sym own i ∷ []) ∙ sym (map-append key xs (fresh ∷ [])) ∙ ap (map key) (sym more.1)
+  places_made ks ks' xs xs' (Err e) are own more same = same.0 ∙ are ∙ ap (map key) (sym same.1)
 
 -- rows whose keys stay keep their places
 pub places_kept : {A : Type 0} (key : A → ℕ) (ks : List ℕ) (xs : List A) (at : ℕ) (row new : A) → ArePlaces key ks xs → row ≡ slice_index_or xs at row → key new ≡ key row → ArePlaces key ks (slice_set xs at new)

@@ -83,7 +83,8 @@ impl Seat {
 
     // A manager was disabled, which closes the link.
     fn disable(&mut self, manager: Manager)
-        ensures { self.new ≡ disabled manager self.old }
+        ensures seat { self.new ≡ disabled manager self.old }
+        ensures station { self.new.station ≡ self.old.station }
     {
         self.link = None;
         match manager {
@@ -95,6 +96,7 @@ impl Seat {
     // A manager was enabled with an area of this length; whether that opens the link.
     fn enable(&mut self, alloc: Global, manager: Manager, len: u16) -> bool
         ensures seat { self.new ≡ enabled manager len self.old }
+        ensures station { self.new.station ≡ self.old.station }
         ensures opens { result ≡ other_enabled manager self.old }
     {
         match manager {
@@ -114,6 +116,7 @@ impl Seat {
     pub fn manage(&mut self, alloc: Global, manager: Manager, datagram: &Datagram<'_>) -> bool
         requires { length datagram.now.body.now ≡ 8 }
         ensures seat { self.new ≡ managed manager (datagram_seen datagram.now) self.old }
+        ensures station { self.new.station ≡ self.old.station }
         ensures opens { result ≡ opens manager (datagram_seen datagram.now) self.old }
     {
         let body = datagram.body;

@@ -12,4 +12,5 @@ mod Frames
 pub mod Calls
 mod Words
 mod Retold
+mod Puts
 mod Streams

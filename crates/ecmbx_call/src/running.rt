@@ -112,7 +112,7 @@ pub fn run_octets<O: Sink>(alloc: Global, octets: Octets, out: &mut O, book: &mu
         Ok(plan) => plan,
         Err(status) => return status,
     };
-    if run(alloc, &plan, book) == Ending::NoMemory {
+    if matches!(run(alloc, &plan, book), Ending::NoMemory) {
         return Status::NoMemory;
     }
     tell(alloc, &plan, book, out)
@@ -138,7 +138,7 @@ pub fn run_saved<F: Files, O: Sink>(
         Ok(plan) => plan,
         Err(status) => return status,
     };
-    if run(alloc, &plan, book) == Ending::NoMemory {
+    if matches!(run(alloc, &plan, book), Ending::NoMemory) {
         return Status::NoMemory;
     }
     match save(alloc, &plan, book, name, files) {

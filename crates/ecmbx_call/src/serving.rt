@@ -34,7 +34,7 @@ pub fn serve_octets<O: Sink, P: Port>(
         Ok(plan) => plan,
         Err(status) => return status,
     };
-    if serve(alloc, &plan, count, port, book) == Ending::NoMemory {
+    if matches!(serve(alloc, &plan, count, port, book), Ending::NoMemory) {
         return Status::NoMemory;
     }
     tell(alloc, &plan, book, out)

@@ -54,7 +54,7 @@ turns_quiet (Some answer) = hears_nothing answer
 -- HOW A TURN ASKED ITS LINK: once, and it is quiet exactly where the link was; or not at all, where a header that is no request's stands at the front
 pub data TurnsTo (old new : Option Asked) (broken : Bool) (turn : Option (Result Heard PortErr)) : Type 0 where
   asked : (answer : Result Piece LinkErr) → broken ≡ false → new ≡ asked_more answer old → turns_quiet turn ≡ is_quiet answer → TurnsTo old new broken turn
-  broken : broken ≡ true → new ≡ old → turns_quiet turn ≡ false → TurnsTo old new broken turn
+  unasked : broken ≡ true → new ≡ old → turns_quiet turn ≡ false → TurnsTo old new broken turn
 
 -- how a call that listens asked its link: no more often than a datagram has octets; and it is quiet exactly where the link was asked and answered so last
 pub record AsksSo (broken : Bool) (answer : Result Heard PortErr) (old new : Asked) : Type 0 where

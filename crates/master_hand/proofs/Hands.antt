@@ -4,7 +4,7 @@ use Rattle.std.specs.Prelude.{is_some, is_none, option_map, Ok, not, ◌&&◌, i
 use Rattle.eoe_client.specs.of_mailbox_mail.declared.outcome.Took.{Took}
 use Rattle.foe_client.specs.of_exchange_model.Areas.{Areas}
 use Rattle.foe_client.specs.of_exchange_model.Exchange.{Speech, plain}
-use Rattle.foe_client.specs.of_exchange_model.Rows.{Row, begun, row_heard, row_told}
+use Rattle.foe_client.specs.of_exchange_model.Rows.{Row, begun, ends_unheard, row_heard, row_told}
 use Rattle.master_side.specs.of_link_mails.Body.{Body}
 use Rattle.serving_model.specs.of_segment_model.Seats.{Side, is_none_left, next_mail}
 use Rattle.serving_model.specs.of_state_model.Accounts as Accounts
@@ -19,11 +19,13 @@ use Rattle.master_hand.specs.Spoken.{Asked, sdo, file, drive, net, passed, emiss
 use Rattle.master_hand.specs.Passed.{mail_of}
 use Rattle.master_hand.specs.Grips.{Going, Hearing}
 use Rattle.master_hand.specs.Talk.{Talking, which_of, IsOf, is_handed, is_read, client_later, client_awaits, Starts, Begins, SendsNext, IsSent, Follows, ClientTook, is_askable}
+use Rattle.master_hand.specs.Over.{delivers}
 use Rattle.master_hand.specs.Quiet.{has_stays}
 use Rattle.master_hand.specs.Shown.{HandShows, Shows, is_awaiting, is_answered, course_behind}
 use Rattle.master_hand.specs.declared.course.Course.{Course}
 use Rattle.master_hand.specs.declared.clients.Which.{Which}
 use Rattle.master_hand.specs.declared.passed.Content.{Content}
+use Rattle.master_hand.proofs.Reads.{answered_unheard, going_unheard, none_some}
 use Rattle.master_hand.proofs.Grips.{going_begun, going_told, going_next, going_emission, going_heard, talks_left, hears_of, hearing_emission, hearing_heard, has_of}
 
 abbrev pub Rows : Type 0
@@ -198,33 +200,24 @@ handed_of areas (net (EoeClient.set_ip block)) = refl
 handed_of areas (net EoeClient.get_ip) = refl
 handed_of areas (passed m) = refl
 
--- and reads of files alone with an acknowledgement
-pub read_of : (q : Asked) → acknowledged q ≡ is_read (which_of q)
-read_of (sdo q) = refl
-read_of (file (FoeMeaning.read name pass)) = refl
-read_of (file (FoeMeaning.write name pass bytes)) = refl
-read_of (drive q) = refl
-read_of (net (EoeClient.packet octets frame)) = refl
-read_of (net (EoeClient.set_ip block)) = refl
-read_of (net EoeClient.get_ip) = refl
-read_of (passed m) = refl
-
-over_by : {T : Type 0} (h idle answered fresh : Bool) (holding : Option T) → (if h then idle else answered && not fresh) ≡ true → (idle ≡ true → holding ≡ None) → (if h then is_none holding else answered && not fresh) ≡ true
-over_by true idle answered fresh holding e f = ap is_none (f e)
+over_by : {T : Type 0} (h idle answered fresh : Bool) (holding : Option T) → (if h && not answered then idle else answered && not fresh) ≡ true → (idle ≡ true → holding ≡ None) →
+    (if h && not answered then is_none holding else answered && not fresh) ≡ true
+over_by true idle false fresh holding e f = ap is_none (f e)
+over_by true idle true fresh holding e f = e
 over_by false idle answered fresh holding e f = e
 
 -- a service of which no mail is left or unsent is over
-over_free : (b : Bool) (which : Which) (c : Talking) (fresh idle : Bool) (d : Side Body Asked Reply) → client_later which c [] ≡ [] → (if is_handed which then idle else b && not fresh) ≡ true → d.fresh ≡ fresh →
+over_free : (b : Bool) (which : Which) (c : Talking) (fresh idle : Bool) (d : Side Body Asked Reply) → client_later which c [] ≡ [] → (if is_handed which && not b then idle else b && not fresh) ≡ true → d.fresh ≡ fresh →
     (idle ≡ true → d.halves.out.holding ≡ None) → Goes b which c d.now → is_free (hand_speech c.areas) d d.now ≡ true
 over_free b which c fresh idle d l o s i g =
     let left = talks_left (hand_speech c.areas) (client_later which c) (client_awaits which c) g.row g.talks ∙ l in
     let kind = handed_of c.areas g.row.service ∙ ap is_handed g.kind in
     ap (λ r. is_free (hand_speech c.areas) d r) g.is
-    ∙ (λ k. is_none_left (left k) && (if kind k then is_none d.halves.out.holding else (g.answer k && not (s k))))
+    ∙ (λ k. is_none_left (left k) && (if kind k && (none_some g.row.answer ∙ ap not g.answer) k then is_none d.halves.out.holding else (g.answer k && not (s k))))
     ∙ over_by (is_handed which) idle b fresh d.halves.out.holding o i
 
 pub sent_free : (b : Bool) (course : Course) (which : Which) (c : Talking) (fresh idle : Bool) (x : Speech Body Asked Reply) (d : Side Body Asked Reply) → HandShows course which c d.now ≡ Goes b which c d.now → client_later which c [] ≡ [] →
-    (if is_handed which then idle else b && not fresh) ≡ true → d.fresh ≡ fresh → (idle ≡ true → d.halves.out.holding ≡ None) → Shows course which c x d.now → is_free x d d.now ≡ true
+    (if is_handed which && not b then idle else b && not fresh) ≡ true → d.fresh ≡ fresh → (idle ≡ true → d.halves.out.holding ≡ None) → Shows course which c x d.now → is_free x d d.now ≡ true
 sent_free b course which c fresh idle x d k l o s i h =
     ap (λ (y : Speech Body Asked Reply). is_free y d d.now) h.0 ∙ over_free b which c fresh idle d l o s i (subst (λ (T : Type 0). T) k h.1)
 
@@ -238,27 +231,33 @@ pub nothing_free : (course : Course) (which : Which) (c : Talking) (x : Speech B
 nothing_free course which c x d w h = ap (λ r. is_free x d r) (subst (λ (z : Course). HandShows z which c d.now) w h.1)
 
 -- nothing is in hand of which the last write could be open
-pub nothing_acknowledged : (course : Course) (which : Which) (c : Talking) (x : Speech Body Asked Reply) (d : Side Body Asked Reply) → course ≡ Course.Nothing → Shows course which c x d.now → Accounts.is_acknowledged acknowledged d d.now ≡ true
-nothing_acknowledged course which c x d w h = ap (λ r. Accounts.is_acknowledged acknowledged d r) (subst (λ (z : Course). HandShows z which c d.now) w h.1)
+pub nothing_acknowledged : (course : Course) (which : Which) (c : Talking) (x : Speech Body Asked Reply) (d : Side Body Asked Reply) → course ≡ Course.Nothing → Shows course which c x d.now → Accounts.is_acknowledged x acknowledged d d.now ≡ true
+nothing_acknowledged course which c x d w h = ap (λ r. Accounts.is_acknowledged x acknowledged d r) (subst (λ (z : Course). HandShows z which c d.now) w h.1)
 
 -- the outward half is idle
-pub idle_acknowledged : (d : Side Body Asked Reply) (now : Rows) → d.halves.out.holding ≡ None → Accounts.is_acknowledged acknowledged d now ≡ true
-idle_acknowledged d None e = refl
-idle_acknowledged d (Some r) e = by (acknowledged r.service) e
+pub idle_acknowledged : (x : Speech Body Asked Reply) (d : Side Body Asked Reply) (now : Rows) → d.halves.out.holding ≡ None → Accounts.is_acknowledged x acknowledged d now ≡ true
+idle_acknowledged x d None e = refl
+idle_acknowledged x d (Some r) e = by (ends_unheard x acknowledged r) e
   where
     by : (b : Bool) → d.halves.out.holding ≡ None → (if b then is_none d.halves.out.holding else true) ≡ true
     by true e = ap is_none e
     by false e = refl
 
 -- the service is no read of a file
-going_acknowledged : (b : Bool) (which : Which) (c : Talking) (d : Side Body Asked Reply) → is_read which ≡ false → Goes b which c d.now → Accounts.is_acknowledged acknowledged d d.now ≡ true
-going_acknowledged b which c d n g =
-    ap (λ r. Accounts.is_acknowledged acknowledged d r) g.is ∙ ap (λ (z : Bool). if z then is_none d.halves.out.holding else true) (read_of g.row.service ∙ ap is_read g.kind ∙ n)
+pub other_acknowledged : (course : Course) (which : Which) (c : Talking) (x : Speech Body Asked Reply) (d : Side Body Asked Reply) → course ≡ Course.Goes → is_read which ≡ false → Shows course which c x d.now →
+    Accounts.is_acknowledged x acknowledged d d.now ≡ true
+other_acknowledged course which c x d w n h =
+    let g = subst (λ (z : Course). HandShows z which c d.now) w h.1 in
+    ap (λ (y : Speech Body Asked Reply). Accounts.is_acknowledged y acknowledged d d.now) h.0 ∙ ap (λ r. Accounts.is_acknowledged (hand_speech c.areas) acknowledged d r) g.is
+    ∙ ap (λ (z : Bool). if z then is_none d.halves.out.holding else true) (going_unheard which c d.now g ∙ n)
 
-pub other_acknowledged : (course : Course) (which : Which) (c : Talking) (x : Speech Body Asked Reply) (d : Side Body Asked Reply) → (course ≡ Course.Goes) ⊎ (course ≡ Course.Answered) → is_read which ≡ false → Shows course which c x d.now →
-    Accounts.is_acknowledged acknowledged d d.now ≡ true
-other_acknowledged course which c x d (inl w) n h = going_acknowledged false which c d n (subst (λ (z : Course). HandShows z which c d.now) w h.1)
-other_acknowledged course which c x d (inr w) n h = going_acknowledged true which c d n (subst (λ (z : Course). HandShows z which c d.now) w h.1)
+-- or has its answer, and delivered none
+pub refused_acknowledged : (course : Course) (which : Which) (c : Talking) (x : Speech Body Asked Reply) (d : Side Body Asked Reply) → course ≡ Course.Answered → delivers which c ≡ false → Shows course which c x d.now →
+    Accounts.is_acknowledged x acknowledged d d.now ≡ true
+refused_acknowledged course which c x d w n h =
+    let g = subst (λ (z : Course). HandShows z which c d.now) w h.1 in
+    ap (λ (y : Speech Body Asked Reply). Accounts.is_acknowledged y acknowledged d d.now) h.0 ∙ ap (λ r. Accounts.is_acknowledged (hand_speech c.areas) acknowledged d r) g.is
+    ∙ ap (λ (z : Bool). if z then is_none d.halves.out.holding else true) (answered_unheard which c d.now g ∙ n)
 
 -- the row behind a mail, over any speech that the hand shows
 pub heard_shown : (course : Course) (which : Which) (old new : Talking) (b : Body) (x : Speech Body Asked Reply) (frame : ℕ) (now : Rows) → x ≡ hand_speech old.areas → new.areas ≡ old.areas →

@@ -2,7 +2,7 @@
 use Rattle.std.proofs.Common.{◌≡◌, ◌⊎◌, inl, inr, ◌∷◌, [], List, Bool, true, false, Option, Some, None, refl, sym, ap, ◌∙◌, subst}
 use Rattle.std.specs.Prelude.{◌&&◌, not, is_some, is_none, if◌then◌else◌}
 use Rattle.foe_client.specs.of_exchange_model.Exchange.{Speech}
-use Rattle.foe_client.specs.of_exchange_model.Rows.{Row, left}
+use Rattle.foe_client.specs.of_exchange_model.Rows.{Row, ends_unheard, left}
 use Rattle.eoe_client.specs.of_mailbox_mail.declared.outcome.Took.{Took}
 use Rattle.master_side.specs.Due.{IsDue, IsReply}
 use Rattle.master_side.specs.of_link_mails.Body.{Body}
@@ -11,6 +11,7 @@ use Rattle.serving_model.specs.of_state_model.Accounts as Accounts
 use Rattle.serving_model.specs.of_state_model.Accounts.{is_free}
 use Rattle.serving_model.specs.of_segment_model.Seats.{Side, next_mail, first_left, is_none_left}
 use Rattle.master_hand.specs.Grips.{Going}
+use Rattle.master_hand.specs.Over.{delivers}
 use Rattle.master_hand.specs.Shown.{HandShows, Shows, course_behind, is_awaiting, knows}
 use Rattle.master_hand.specs.Spoken.{Asked, acknowledged, hand_speech, emission}
 use Rattle.master_hand.specs.declared.passed.Content.{Content}
@@ -18,7 +19,8 @@ use Rattle.master_hand.specs.Talk.{Talking, IsOf, IsSent, ClientTook, client_lat
 use Rattle.master_hand.specs.declared.course.Course.{Course}
 use Rattle.master_hand.specs.declared.clients.Which.{Which}
 use Rattle.master_hand.proofs.Grips.{talks_left}
-use Rattle.master_hand.proofs.Hands.{handed_of, read_of}
+use Rattle.master_hand.proofs.Hands.{handed_of}
+use Rattle.master_hand.proofs.Reads.{answered_unheard, going_unheard, none_some}
 
 abbrev Rows : Type 0
 Rows = Option (Row Body Asked Reply)
@@ -73,24 +75,26 @@ none_of : {T : Type 0} (o : Option T) → is_none o ≡ true → o ≡ None
 none_of None e = refl
 none_of (Some t) e = absurd (never e)
 
-over_by : {T : Type 0} (h idle answered fresh : Bool) (holding : Option T) → (if h then is_none holding else answered && not fresh) ≡ true → (holding ≡ None → idle ≡ true) → (if h then idle else answered && not fresh) ≡ true
-over_by true idle answered fresh holding e f = f (none_of holding e)
+over_by : {T : Type 0} (h idle answered fresh : Bool) (holding : Option T) → (if h && not answered then is_none holding else answered && not fresh) ≡ true → (holding ≡ None → idle ≡ true) →
+    (if h && not answered then idle else answered && not fresh) ≡ true
+over_by true idle false fresh holding e f = f (none_of holding e)
+over_by true idle true fresh holding e f = e
 over_by false idle answered fresh holding e f = e
 
 -- A SERVICE THAT IS OVER is so for its client
 pub record IsSentBy (which : Which) (c : Talking) (answered fresh idle : Bool) : Type 0 where
   pub left : client_later which c [] ≡ []
-  pub done : (if is_handed which then idle else answered && not fresh) ≡ true
+  pub done : (if is_handed which && not answered then idle else answered && not fresh) ≡ true
 
 free_over : (b : Bool) (which : Which) (c : Talking) (fresh idle : Bool) (d : Side Body Asked Reply) → d.fresh ≡ fresh → (d.halves.out.holding ≡ None → idle ≡ true) → Goes b which c d.now → is_free (hand_speech c.areas) d d.now ≡ true → IsSentBy which c b fresh idle
 free_over b which c fresh idle d s i g e =
     let kind = handed_of c.areas g.row.service ∙ ap is_handed g.kind in
     let over = sym (ap (λ r. is_free (hand_speech c.areas) d r) g.is) ∙ e in
-    let done = subst (λ z. (if (hand_speech c.areas).handed g.row.service then is_none d.halves.out.holding else z && not d.fresh) ≡ true) g.answer (both_right (is_none_left (left (hand_speech c.areas) g.row)) _ over) in
+    let done : (if is_handed which && not b then is_none d.halves.out.holding else b && not fresh) ≡ true =
+    sym (λ k. if kind k && (none_some g.row.answer ∙ ap not g.answer) k then is_none d.halves.out.holding else g.answer k && not (s k)) ∙ both_right (is_none_left (left (hand_speech c.areas) g.row)) _ over in
     record {
       left = sym (talks_left (hand_speech c.areas) (client_later which c) (client_awaits which c) g.row g.talks) ∙ none_left _ (both_left (is_none_left (left (hand_speech c.areas) g.row)) _ over);
-      done = over_by (is_handed which) idle b fresh d.halves.out.holding
-          (subst (λ z. (if is_handed which then is_none d.halves.out.holding else b && not z) ≡ true) s (subst (λ z. (if z then is_none d.halves.out.holding else b && not d.fresh) ≡ true) kind done)) i;
+      done = over_by (is_handed which) idle b fresh d.halves.out.holding done i;
     }
 
 pub goes_over : (course : Course) (which : Which) (c : Talking) (fresh idle : Bool) (x : Speech Body Asked Reply) (d : Side Body Asked Reply) → course ≡ Course.Goes → d.fresh ≡ fresh → (d.halves.out.holding ≡ None → idle ≡ true) → Shows course which c x d.now →
@@ -104,14 +108,23 @@ answered_over course which c fresh idle x d w s i h e =
     free_over true which c fresh idle d s i (subst (λ (z : Course). HandShows z which c d.now) w h.1) (sym (ap (λ (y : Speech Body Asked Reply). is_free y d d.now) h.0) ∙ e)
 
 -- a read of a file is acknowledged where no mail is held
-acknowledged_idle : (b : Bool) (which : Which) (c : Talking) (idle : Bool) (d : Side Body Asked Reply) → is_read which ≡ true → (d.halves.out.holding ≡ None → idle ≡ true) → Goes b which c d.now → Accounts.is_acknowledged acknowledged d d.now ≡ true → idle ≡ true
-acknowledged_idle b which c idle d r i g e =
-    i (none_of d.halves.out.holding (sym (ap (λ r. Accounts.is_acknowledged acknowledged d r) g.is ∙ ap (λ (z : Bool). if z then is_none d.halves.out.holding else true) (read_of g.row.service ∙ ap is_read g.kind ∙ r)) ∙ e))
+acknowledged_none : (b : Bool) (d : Side Body Asked Reply) → b ≡ true → (if b then is_none d.halves.out.holding else true) ≡ true → d.halves.out.holding ≡ None
+acknowledged_none b d r e = none_of d.halves.out.holding (sym (ap (λ (z : Bool). if z then is_none d.halves.out.holding else true) r) ∙ e)
 
-pub shown_idle : (course : Course) (which : Which) (c : Talking) (idle : Bool) (x : Speech Body Asked Reply) (d : Side Body Asked Reply) → (course ≡ Course.Goes) ⊎ (course ≡ Course.Answered) → is_read which ≡ true → (d.halves.out.holding ≡ None → idle ≡ true) →
-    Shows course which c x d.now → Accounts.is_acknowledged acknowledged d d.now ≡ true → idle ≡ true
-shown_idle course which c idle x d (inl w) r i h e = acknowledged_idle false which c idle d r i (subst (λ (z : Course). HandShows z which c d.now) w h.1) e
-shown_idle course which c idle x d (inr w) r i h e = acknowledged_idle true which c idle d r i (subst (λ (z : Course). HandShows z which c d.now) w h.1) e
+pub shown_idle : (course : Course) (which : Which) (c : Talking) (idle : Bool) (x : Speech Body Asked Reply) (d : Side Body Asked Reply) → course ≡ Course.Goes → is_read which ≡ true → (d.halves.out.holding ≡ None → idle ≡ true) →
+    Shows course which c x d.now → Accounts.is_acknowledged x acknowledged d d.now ≡ true → idle ≡ true
+shown_idle course which c idle x d w r i h e =
+    let g = subst (λ (z : Course). HandShows z which c d.now) w h.1 in
+    let done = sym (ap (λ (y : Speech Body Asked Reply). Accounts.is_acknowledged y acknowledged d d.now) h.0 ∙ ap (λ o. Accounts.is_acknowledged (hand_speech c.areas) acknowledged d o) g.is) ∙ e in
+    i (acknowledged_none (ends_unheard (hand_speech c.areas) acknowledged g.row) d (going_unheard which c d.now g ∙ r) done)
+
+-- one that delivered its file too
+pub delivered_idle : (course : Course) (which : Which) (c : Talking) (idle : Bool) (x : Speech Body Asked Reply) (d : Side Body Asked Reply) → course ≡ Course.Answered → delivers which c ≡ true → (d.halves.out.holding ≡ None → idle ≡ true) →
+    Shows course which c x d.now → Accounts.is_acknowledged x acknowledged d d.now ≡ true → idle ≡ true
+delivered_idle course which c idle x d w r i h e =
+    let g = subst (λ (z : Course). HandShows z which c d.now) w h.1 in
+    let done = sym (ap (λ (y : Speech Body Asked Reply). Accounts.is_acknowledged y acknowledged d d.now) h.0 ∙ ap (λ o. Accounts.is_acknowledged (hand_speech c.areas) acknowledged d o) g.is) ∙ e in
+    i (acknowledged_none (ends_unheard (hand_speech c.areas) acknowledged g.row) d (answered_unheard which c d.now g ∙ r) done)
 
 -- A REPLY THAT IS DUE
 some_row : (r q : Row Body Asked Reply) → Some r ≡ Some q → r ≡ q

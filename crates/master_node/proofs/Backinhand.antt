@@ -1,11 +1,12 @@
 -- BEHIND A FRAME THAT CAME BACK a post has in hand what the life behind it has, and just what the lives tell was told.
 use Rattle.std.proofs.Common.{◌≡◌, ◌==◌, ℕ, suc, Bool, true, false, Option, Some, None, List, [], ◌∷◌, ◌++◌, length, refl, sym, ap, ◌∙◌, subst, append_assoc, append-nil}
-use Rattle.std.specs.Prelude.{◌&&◌, is_some, option_map, if◌then◌else◌}
+use Rattle.std.specs.Prelude.{◌&&◌, not, is_some, option_map, if◌then◌else◌}
 use Rattle.life_runs.specs.of_exchange_model.Areas.{Areas}
 use Rattle.life_runs.specs.of_master_duty.Reply.{Reply}
 use Rattle.life_runs.specs.of_exchange_model.Exchange.{Speech}
 use Rattle.life_runs.specs.of_exchange_model.Rows.{row_heard}
 use Rattle.life_runs.specs.of_segment_model.Record.{News}
+use Rattle.life_runs.specs.of_segment_model.Seats.{writes}
 use Rattle.life_runs.specs.of_segment_model.Slaves.{Datagram, Found, grams}
 use Rattle.life_runs.specs.of_state_model.Accounts.{Account, Change, Duty, is_free}
 use Rattle.life_runs.specs.of_master_duty.declared.stage.Met.{Met}
@@ -119,11 +120,16 @@ module _ (areas : Areas) (made place : ℕ) (spot : Spot) (ns : List (News Body)
   now_is : OpenGiven → e.side.now ≡ option_map (Open.row_heard' areas place made ms known known' hand t l.era.side e.side l.era.account e.account) l.era.side.now
   now_is g = ap (λ z. option_map (λ r. row_heard x made z r) l.era.side.now) (sym (g.accepted ∙ ap (λ z. accepted_at spot.station l.era.side.halves back z) g.opened))
 
+  -- what was sent stays sent
+  sent_on : l.era.side.fresh ≡ false → e.side.fresh ≡ false
+  sent_on n = ap (λ z. z && not (writes spot.station (grams (Own.own spot.station back)))) n
+
   behind_is : (m : Life Body Asked Reply) → OpenGiven → OpenAfter l e m → t.stand ≡ Stand.Open → ShowsBehind x known' t m → Open.Behind areas place made ms known known' hand t l.era.side e.side l.era.account e.account l.era.passing e.passing old
   behind_is m g a s b = record {
     stand = s;
     now = now_is g;
     held = λ n. idle_back spot.station l.era.side.halves (grams (Own.own spot.station back)) n;
+    sent = sent_on;
     went = λ duty n. hand_back spot.station made l.era.account (Own.own spot.station back) duty n;
     stays = λ n. none_back spot.station made l.era.account (Own.own spot.station back) n;
     shown = subst (λ (z : Era Body Asked Reply). SideShows (Shows t.side.hand.course t.side.hand.which t.side.hand.clients x) t.side.out t.side.inn t.side.fresh t.side.duty z.side z.account) a.era (b.side s);
@@ -191,7 +197,7 @@ module _ (areas : Areas) (made place : ℕ) (spot : Spot) (ns : List (News Body)
   leaves_open : (m : Life Body Asked Reply) (duty : Duty) (state : ℕ) → OpenGiven → OpenAfter l e m → e.account.hand ≡ Some duty → m.stand ≡ Lives.reopening state true → t.news ≡ None → ShowsBehind x known' t m → Served Lives.Stand.Open m
   leaves_open m duty state g a h s n b =
       let c = changing g duty h in
-      let r = Open.nothing_rows areas place made ms known known' hand t l.era.side e.side l.era.account e.account (now_is g) (λ i. idle_back spot.station l.era.side.halves (grams (Own.own spot.station back)) i) c.rows in
+      let r = Open.nothing_rows areas place made ms known known' hand t l.era.side e.side l.era.account e.account (now_is g) (λ i. idle_back spot.station l.era.side.halves (grams (Own.own spot.station back)) i) sent_on c.rows in
       let shut : t.stand ≡ Stand.Open → ⊥ = λ o. absurd (let bad : Lives.Stand.Open ≡ Lives.reopening state true = sym (b.stands o) ∙ s in cc) in
       let d = still_does place ms t old g.brings n
       ∙ ap (λ z. behind (emergencies_told place (emergencies_in ms)) (rest_does place t z)) c.state

@@ -33,7 +33,7 @@ use Rattle.master_node.specs.declared.event.Event.{Event}
 use Rattle.master_node.specs.declared.post.Work.{Work}
 use Rattle.master_node.proofs.Changes.{StateHas, Went, none_more, state_tells}
 use Rattle.master_node.proofs.FreePackets.{free_packet}
-use Rattle.master_node.proofs.PacketRows.{stays_over}
+use Rattle.master_node.proofs.PacketRows.{heard_unanswered, stays_over}
 use Rattle.master_node.proofs.Rowtells.{IsQuiet, NewestTells, RowShown, heard, kept_kind, kind_told, mails_does, mails_still, newest_nothing, newest_rests, passed_kind, passed_other, rest_does}
 
 -- ---- THE EMERGENCIES
@@ -92,6 +92,7 @@ module _ (areas : Areas) (place frame : ℕ) (ms : List Body) (known known' : Bo
     pub stand : t.stand ≡ Stand.Open
     pub now : f.now ≡ option_map (heard areas place frame ms known known' t) d.now
     pub held : d.halves.out.holding ≡ None → f.halves.out.holding ≡ None
+    pub sent : d.fresh ≡ false → f.fresh ≡ false
     pub went : (duty : Duty) → a.hand ≡ Some duty → Went a.over b.hand b.over
     pub stays : a.hand ≡ None → b ≡ a
     pub shown : SideShows (Shows t.side.hand.course t.side.hand.which t.side.hand.clients x) t.side.out t.side.inn t.side.fresh t.side.duty f b
@@ -112,9 +113,9 @@ module _ (areas : Areas) (place frame : ℕ) (ms : List Body) (known known' : Bo
   row_heard' r = heard areas place frame ms known known' t r
 
   -- a packet that is over stays so
-  packets_stay : (r : Row Body Asked Reply) → d.now ≡ Some r → f.now ≡ option_map row_heard' d.now → (d.halves.out.holding ≡ None → f.halves.out.holding ≡ None) → is_other r.service ≡ false → is_free x d d.now ≡ true → is_free x f f.now ≡ true
-  packets_stay r e n h o g =
-      ap (λ z. is_free x f z) (n ∙ ap (λ z. option_map row_heard' z) e) ∙ stays_over areas d f r (row_heard' r) o (record { service = refl; told = refl }) h (sym (ap (λ z. is_free x d z) e) ∙ g)
+  packets_stay : (r : Row Body Asked Reply) → d.now ≡ Some r → f.now ≡ option_map row_heard' d.now → (d.halves.out.holding ≡ None → f.halves.out.holding ≡ None) → (d.fresh ≡ false → f.fresh ≡ false) → is_other r.service ≡ false → is_free x d d.now ≡ true → is_free x f f.now ≡ true
+  packets_stay r e n h sent o g =
+      ap (λ z. is_free x f z) (n ∙ ap (λ z. option_map row_heard' z) e) ∙ stays_over areas d f r (row_heard' r) o (record { service = refl; told = refl; answer = heard_unanswered areas frame ms r o }) h sent (sym (ap (λ z. is_free x d z) e) ∙ g)
 
   as_heard : (w : Does) → f.now ≡ option_map row_heard' d.now → NewestTells areas place frame ms known known' t d.now (is_free x d d.now) (is_free x f f.now) w → (w.told ≡ rows_told) × NewestHas (is_free x f f.now) known' f.now w.work
   as_heard w k n = (
@@ -128,7 +129,7 @@ module _ (areas : Areas) (place frame : ℕ) (ms : List Body) (known known' : Bo
     quiet = λ g. k.quiet r e g;
     none = k.none;
     kept = kept_kind t.side.hand x f.now k.shown.row ∙ ap kind_of (k.now ∙ ap (λ z. option_map row_heard' z) e);
-    stays = λ o g. packets_stay r e k.now k.held o g;
+    stays = λ o g. packets_stay r e k.now k.held k.sent o g;
     side_free = λ o. free_packet t.side x f b (row_heard' r) k.shown h (none_some t.side.passing q k.passing n) (k.now ∙ ap (λ z. option_map row_heard' z) e) o ∙ ap (λ z. z && is_free x f f.now) k.knows_is;
     sure = k.sure;
   }
@@ -155,8 +156,8 @@ module _ (areas : Areas) (place frame : ℕ) (ms : List Body) (known known' : Bo
       }
 
   -- A CHANGE OF STATE
-  pub nothing_rows : f.now ≡ option_map row_heard' d.now → (d.halves.out.holding ≡ None → f.halves.out.holding ≡ None) → NewestHas (is_free x d d.now) known d.now Work.Nothing → ([] ≡ rows_told) × NewestHas (is_free x f f.now) known' f.now Work.Nothing
-  nothing_rows n k h = as_heard (stays Work.Nothing) n (newest_nothing areas place frame ms known known' t d.now (is_free x d d.now) (is_free x f f.now) (λ r e o g. packets_stay r e n k o g) h)
+  pub nothing_rows : f.now ≡ option_map row_heard' d.now → (d.halves.out.holding ≡ None → f.halves.out.holding ≡ None) → (d.fresh ≡ false → f.fresh ≡ false) → NewestHas (is_free x d d.now) known d.now Work.Nothing → ([] ≡ rows_told) × NewestHas (is_free x f f.now) known' f.now Work.Nothing
+  nothing_rows n k sent h = as_heard (stays Work.Nothing) n (newest_nothing areas place frame ms known known' t d.now (is_free x d d.now) (is_free x f f.now) (λ r e o g. packets_stay r e n k sent o g) h)
 
   pub rows_then : (C : List Event) → changes_told place (length a.over) b.over ≡ C → [] ≡ rows_told → C ≡ told_of None None
   rows_then C e r =
@@ -169,7 +170,7 @@ module _ (areas : Areas) (place frame : ℕ) (ms : List Body) (known known' : Bo
   state_tell : (old : Work) (duty : Duty) → Behind None None old → a.hand ≡ Some duty → OpenHas x known d (Some duty) None old → Tells None None b.hand (rest_does place t old)
   state_tell old duty k e h =
       let s = state_tells place a.over b.over b.hand t.side.duty (k.went duty e) k.shown.state k.shown.over in
-      let r = nothing_rows k.now k.held h.1 in
+      let r = nothing_rows k.now k.held k.sent h.1 in
       subst (λ z. Tells None None b.hand (rest_does place t z)) (sym h.2)
       (subst (λ z. Tells None None b.hand z) (sym (state_rest ∙ ap (λ z. met_at place z t.side.duty Work.State) k.stand))
       (record {

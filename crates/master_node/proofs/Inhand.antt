@@ -1,5 +1,5 @@
 -- WHAT A POST HAS IN HAND is what its slave's life has: before the first frame, at a visit, and behind a lost frame.
-use Rattle.std.proofs.Common.{◌≡◌, inr, ℕ, Bool, true, false, Option, Some, None, List, [], ◌∷◌, length, refl, sym, ap, ◌∙◌, subst}
+use Rattle.std.proofs.Common.{◌≡◌, inl, inr, ℕ, Bool, true, false, Option, Some, None, List, [], ◌∷◌, length, refl, sym, ap, ◌∙◌, subst}
 use Rattle.std.specs.Prelude.{◌&&◌, is_some, nat_lt, option_map, if◌then◌else◌}
 use Rattle.life_runs.specs.of_frame_view.Shares.{given_where}
 use Rattle.life_runs.specs.of_exchange_model.Areas.{Areas}
@@ -28,25 +28,51 @@ use Rattle.master_node.proofs.Frees.{none_next}
 use Rattle.master_node.proofs.Handeds.{begun_is, lost_on}
 use Rattle.master_node.proofs.Newest.{Newest, newest, no_more}
 use Rattle.master_node.proofs.PacketRows.{held_open, out_lost, packet_begins, script_answered, same_over}
+use Rattle.master_node.proofs.Rowtells.{passed_other}
 
 -- BEFORE THE FIRST FRAME nothing is in hand
 pub new_inhand : (x : Speech Body Asked Reply) (known : Bool) (state : ℕ) → (let l : Life Body Asked Reply = new_life state in HasInHand x known l l.stand Work.Nothing)
 new_inhand x known state = (refl, λ e. record { row = refl; account = refl; passing = refl })
 
 -- THE SAME ROW, as free as it was where it is a packet, has what it had
-pub service_as : (passed other free now knows answered : Bool) (work : Work) → (other ≡ false → now ≡ free) → ServiceHas passed other free knows answered work → ServiceHas passed other now knows answered work
+pub service_as : (passed other free now knows answered : Bool) (work : Work) → (other ≡ false → answered ≡ false → now ≡ free) → ServiceHas passed other free knows answered work → ServiceHas passed other now knows answered work
 service_as true other free now knows answered work f h = h
 service_as false true free now knows answered work f h = h
-service_as false false free now knows answered work f h = subst (λ z. PacketHas z knows work) (sym (f refl)) h
+service_as false false free now knows answered work f h = (h.0, subst (λ z. PacketHas z knows work) (sym (f refl h.0)) h.1)
 
 pub record SameService (r k : Row Body Asked Reply) : Type 0 where
   pub service : k.service ≡ r.service
   pub answered : is_some k.answer ≡ is_some r.answer
 
-pub row_as : (free now knows : Bool) (work : Work) (r k : Row Body Asked Reply) → SameService r k → (is_other r.service ≡ false → now ≡ free) → NewestHas free knows (Some r) work → NewestHas now knows (Some k) work
+pub row_as : (free now knows : Bool) (work : Work) (r k : Row Body Asked Reply) → SameService r k → (is_other r.service ≡ false → is_some r.answer ≡ false → now ≡ free) → NewestHas free knows (Some r) work → NewestHas now knows (Some k) work
 row_as free now knows work r k s f h =
     subst (λ z. ServiceHas (is_passed k.service) (is_other k.service) now knows z work) (sym s.answered)
     (subst (λ z. ServiceHas (is_passed z) (is_other z) now knows (is_some r.answer) work) (sym s.service) (service_as (is_passed r.service) (is_other r.service) free now knows (is_some r.answer) work f h))
+
+pub no_answer : (o : Option (Reply × ℕ)) → is_some o ≡ false → o ≡ None
+no_answer None e = refl
+no_answer (Some a) e = absurd (let bad : true ≡ false = e in cc)
+
+-- a packet never has an answer
+abbrev pub PacketsUnanswered : Option (Row Body Asked Reply) → Type 0
+PacketsUnanswered now = (r : Row Body Asked Reply) → now ≡ Some r → is_other r.service ≡ false → is_some r.answer ≡ false
+
+service_unanswered : (passed other free knows answered : Bool) (work : Work) → (passed ≡ true → other ≡ true) → other ≡ false → ServiceHas passed other free knows answered work → answered ≡ false
+service_unanswered true other free knows answered work p o h = absurd (let bad : true ≡ false = sym (p refl) ∙ o in cc)
+service_unanswered false true free knows answered work p o h = absurd (let bad : true ≡ false = o in cc)
+service_unanswered false false free knows answered work p o h = h.0
+
+newest_unanswered : (free knows : Bool) (now : Option (Row Body Asked Reply)) (work : Work) → NewestHas free knows now work → PacketsUnanswered now
+newest_unanswered free knows now work h r e o =
+    let k = subst (λ z. NewestHas free knows z work) e h in service_unanswered (is_passed r.service) (is_other r.service) free knows (is_some r.answer) work (passed_other r.service) o k
+
+pub open_unanswered : (x : Speech Body Asked Reply) (knows : Bool) (d : Side Body Asked Reply) (hand : Option Duty) (passing : Option Ends.Passing) (work : Work) → OpenHas x knows d hand passing work → PacketsUnanswered d.now
+open_unanswered x knows d None None work h = newest_unanswered (is_free x d d.now) knows d.now work h
+open_unanswered x knows d None (Some p) work h = λ r e o.
+    (let same : Some h.0.row ≡ Some r = sym h.0.is ∙ e in
+    let one : h.0.row ≡ r = cc in
+    absurd (let bad : true ≡ false = sym (passed_other h.0.row.service h.0.passed) ∙ ap (λ (z : Row Body Asked Reply). is_other z.service) one ∙ o in cc))
+open_unanswered x knows d (Some duty) passing work h = newest_unanswered (is_free x d d.now) knows d.now Work.Nothing h.1
 
 -- what is over leaves nothing in hand, whatever else comes
 packet_nothing : (knows : Bool) → PacketHas true knows Work.Nothing
@@ -57,14 +83,14 @@ module _ (areas : Areas) where
   abbrev x : Speech Body Asked Reply
   x = hand_speech areas
 
-  over_nothing : (knows : Bool) (d : Side Body Asked Reply) (r : Row Body Asked Reply) (passed other : Bool) → is_passed r.service ≡ passed → is_other r.service ≡ other → is_free x d (Some r) ≡ true → ServiceHas passed other (is_free x d (Some r)) knows (is_some r.answer) Work.Nothing
-  over_nothing knows d r true other p o f = refl
-  over_nothing knows d r false false p o f = subst (λ z. PacketHas z knows Work.Nothing) (sym f) (packet_nothing knows)
-  over_nothing knows d r false true p o f = subst (λ z. AnswerHas z Work.Nothing) (sym (script_answered areas d r p o f)) refl
+  over_nothing : (knows : Bool) (d : Side Body Asked Reply) (r : Row Body Asked Reply) (passed other : Bool) → is_passed r.service ≡ passed → is_other r.service ≡ other → is_free x d (Some r) ≡ true → (other ≡ false → is_some r.answer ≡ false) → ServiceHas passed other (is_free x d (Some r)) knows (is_some r.answer) Work.Nothing
+  over_nothing knows d r true other p o f none = refl
+  over_nothing knows d r false false p o f none = (none refl, subst (λ z. PacketHas z knows Work.Nothing) (sym f) (packet_nothing knows))
+  over_nothing knows d r false true p o f none = subst (λ z. AnswerHas z Work.Nothing) (sym (script_answered areas d r p o f)) refl
 
-  pub free_nothing : (knows : Bool) (d : Side Body Asked Reply) (now : Option (Row Body Asked Reply)) → is_free x d now ≡ true → NewestHas (is_free x d now) knows now Work.Nothing
-  free_nothing knows d None f = refl
-  free_nothing knows d (Some r) f = over_nothing knows d r (is_passed r.service) (is_other r.service) refl refl f
+  pub free_nothing : (knows : Bool) (d : Side Body Asked Reply) (now : Option (Row Body Asked Reply)) → is_free x d now ≡ true → PacketsUnanswered now → NewestHas (is_free x d now) knows now Work.Nothing
+  free_nothing knows d None f none = refl
+  free_nothing knows d (Some r) f none = over_nothing knows d r (is_passed r.service) (is_other r.service) refl refl f (λ o. none r refl o)
 
   -- WHERE NOTHING CAME INTO HAND the next mail is taken up, or none is
   taken_up : (known : Bool) (d : Side Body Asked Reply) (work : Work) (now : Option (Row Body Asked Reply)) (hold : Bool) (ms : List Body) → d.now ≡ now → ms ≡ next_mail x now d.halves.out.holding hold → NewestHas (is_free x d now) known now work →
@@ -75,7 +101,7 @@ module _ (areas : Areas) where
       let f = side_holds d (b ∷ ms) in
       subst (λ z. NewestHas (is_free x f (option_map (λ r. row_told b r) z)) known (option_map (λ r. row_told b r) z) work) (sym e)
       (row_as (is_free x d (Some r)) (is_free x f (Some (row_told b r))) known work r (row_told b r) (record { service = refl; answered = refl })
-      (λ o. held_open areas f (row_told b r) o refl ∙ sym (go (is_free x d (Some r)) refl)) h)
+      (λ o a. held_open areas f (row_told b r) refl refl ∙ sym (go (is_free x d (Some r)) refl)) h)
     where
       go : (z : Bool) → is_free x d (Some r) ≡ z → is_free x d (Some r) ≡ false
       go false g = g
@@ -121,7 +147,7 @@ module _ (areas : Areas) where
       subst (λ z. NewestHas z known k.now new) (sym (packet_begins areas q made k o n))
       (subst (λ z. NewestHas false known z new) (sym r.is)
       (subst (λ z. ServiceHas z (is_other r.row.service) false known (is_some r.row.answer) new) (sym (ap is_passed r.service ∙ p))
-      (subst (λ z. ServiceHas false z false known (is_some r.row.answer) new) (sym (ap is_other r.service ∙ o)) w)))
+      (subst (λ z. ServiceHas false z false known (is_some r.row.answer) new) (sym (ap is_other r.service ∙ o)) (ap is_some r.answer, w))))
 
   -- AT A VISIT
   module _ (made : ℕ) (l : Life Body Asked Reply) where
@@ -187,8 +213,8 @@ module _ (areas : Areas) where
 
     state_open : (known : Bool) (pick : Pick Asked) (target : ℕ) (new : Work) → pick.begin ≡ Some (Service.State target) → l.era.passing ≡ None → HasBegun l (Some (Service.State target)) (next Lives.Stand.Open pick) →
         (next Lives.Stand.Open pick).era.account.started ≡ starts l.era.account (Service.State target) made → new ≡ Work.State →
-        (let m = next Lives.Stand.Open pick in OpenHas x known m.era.side m.era.account.hand m.era.passing new)
-    state_open known pick target new e free b c w =
+        PacketsUnanswered l.era.side.now → (let m = next Lives.Stand.Open pick in OpenHas x known m.era.side m.era.account.hand m.era.passing new)
+    state_open known pick target new e free b c w none =
         let m = next Lives.Stand.Open pick in
         let g : (granted l.era.passing pick).begin ≡ Some (Service.State target) = ap (λ z. (granted z pick).begin) free ∙ e in
         let is : m.era.account ≡ account_begins x acknowledged made l.era.side l.era.account l.era.account.hand (Some (Service.State target)) = ap (λ z. account_begins x acknowledged made l.era.side l.era.account l.era.account.hand z) g in
@@ -197,7 +223,7 @@ module _ (areas : Areas) where
         let still = side ∙ ap (λ z. side_holds l.era.side z) (none_next x l.era.side l.era.side.now l.era.side.halves.out.holding pick.hold s.free) in
         subst (λ z. OpenHas x known m.era.side m.era.account.hand z new) (sym (b.passing ∙ free))
         (subst (λ z. OpenHas x known m.era.side z None new) (sym (ap (λ z. z.hand) is ∙ s.hand))
-        (subst (λ z. OpenHas x known z (Some s.duty) None new) (sym still) (refl, free_nothing known l.era.side l.era.side.now s.free, w)))
+        (subst (λ z. OpenHas x known z (Some s.duty) None new) (sym still) (refl, free_nothing known l.era.side l.era.side.now s.free none, w)))
 
     module _ (known known' : Bool) (old new : Work) where
       visit_open : (pick : Pick Asked) (b : Option (Service Asked)) → l.stand ≡ Lives.Stand.Open → pick.begin ≡ b → (is_some b ≡ false → known' ≡ known) → WorkOf b old new → BeginsFree l b → Counts made b l (next Lives.Stand.Open pick) →
@@ -210,7 +236,7 @@ module _ (areas : Areas) where
               let m = next Lives.Stand.Open pick in
               subst (λ z. OpenHas x z m.era.side m.era.account.hand m.era.passing new) (sym (k refl)) (subst (λ z. OpenHas x known m.era.side m.era.account.hand m.era.passing z) (sym w) (none_open known pick old e g h))
           go (Some (Service.Mails q)) e k w f c g = mails_open known' pick q new (next Lives.Stand.Open pick) e (sym (ap (λ z. next z pick) o)) c (f _ refl).1 g w
-          go (Some (Service.State target)) e k w f c g = state_open known' pick target new e (f _ refl).1 g c w
+          go (Some (Service.State target)) e k w f c g = state_open known' pick target new e (f _ refl).1 g c w (open_unanswered x known l.era.side l.era.account.hand l.era.passing old h)
 
       -- of one that isn't nothing comes into hand
       none_came : (b : Option (Service Asked)) → WorkOf b old new → (is_some b ≡ true → ⊥) → (is_some b ≡ false) × (new ≡ old)
@@ -249,7 +275,7 @@ module _ (areas : Areas) where
     newest_lost known None work h = h
     newest_lost known (Some r) work h =
         row_as (is_free x l.era.side (Some r)) (is_free x side (Some r)) known work r r (record { service = refl; answered = refl })
-        (λ o. same_over areas l.era.side side r r o (record { service = refl; told = refl }) (ap (λ z. z.holding) out_is)) h
+        (λ o a. same_over areas l.era.side side r r o (record { service = refl; told = refl; answer = refl }) (ap (λ z. z.holding) out_is) (inl (no_answer r.answer a))) h
 
     open_lost : (known : Bool) (hand : Option Duty) (p q : Option Ends.Passing) (work : Work) → is_some q ≡ is_some p → OpenHas x known l.era.side hand p work → OpenHas x known side hand q work
     open_lost known None None None work e h = newest_lost known l.era.side.now work h

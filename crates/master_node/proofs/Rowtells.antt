@@ -22,7 +22,7 @@ use Rattle.master_node.specs.Backtold.{AnswerHas, NewestHas, PacketHas, ServiceH
 use Rattle.master_node.specs.Begins.{is_other}
 use Rattle.master_node.specs.Besides.{Does, answered_does, handed_where, mail_does, over_does, stays, then_does}
 use Rattle.master_node.specs.declared.post.Work.{Work}
-use Rattle.master_node.proofs.PacketRows.{packet_ends}
+use Rattle.master_node.proofs.PacketRows.{heard_unanswered, packet_ends}
 
 -- THE KIND OF A HAND'S ANSWER is that of the row that it shows
 no_answer : (o : Option (Reply × ℕ)) → is_some o ≡ false → None ≡ kind_by o
@@ -160,6 +160,10 @@ module _ (areas : Areas) (place frame : ℕ) (ms : List Body) (known known' : Bo
   nothing_has true = refl
   nothing_has false = inr refl
 
+  -- a packet has none behind them either
+  packet_unanswered : (r : Row Body Asked Reply) → is_other r.service ≡ false → is_some r.answer ≡ false → is_some (answer_after frame r.answer (found r)) ≡ false
+  packet_unanswered r o none = ap (λ (k : Option (Reply × ℕ)). is_some k) (heard_unanswered areas frame ms r o) ∙ none
+
   pub row_nothing : (passes other : Bool) (r : Row Body Asked Reply) (free free' : Bool) → is_passed r.service ≡ passes → is_other r.service ≡ other → (other ≡ false → free ≡ true → free' ≡ true) → ServiceHas passes other free known (is_some r.answer) Work.Nothing →
       RowTells passes other r free free' (stays Work.Nothing)
   row_nothing true true r free free' p o m h = record { is = sym (ap (λ z. z ++ []) (kind_told place frame r.answer (found r) (passed_kind areas r.service _ p))); has = refl }
@@ -168,10 +172,10 @@ module _ (areas : Areas) (place frame : ℕ) (ms : List Body) (known known' : Bo
       let s = answer_stays place frame r.answer (found r) (answer_nothing (is_some r.answer) h) in
       record { is = sym (ap (λ z. z ++ []) s.told); has = subst (λ z. AnswerHas z Work.Nothing) (sym s.there) refl }
   row_nothing false false r free free' p o m h =
-      let was = packet_nothing free known h in
+      let was = packet_nothing free known h.1 in
       record {
         is = sym ((λ i. kind_told place frame r.answer (found r) (ap kind_in (packet_ends areas r.service (plain emission (r.heard ++ ms)) o)) i ++ over_told place (was i) (known' && free')));
-        has = subst (λ z. PacketHas z known' Work.Nothing) (sym (m refl was)) (nothing_has known');
+        has = (packet_unanswered r o h.0, subst (λ z. PacketHas z known' Work.Nothing) (sym (m refl was)) (nothing_has known'));
       }
 
   -- OF A SERVICE OF THE SCRIPT that has no answer yet: its answer
@@ -261,21 +265,21 @@ module _ (areas : Areas) (place frame : ℕ) (ms : List Body) (known known' : Bo
       let w = script_by t.side.heard r p e s.none (s.quiet e) s.kept in
       subst (λ z. RowTells false true r free free' (rest_does place t z)) (sym h) (record { is = w.is; has = w.has })
 
-  packet_rests : (r : Row Body Asked Reply) (free free' : Bool) (old : Work) → is_passed r.service ≡ false → is_other r.service ≡ false → RowShown r free free' → PacketHas free known old → RowTells false false r free free' (rest_does place t old)
-  packet_rests r free free' old p o s h = by (packet_work free known old h)
+  packet_rests : (r : Row Body Asked Reply) (free free' : Bool) (old : Work) → is_passed r.service ≡ false → is_other r.service ≡ false → RowShown r free free' → is_some r.answer ≡ false → PacketHas free known old → RowTells false false r free free' (rest_does place t old)
+  packet_rests r free free' old p o s none h = by (packet_work free known old h)
     where
       by : (old ≡ Work.Packet) ⊎ (old ≡ Work.Nothing) → RowTells false false r free free' (rest_does place t old)
-      by (inr e) = rests_nothing false false r free free' old p o s e h
+      by (inr e) = rests_nothing false false r free free' old p o s e (none, h)
       by (inl e) =
           let w = packet_by free free' known known' (is_free_side t.side) (s.side_free o) s.sure (s.stays o) (subst (λ z. PacketHas free known z) e h) in
           subst (λ z. RowTells false false r free free' (rest_does place t z)) (sym e)
           (subst (λ d. RowTells false false r free free' d) (sym packet_rest)
-          (record { is = w.0 ∙ sym (ap (λ z. z ++ over_told place free (known' && free')) (kind_told place frame r.answer (found r) (ap kind_in (packet_ends areas r.service (plain emission (r.heard ++ ms)) o)))); has = w.1 }))
+          (record { is = w.0 ∙ sym (ap (λ z. z ++ over_told place free (known' && free')) (kind_told place frame r.answer (found r) (ap kind_in (packet_ends areas r.service (plain emission (r.heard ++ ms)) o)))); has = (packet_unanswered r o none, w.1) }))
 
   row_rests : (passes other : Bool) (r : Row Body Asked Reply) (free free' : Bool) (old : Work) → is_passed r.service ≡ passes → is_other r.service ≡ other → RowShown r free free' → ServiceHas passes other free known (is_some r.answer) old → RowTells passes other r free free' (rest_does place t old)
   row_rests true other r free free' old p o s h = rests_nothing true other r free free' old p o s h h
   row_rests false true r free free' old p o s h = script_rests (is_some r.answer) r free free' old refl p o s h
-  row_rests false false r free free' old p o s h = packet_rests r free free' old p o s h
+  row_rests false false r free free' old p o s h = packet_rests r free free' old p o s h.0 h.1
 
   -- what it tells, and what is in hand of it
   pub record NewestTells (now : Option (Row Body Asked Reply)) (free free' : Bool) (d : Does) : Type 0 where

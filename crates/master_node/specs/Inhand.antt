@@ -26,11 +26,11 @@ PacketHas false knows work = work ≡ Work.Packet
 PacketHas true true work = work ≡ Work.Nothing
 PacketHas true false work = (work ≡ Work.Packet) ⊎ (work ≡ Work.Nothing)
 
--- by the newest service: whether it passes a mail on, which is over here, whether it is no packet, and whether it has its answer
+-- by the newest service: whether it passes a mail on, which is over here, whether it is no packet, and whether it has its answer, which a packet never has
 abbrev pub ServiceHas : Bool → Bool → Bool → Bool → Bool → Work → Type 0
 ServiceHas true other free knows answered work = work ≡ Work.Nothing
 ServiceHas false true free knows answered work = AnswerHas answered work
-ServiceHas false false free knows answered work = PacketHas free knows work
+ServiceHas false false free knows answered work = (answered ≡ false) × PacketHas free knows work
 
 abbrev pub NewestHas : Bool → Bool → Option (Row Body Asked Reply) → Work → Type 0
 NewestHas free knows None work = work ≡ Work.Nothing

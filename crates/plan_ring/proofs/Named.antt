@@ -1,7 +1,7 @@
 -- THE LAWS OF AN EXCHANGE hold by its client's names.
 use Rattle.std.proofs.Common.{◌≡◌, ◌⊎◌, inl, inr, ◌&&◌, Bool, true, false, List, [], ◌∷◌, ◌++◌, refl, ap, sym, ◌∙◌, subst}
 use Rattle.std.specs.Prelude.{if◌then◌else◌, Option, Some, None, option_map}
-use Rattle.slave_server.specs.of_exchange_model.Exchange.{Exchange, Speech, IsLawful, Before, Behind}
+use Rattle.slave_server.specs.of_exchange_model.Exchange.{Exchange, Speech, IsLawful, Before, Behind, given, outnumbers, plain}
 use Rattle.slave_server.specs.of_exchange_model.Prefix.{IsPrefixOf}
 use Rattle.slave_server.specs.of_state_model.Stated.{Stated, IsStated}
 use Rattle.plan_ring.specs.Named.{Naming, named, named_states, Agrees, AgreesLast}
@@ -77,5 +77,6 @@ module _ {V A M Q R P T : Type 0} (x : Exchange V A M Q R) (n : Naming Q R P T) 
       same = stated.same;
       stays = stated.stays;
       keeps = λ a q. stated.keeps a (n.service q);
-      last = λ v q r w h k p rest e all. stated.last v (n.service q) r (valid_is q w) (not_handed q (is_one q w) h) (sym (last q (is_one q w)) ∙ k) p rest e all;
+      last = λ v q r w h k p rest e all. stated.last v (n.service q) r (valid_is q w) (not_handed q (is_one q w) h)
+          (ap (λ (b : Bool). b && outnumbers (x.full v (n.service q)) (plain x.speech.emission (given x.serve v (x.full v (n.service q))))) (sym (last q (is_one q w))) ∙ k) p rest e all;
     }

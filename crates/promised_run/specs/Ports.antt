@@ -9,7 +9,7 @@ use Rattle.run_promises.specs.of_master_node.Ports.{ports_behind, ports_of}
 use Rattle.run_promises.specs.of_master_node.Shows.{is_live_lead}
 use Rattle.run_promises.specs.of_master_tour.Goes.{holds_at}
 use Rattle.gateway_run.specs.of_run_record.Led.{LeadTo}
-use Rattle.gateway_run.specs.of_run_record.of_arrayvec.ArrayVec.{ArrayVec}
+use Rattle.arrayvec.specs.ArrayVec.{ArrayVec}
 use Rattle.run_promises.specs.of_eoe_switch.Switch.{switched}
 use Rattle.run_promises.specs.of_eoe_switch.declared.switching.SwitchEvent.{SwitchEvent}
 use Rattle.run_promises.specs.of_eoe_switch.declared.switching.SwitchEvent.TheVariants.{Down}

@@ -10,7 +10,7 @@ use Rattle.run_promises.specs.of_master_node.Forwards.{port_by}
 use Rattle.run_promises.specs.of_master_node.Happened.{arrivals_at}
 use Rattle.run_promises.specs.of_master_node.Ports.{ports_behind}
 use Rattle.gateway_run.specs.of_run_record.Replay.{first_ring, ring_after}
-use Rattle.gateway_run.specs.of_run_record.of_arrayvec.ArrayVec.{ArrayVec}
+use Rattle.arrayvec.specs.ArrayVec.{ArrayVec}
 use Rattle.run_promises.specs.of_packets_heard.Heard.{Times, packets_of}
 use Rattle.run_promises.specs.of_packets_heard.Servings.{served_times}
 use Rattle.run_promises.specs.of_segment_plan.declared.plan.Scenario.{Scenario}

@@ -3,11 +3,11 @@
 use Rattle.std.proofs.Common.{◌≡◌, ℕ, zero, suc, ◌+◌, ◌≤◌, ◌==◌, Bool, true, false, List, [], ◌∷◌, ◌++◌, length, Option, None, Some, refl, sym, ap, ap₂, ◌∙◌, arith, nat_lt, if◌then◌else◌}
 use Rattle.mailbox_mail.specs.declared.outcome.ReplyKind.{ReplyKind}
 use Rattle.exchange_model.specs.Areas.{Areas}
-use Rattle.exchange_model.specs.Dialogue.{Turn, next, stop, chosen, turn_at, rest_at, said}
-use Rattle.protocol_models.specs.FoeMails.{Foe, FoeMail, mail, unread, failed, other, Read, Write, Data, Ack, Error, Busy}
+use Rattle.exchange_model.specs.Dialogue.{Turn, chosen, turn_at, rest_at, said}
+use Rattle.protocol_models.specs.FoeMails.{FoeMail, mail, unread, failed, other, Read, Write, Data, Ack, Error, Busy}
 use Rattle.protocol_models.specs.FoeServer.{is_last}
 use Rattle.protocol_models.specs.FoeMeaning.{read}
-use Rattle.protocol_models.specs.FoeClient.{acks, at_end, decide, ends, is_packet, most, octets_in, packets_end, read_turn, refused_by, turn_behind}
+use Rattle.protocol_models.specs.FoeClient.{acks, at_end, decide, ends, most, packets_end, read_turn, turn_behind}
 use Rattle.protocol_models.specs.FoeModel.{planned}
 
 -- a file that came whole is acknowledged once more

@@ -25,7 +25,7 @@ use Rattle.packets_heard.specs.of_master_node.declared.post.Post.{Post}
 use Rattle.plan_ring.specs.of_frame_view.View.{Lens}
 use Rattle.plan_ring.specs.of_frame_view.Shares.{AllBoth, AllThree}
 use Rattle.served_places.specs.of_exchange_model.Exchange.{Speech}
-use Rattle.served_places.specs.of_exchange_model.Rows.{Row}
+use Rattle.served_places.specs.of_exchange_model.Rows.{Row, ends_unheard}
 use Rattle.served_places.specs.of_life_runs.First.{lens_of}
 use Rattle.served_places.specs.of_life_runs.Led.{Exchanged, Leads, speech_at}
 use Rattle.served_places.specs.of_link_mails.Body.{Body}
@@ -85,7 +85,7 @@ module _ (lens : ℕ → Lens) (l : Lan) where
       let free : MayBegin lens a = record {
         stands = idle.stand;
         free = free_by (speech_at lens a.lived.spot) d d.now idle.side.nothing;
-        done = done_by d d.now idle.side.idle;
+        done = done_by (speech_at lens a.lived.spot) d d.now idle.side.idle;
         hand = idle.hand;
       } in
       inr (

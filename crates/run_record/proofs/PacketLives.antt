@@ -1,6 +1,6 @@
 -- A PACKET IN HAND OF A SLAVE, by its life before a return and behind it: what is told of its answer.
-use Rattle.std.proofs.Common.{◌≡◌, ◌==◌, ℕ, Bool, true, false, Option, Some, None, List, [], ◌∷◌, ◌++◌, length, refl, sym, ap, ◌∙◌, subst, append-nil}
-use Rattle.std.specs.Prelude.{◌&&◌, is_some, nat_lt, not, option_map, if◌then◌else◌}
+use Rattle.std.proofs.Common.{◌≡◌, inl, inr, ◌==◌, ℕ, Bool, true, false, Option, Some, None, List, [], ◌∷◌, ◌++◌, length, refl, sym, ap, ◌∙◌, subst, append-nil}
+use Rattle.std.specs.Prelude.{◌&&◌, ◌||◌, is_some, nat_lt, not, option_map, if◌then◌else◌}
 use Rattle.std.proofs.lemmas.Bool.{eq-eqb, eqb-true}
 use Rattle.plan_ring.specs.of_mailbox_mail.declared.outcome.ReplyKind.{ReplyKind}
 use Rattle.packets_heard.specs.of_master_node.Backtold.{NewestHas, OpenHas, answer_told, changes_told, emergencies_told, has_packet, kind_of, over_told, packet_told, passed_told, returned_told}
@@ -25,11 +25,12 @@ use Rattle.served_places.specs.of_master_hand.Spoken.{Asked, acknowledged, hand_
 use Rattle.served_places.specs.of_master_tour.Under.{mine}
 use Rattle.served_places.specs.of_segment_model.Ends.{Passing}
 use Rattle.served_places.specs.of_segment_model.Record.{News, is_for}
-use Rattle.served_places.specs.of_segment_model.Seats.{Side, side_lost}
+use Rattle.served_places.specs.of_segment_model.Seats.{Side, is_write, side_lost, writes}
 use Rattle.served_places.specs.of_segment_model.Slaves.{Datagram, Found, grams}
 use Rattle.served_places.specs.of_state_model.Accounts.{Account, Duty, Stage, is_free}
 use Rattle.packets_heard.proofs.of_master_node.Handeds.{stays_open}
-use Rattle.packets_heard.proofs.of_master_node.PacketRows.{idle_back, out_lost, packet_ends, same_over, stays_over}
+use Rattle.packets_heard.proofs.of_master_node.Inhand.{no_answer, open_unanswered}
+use Rattle.packets_heard.proofs.of_master_node.PacketRows.{heard_unanswered, idle_back, out_lost, packet_ends, same_over, stays_over}
 use Rattle.packets_heard.proofs.of_master_node.Rowtells.{kind_told, passed_other}
 use Rattle.run_notes.specs.Handed.{kinds_in}
 use Rattle.run_notes.proofs.Handings.{kinds_append}
@@ -65,7 +66,7 @@ never_nothing : (passed other free knows answered : Bool) → (passed ≡ true �
 never_nothing true other free knows answered p o f h = absurd (let bad : true ≡ false = sym (p refl) ∙ o in cc)
 never_nothing false true free knows answered p o f h = absurd (let bad : true ≡ false = o in cc)
 never_nothing false false true knows answered p o f h = absurd (let bad : true ≡ false = f in cc)
-never_nothing false false false knows answered p o f h = absurd (let bad : Work.Nothing ≡ Work.Packet = h in cc)
+never_nothing false false false knows answered p o f h = absurd (let bad : Work.Nothing ≡ Work.Packet = h.1 in cc)
 
 alone_so : (x : Speech Body Asked Reply) (l : Life Body Asked Reply) (known : Bool) (work : Work) (p : IsPacketRow l.era.side.now) → is_free x l.era.side l.era.side.now ≡ false →
     OpenHas x known l.era.side l.era.account.hand l.era.passing work → (l.era.account.hand ≡ None) × (l.era.passing ≡ None)
@@ -120,6 +121,26 @@ unread_same station h (d ∷ back) e = go (d.gram.station == station) refl (λ n
     go true f on b = absurd (let bad : d ∷ mine station back ≡ [] = sym (ap (λ (z : Bool). if z then d ∷ mine station back else mine station back) f) ∙ e in cc)
     go false f on true = ap (λ (z : Bool). halves_after station (if z then halves_answered h d.gram.ask d.gram else h) (grams (own station back))) f ∙ on (rest f)
     go false f on false = on (rest f)
+
+-- and no write of its stands in it
+unread_writes : (station : ℕ) (back : List (Datagram Body)) → mine station back ≡ [] → writes station (grams (own station back)) ≡ false
+unread_writes station [] e = refl
+unread_writes station (d ∷ back) e = go (d.gram.station == station) refl (λ none. unread_writes station back none) (is_for station d.address)
+  where
+    rest : (d.gram.station == station) ≡ false → mine station back ≡ []
+    rest f = sym (ap (λ (z : Bool). if z then d ∷ mine station back else mine station back) f) ∙ e
+
+    go : (z : Bool) → (d.gram.station == station) ≡ z → (mine station back ≡ [] → writes station (grams (own station back)) ≡ false) → (b : Bool) → writes station (grams (if b then d ∷ own station back else own station back)) ≡ false
+    go true f on b = absurd (let bad : d ∷ mine station back ≡ [] = sym (ap (λ (z : Bool). if z then d ∷ mine station back else mine station back) f) ∙ e in cc)
+    go false f on true = ap (λ (z : Bool). if z then is_write d.gram.ask || writes station (grams (own station back)) else writes station (grams (own station back))) f ∙ on (rest f)
+    go false f on false = on (rest f)
+
+unread_sent : (station : ℕ) (fresh : Bool) (back : List (Datagram Body)) → mine station back ≡ [] → (fresh && not (writes station (grams (own station back)))) ≡ fresh
+unread_sent station fresh back none = ap (λ (w : Bool). fresh && not w) (unread_writes station back none) ∙ by fresh
+  where
+    by : (b : Bool) → (b && true) ≡ b
+    by true = refl
+    by false = refl
 
 module _ (areas : Areas) (made place : ℕ) (spot : Spot) (ns : List (News Body)) (back : List (Datagram Body)) (hand : Option Passed) (ms : List Body) (l : Life Body Asked Reply) (came : Option (Bool × Option Found)) where
   abbrev x : Speech Body Asked Reply
@@ -192,7 +213,8 @@ module _ (areas : Areas) (made place : ℕ) (spot : Spot) (ns : List (News Body)
         still =
             ap (λ (z : Era Body Asked Reply). is_free x z.side z.side.now) era
             ∙ ap (λ z. is_free x e.side z) row_now
-            ∙ same_over areas l.era.side e.side t.row (row_heard x made heard t.row) t.packet (record { service = refl; told = refl }) (ap (λ (h : Halves Body). h.out.holding) (unread_same spot.station l.era.side.halves back none))
+            ∙ same_over areas l.era.side e.side t.row (row_heard x made heard t.row) t.packet (record { service = refl; told = refl; answer = heard_unanswered areas made heard t.row t.packet }) (ap (λ (h : Halves Body). h.out.holding) (unread_same spot.station l.era.side.halves back none))
+            (inr (unread_sent spot.station l.era.side.fresh back none))
             ∙ sym (ap (λ z. is_free x l.era.side z) t.is) ∙ t.unwritten
 
   -- where none is none comes
@@ -231,7 +253,8 @@ module _ (areas : Areas) (made place : ℕ) (spot : Spot) (ns : List (News Body)
           by false o =
               let was_over : is_free x l.era.side (Some r) ≡ true = over (is_free x l.era.side (Some r)) (sym (ap (λ (z : Bool). not z && not (is_free x l.era.side (Some r))) o) ∙ f) in
               let is_over : is_free x e.side (Some (row_heard x made heard r)) ≡ true =
-              stays_over areas l.era.side e.side r (row_heard x made heard r) o (record { service = refl; told = refl }) (λ none. idle_back spot.station l.era.side.halves (grams (own spot.station back)) none) was_over in
+              stays_over areas l.era.side e.side r (row_heard x made heard r) o (record { service = refl; told = refl; answer = heard_unanswered areas made heard r o }) (λ none. idle_back spot.station l.era.side.halves (grams (own spot.station back)) none)
+              (λ sent. ap (λ (z : Bool). z && not (writes spot.station (grams (own spot.station back)))) sent) was_over in
               (λ i. not (o i) && not (is_over i))
 
       reopened : (k : Life Body Asked Reply) (hand : Option Duty) → has_fragments x k ≡ false → has_fragments x (reopens k hand) ≡ false
@@ -273,11 +296,11 @@ module _ (areas : Areas) (made place : ℕ) (spot : Spot) (ns : List (News Body)
       go false there = Goes.none there (back_none known work h there)
 
 -- BEHIND A LOST FRAME by which the slave isn't given up its packet is in hand as it was
-pub lost_same : (areas : Areas) (spot : Spot) (ns : List (News Body)) (sent : List (Datagram Body)) (l : Life Body Asked Reply) (stand : Stand) →
+pub lost_same : (areas : Areas) (spot : Spot) (ns : List (News Body)) (sent : List (Datagram Body)) (l : Life Body Asked Reply) (stand : Stand) (known : Bool) (work : Work) → HasInHand (hand_speech areas) known l stand work →
     has_fragments (hand_speech areas) (life_lost (hand_speech areas) acknowledged is_followed is_passed spot ns sent l stand) ≡ has_fragments (hand_speech areas) l
-lost_same areas spot ns sent l (Stand.Opens o) = refl
-lost_same areas spot ns sent l Stand.Gone = refl
-lost_same areas spot ns sent l Stand.Open = ap (λ (z : Bool). is_open l.stand && z) (by l.era.side.now)
+lost_same areas spot ns sent l (Stand.Opens o) known work h = refl
+lost_same areas spot ns sent l Stand.Gone known work h = refl
+lost_same areas spot ns sent l Stand.Open known work h = ap (λ (z : Bool). is_open l.stand && z) (by l.era.side.now refl)
   where
     x : Speech Body Asked Reply
     x = hand_speech areas
@@ -285,12 +308,13 @@ lost_same areas spot ns sent l Stand.Open = ap (λ (z : Bool). is_open l.stand &
     d : Side Body Asked Reply
     d = side_lost spot.station (own spot.station sent) l.era.side
 
-    by : (now : Option (Row Body Asked Reply)) → (has_packet now && not (is_free x d now)) ≡ (has_packet now && not (is_free x l.era.side now))
-    by None = refl
-    by (Some r) = go (is_other r.service) refl
+    by : (now : Option (Row Body Asked Reply)) → l.era.side.now ≡ now → (has_packet now && not (is_free x d now)) ≡ (has_packet now && not (is_free x l.era.side now))
+    by None e = refl
+    by (Some r) e = go (is_other r.service) refl
       where
         go : (b : Bool) → is_other r.service ≡ b → (not (is_other r.service) && not (is_free x d (Some r))) ≡ (not (is_other r.service) && not (is_free x l.era.side (Some r)))
         go true o = ap (λ (z : Bool). not z && not (is_free x d (Some r))) o ∙ sym (ap (λ (z : Bool). not z && not (is_free x l.era.side (Some r))) o)
         go false o =
             ap (λ (z : Bool). not (is_other r.service) && not z)
-            (same_over areas l.era.side d r r o (record { service = refl; told = refl }) (ap (λ z. z.holding) (out_lost spot.station l.era.side.halves (grams (own spot.station sent)))))
+            (same_over areas l.era.side d r r o (record { service = refl; told = refl; answer = refl }) (ap (λ z. z.holding) (out_lost spot.station l.era.side.halves (grams (own spot.station sent))))
+            (inl (no_answer r.answer (open_unanswered x known l.era.side l.era.account.hand l.era.passing work h r e o))))

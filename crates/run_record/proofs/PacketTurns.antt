@@ -49,7 +49,7 @@ module _ (areas : Areas) where
 
       by : (z : Bool) → is_other r.service ≡ z → (not (is_other r.service) && not (is_free y f (Some (row_told b r)))) ≡ (not (is_other r.service) && not (is_free y d (Some r)))
       by true o = ap (λ (z : Bool). not z && not (is_free y f (Some (row_told b r)))) o ∙ sym (ap (λ (z : Bool). not z && not (is_free y d (Some r))) o)
-      by false o = ap (λ (z : Bool). not (is_other r.service) && not z) (held_open areas f (row_told b r) o refl ∙ sym (before (is_free y d (Some r)) refl))
+      by false o = ap (λ (z : Bool). not (is_other r.service) && not z) (held_open areas f (row_told b r) refl refl ∙ sym (before (is_free y d (Some r)) refl))
 
   -- nothing is to come into hand
   abbrev wish : Bool → Pick Asked

@@ -257,7 +257,7 @@ module _ {G : Ghosts InHand} (lens : ℕ → Lens) (recover retry : ℕ) (gives 
   pub written_lost : (after_it : ℕ) → has_fragments (speech_at lens v.turn.lived.spot) (after (Fates.Lost after_it)) ≡ (has_fragments (speech_at lens v.turn.lived.spot) before && length (after (Fates.Lost after_it)).gave == length before.gave)
   written_lost after_it =
       lost_where (λ l. has_fragments (speech_at lens v.turn.lived.spot) l) (λ l e. ap (λ (z : Bool). z && (has_packet l.era.side.now && not (is_free (speech_at lens v.turn.lived.spot) l.era.side l.era.side.now))) e)
-      (lost_same areas v.turn.lived.spot (news_lost v.turn.lived.spot.station v.kept (seen lens f.sent)) (seen lens f.sent) before before.stand) after_it
+      (lost_same areas v.turn.lived.spot (news_lost v.turn.lived.spot.station v.kept (seen lens f.sent)) (seen lens f.sent) before before.stand (knows s.side.hand.course) p.work u.served.inhand) after_it
 
 -- ---- OF ALL SLAVES
 

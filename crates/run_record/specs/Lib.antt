@@ -20,7 +20,6 @@ pub use Rattle.served_places.specs as of_served_places
 pub use Rattle.packets_heard.specs.of_slave_node as of_slave_node
 pub use Rattle.packets_heard.specs.of_slave_server as of_slave_server
 pub use Rattle.served_places.specs.of_state_model as of_state_model
-pub use Rattle.arrayvec.specs as of_arrayvec
 pub mod Replay
 pub mod Led
 pub mod Session

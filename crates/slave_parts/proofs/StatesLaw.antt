@@ -1,5 +1,5 @@
 -- The AL state of one slave, from whatever server.
-use Rattle.std.proofs.Common.{ℕ, [], refl, sym, ◌∙◌}
+use Rattle.std.proofs.Common.{ℕ, ◌&&◌, [], refl, sym, ap, ◌∙◌}
 use Rattle.idn_table.specs.of_exchange_model.Exchange.{AnswersLast, outnumbers}
 use Rattle.idn_table.proofs.of_exchange_model.Lasts.{lifted_last}
 use Rattle.serving_model.specs.of_state_model.Families.{states_of}

@@ -1,12 +1,15 @@
-use Rattle.std.proofs.Common.{sym, ◌∙◌, []}
+use Rattle.std.proofs.Common.{refl, sym, subst, ◌∙◌, inl, inr, []}
 use Rattle.gateway_stream.specs.of_ec_outside.Faults.{Rose}
 use Rattle.promised_run.specs.of_gateway_run.Serving.{told}
 use Rattle.scenario_made.specs.Made.{text_of}
 use Rattle.tool_call.specs.of_ecmbx_words.declared.status.Status.TheVariants as statuses
 use Rattle.tool_call.specs.of_ecmbx_words.Texts.{usage_line}
+use Rattle.tool_call.specs.of_ecmbx_words.Form.{saved_in}
 use Rattle.ecmbx_call.specs.Course.{words_of, Course}
+use Rattle.ecmbx_call.specs.Files.{LeavesFiles}
 use Rattle.tool_call.proofs.of_ecmbx_words.Loads.{said}
 use Rattle.ecmbx_call.proofs.Courses.{run_course, decode_course, audit_course, serve_course, saved_words, name_at, saved_at, run_other, saved_other, decode_other, audit_other, serve_other}
+use Rattle.ecmbx_call.proofs.Kept.{leaves_all}
 use Rattle.ecmbx_call.proofs.Servings.{some_served}
 use Rattle.ecmbx_call.proofs.Streams.{began_words, ran_words}
 use Rattle.ecmbx_call.proofs.top.carry_out.Goals as goal
@@ -65,3 +68,35 @@ pub returns-in-Serve-clause-book : goal.returns-in-Serve-clause-book
 returns-in-Serve-clause-book g c =
     began_words (words_of c.args.words.now) (g.F.Files.table c.args.files.now) (told g.P.Port.heard g.P.Port.sent g.P.Port.over g.P.Port.port_faults c.args.port.now) (told g.P.Port.heard g.P.Port.sent g.P.Port.over g.P.Port.port_faults c.serve_file.new.port) c.serve_file.new.book c.in-Serve.count c.as_str-in-Serve.result.now (sym c.in-Serve.ensures)
     (c.as_str-in-Serve.ensures.value ∙ name_at c.args.words.now c.index-words-1-in-Serve.result c.index-words-1-in-Serve.is (λ other. absurd (serve_other c.in-Serve.count (sym other ∙ sym c.in-Serve.ensures)))) c.serve_file.ensures.book
+
+pub returns-in-Run-clause-files : goal.returns-in-Run-clause-files
+returns-in-Run-clause-files g c =
+    leaves_all (saved_in (words_of c.args.words.now)) (g.F.Files.table c.args.files.now) (g.F.Files.table c.run_file.new.files) c.run_file.new.book c.run_file.result (Rose (g.F.Files.file_faults c.args.files.now) (g.F.Files.file_faults c.run_file.new.files)) c.run_file.ensures.same
+
+pub returns-in-Decode-clause-files : goal.returns-in-Decode-clause-files
+returns-in-Decode-clause-files g c =
+    leaves_all (saved_in (words_of c.args.words.now)) (g.F.Files.table c.args.files.now) (g.F.Files.table c.decode_file.new.files) c.args.book.now c.decode_file.result (Rose (g.F.Files.file_faults c.args.files.now) (g.F.Files.file_faults c.decode_file.new.files)) c.decode_file.ensures.same
+
+pub returns-in-Audit-clause-files : goal.returns-in-Audit-clause-files
+returns-in-Audit-clause-files g c =
+    leaves_all (saved_in (words_of c.args.words.now)) (g.F.Files.table c.args.files.now) (g.F.Files.table c.audit_file.new.files) c.args.book.now c.audit_file.result (Rose (g.F.Files.file_faults c.args.files.now) (g.F.Files.file_faults c.audit_file.new.files)) c.audit_file.ensures.same
+
+pub returns-in-Serve-clause-files : goal.returns-in-Serve-clause-files
+returns-in-Serve-clause-files g c =
+    leaves_all (saved_in (words_of c.args.words.now)) (g.F.Files.table c.args.files.now) (g.F.Files.table c.serve_file.new.files) c.serve_file.new.book c.serve_file.result (Rose (g.F.Files.file_faults c.args.files.now) (g.F.Files.file_faults c.serve_file.new.files)) c.serve_file.ensures.same
+
+pub returns-in-Make-clause-files : goal.returns-in-Make-clause-files
+returns-in-Make-clause-files g c =
+    leaves_all (saved_in (words_of c.args.words.now)) (g.F.Files.table c.args.files.now) (g.F.Files.table c.args.files.now) c.args.book.now c.make.result (Rose (g.F.Files.file_faults c.args.files.now) (g.F.Files.file_faults c.args.files.now)) refl
+
+pub returns-in-Other-clause-files : goal.returns-in-Other-clause-files
+returns-in-Other-clause-files g c =
+    leaves_all (saved_in (words_of c.args.words.now)) (g.F.Files.table c.args.files.now) (g.F.Files.table c.args.files.now) c.args.book.now c.say.result (Rose (g.F.Files.file_faults c.args.files.now) (g.F.Files.file_faults c.args.files.now)) refl
+
+pub returns-in-RunSaved-clause-files : goal.returns-in-RunSaved-clause-files
+returns-in-RunSaved-clause-files g c =
+    subst (λ name. LeavesFiles name (g.F.Files.table c.args.files.now) (g.F.Files.table c.run_file_saved.new.files) (Rose (g.F.Files.file_faults c.args.files.now) (g.F.Files.file_faults c.run_file_saved.new.files)) c.run_file_saved.new.book c.run_file_saved.result)
+    (c.as_str-in-RunSaved-2.ensures.value ∙ saved_at c.args.words.now c.index-words-2.result c.index-words-2.is (sym c.in-RunSaved.ensures)) c.run_file_saved.ensures.files
+
+pub returns-in-Serve-clause-port : goal.returns-in-Serve-clause-port
+returns-in-Serve-clause-port g c = λ none. elim none [ inl other ↦ absurd (other (c.in-Serve.count, sym c.in-Serve.ensures)) | inr fresh ↦ c.serve_file.ensures.port fresh ]

@@ -1,12 +1,22 @@
-use Rattle.std.proofs.Common.{◌≡◌, true, false, rules}
+use Rattle.std.proofs.Common.{◌≡◌, [], true, false, rules}
 use Rattle.gateway_stream.specs.Cutting.{is_request}
+use Rattle.gateway_stream.specs.Sending.{has_failed}
 use Rattle.gateway_stream.proofs.Heard.{loopback}
-use Rattle.gateway_stream.proofs.Sent.{sends_one}
+use Rattle.gateway_stream.proofs.Sent.{sends_one, sends_part}
 use Rattle.gateway_stream.proofs.whole_port.WholePortPort.send.Goals as goal
 
-pub returns-clause-sends : goal.returns-clause-sends
-returns-clause-sends g c =
-    let whole : c.args.self.now.cut ≡ false = search rules in
+pub returns-then-has_failed-clause-sends : goal.returns-then-has_failed-clause-sends
+returns-then-has_failed-clause-sends g c =
+    let none : c.args.self.now.failed ≡ [] = search rules in
     let peer : c.args.to ≡ loopback = search rules in
     let is : is_request c.args.bytes.now ≡ true = search rules in
-    rw (whole, peer, c.has_failed-self.ensures) (sends_one (g.L.Link.sent c.args.self.now.port.link) (g.L.Link.sent c.send-sent.new.self.link) c.args.bytes.now c.send-sent.result is c.send-sent.ensures.puts)
+    let cut : has_failed c.send-sent.result ≡ true = search rules in
+    rw (none, peer, c.refill.ensures) (sends_part (g.L.Link.sent c.args.self.now.link) (g.L.Link.sent c.send-sent.new.self.link) c.args.bytes.now c.send-sent.result is cut c.send-sent.ensures.puts)
+
+pub returns-else-has_failed-clause-sends : goal.returns-else-has_failed-clause-sends
+returns-else-has_failed-clause-sends g c =
+    let none : c.args.self.now.failed ≡ [] = search rules in
+    let peer : c.args.to ≡ loopback = search rules in
+    let is : is_request c.args.bytes.now ≡ true = search rules in
+    let whole : has_failed c.send-sent.result ≡ false = search rules in
+    rw (none, peer) (sends_one (g.L.Link.sent c.args.self.now.link) (g.L.Link.sent c.send-sent.new.self.link) c.args.bytes.now c.send-sent.result is whole c.send-sent.ensures.puts)
