@@ -20,7 +20,7 @@ use Rattle.master_hand.specs.declared.course.Course.{Course}
 use Rattle.master_hand.specs.declared.clients.Which.{Which}
 use Rattle.master_hand.proofs.Grips.{talks_left}
 use Rattle.master_hand.proofs.Hands.{handed_of}
-use Rattle.master_hand.proofs.Reads.{answered_unheard, going_unheard, none_some}
+use Rattle.master_hand.proofs.Acknowledged.{answered_unheard, going_unheard, none_some}
 
 abbrev Rows : Type 0
 Rows = Option (Row Body Asked Reply)
