@@ -118,7 +118,10 @@ fn take<C: Client>(row: &mut Row<'_>, client: &mut C, kind: Kind) {
         (Took::Foreign, _) => row.say("foreign"),
         (Took::Done, None) => row.fail(),
         (Took::Done, Some(reply)) => match reply_text(row.alloc(), reply, value.bytes()) {
-            Ok(text) => row.say(row.text_in(text.bytes())),
+            Ok(text) => {
+                let text = row.text_in(text.bytes());
+                row.say(text);
+            }
             Err(_) => row.fail(),
         },
     }

@@ -52,7 +52,7 @@ const TABLES: [&str; 11] = [
     "example_calls",
     "plans",
     "outside",
-    "captures",
+    "cuts",
     "views",
     "servings",
     "transfers",

@@ -54,7 +54,7 @@ impl<F: Files + Drop> Stage<F> {
             files,
             port: MemPort::new(alloc, Rows::new(alloc), Rows::new(alloc)),
             link: no_link(alloc),
-            out: MemSink::new(alloc, Rows::new(alloc)),
+            out: MemSink::new(alloc, numbers(alloc, failing)),
             book: Book::new(alloc),
             failing,
         }

@@ -122,12 +122,12 @@ fn tell_mails(row: &mut Row<'_>, text: &str) {
 }
 
 impl Stage<MemFiles> {
-    // The octets of the file of the next word.
+    // The octets of the file of the next word; where there is none, that is told.
     fn file(&self, row: &mut Row<'_>) -> &[u8] {
         match self.files.get(row.word()) {
             Some(octets) => octets,
             None => {
-                row.fail();
+                row.say("none");
                 &[]
             }
         }
