@@ -18,7 +18,7 @@ pub struct Mailbox {
 
 impl Model for Mailbox {
     ghost use Rattle.std.specs.Prelude.{◌≤◌};
-    ghost use Rattle.coe_law.specs.Mailboxes.{Posted, Post};
+    ghost use Rattle.coe_law.specs.Mailboxes.{Posted};
 
     ghost Value = { Posted };
 
@@ -66,6 +66,8 @@ pub struct Mailboxes {
 }
 
 impl Model for Mailboxes {
+    ghost use Rattle.coe_law.specs.Mailboxes.{Post};
+
     ghost Value = { Post };
 
     ghost view = { λ m. record { out = m.outward; back = m.inward } };

@@ -144,6 +144,11 @@ pub sends_none : (old new : Option (List SentGram)) (to : Peer) (octets : List �
 sends_none None new to octets same = tt
 sends_none (Some old) new to octets same = inl same
 
+-- no octets
+pub no_octets : (octets : List ℕ) → (length octets == 0) ≡ true → octets ≡ []
+no_octets [] is = refl
+no_octets (x ∷ octets) is = absurd (grind arith)
+
 -- WHAT A PUT SENDS, that didn't fail
 pub sends_one : (sent sent' : Option (List ℕ)) (octets : List ℕ) (result : Result (Unit {0}) PortErr) → is_request octets ≡ true → has_failed result ≡ false → PutsBytes sent sent' octets result
     → Sends (sent_of [] sent) (sent_of [] sent') loopback octets result

@@ -25,7 +25,7 @@ use Rattle.master_hand.specs.Shown.{HandShows, Shows, is_awaiting, is_answered, 
 use Rattle.master_hand.specs.declared.course.Course.{Course}
 use Rattle.master_hand.specs.declared.clients.Which.{Which}
 use Rattle.master_hand.specs.declared.passed.Content.{Content}
-use Rattle.master_hand.proofs.Reads.{answered_unheard, going_unheard, none_some}
+use Rattle.master_hand.proofs.Acknowledged.{answered_unheard, going_unheard, none_some}
 use Rattle.master_hand.proofs.Grips.{going_begun, going_told, going_next, going_emission, going_heard, talks_left, hears_of, hearing_emission, hearing_heard, has_of}
 
 abbrev pub Rows : Type 0

@@ -20,7 +20,7 @@ use Rattle.master_hand.specs.declared.course.Course.{Course}
 use Rattle.master_hand.specs.declared.clients.Which.{Which}
 use Rattle.master_hand.proofs.Grips.{talks_left}
 use Rattle.master_hand.proofs.Hands.{handed_of}
-use Rattle.master_hand.proofs.Reads.{answered_unheard, going_unheard, none_some}
+use Rattle.master_hand.proofs.Acknowledged.{answered_unheard, going_unheard, none_some as none_of_some}
 
 abbrev Rows : Type 0
 Rows = Option (Row Body Asked Reply)
@@ -91,7 +91,7 @@ free_over b which c fresh idle d s i g e =
     let kind = handed_of c.areas g.row.service ∙ ap is_handed g.kind in
     let over = sym (ap (λ r. is_free (hand_speech c.areas) d r) g.is) ∙ e in
     let done : (if is_handed which && not b then is_none d.halves.out.holding else b && not fresh) ≡ true =
-    sym (λ k. if kind k && (none_some g.row.answer ∙ ap not g.answer) k then is_none d.halves.out.holding else g.answer k && not (s k)) ∙ both_right (is_none_left (left (hand_speech c.areas) g.row)) _ over in
+    sym (λ k. if kind k && (none_of_some g.row.answer ∙ ap not g.answer) k then is_none d.halves.out.holding else g.answer k && not (s k)) ∙ both_right (is_none_left (left (hand_speech c.areas) g.row)) _ over in
     record {
       left = sym (talks_left (hand_speech c.areas) (client_later which c) (client_awaits which c) g.row g.talks) ∙ none_left _ (both_left (is_none_left (left (hand_speech c.areas) g.row)) _ over);
       done = over_by (is_handed which) idle b fresh d.halves.out.holding done i;

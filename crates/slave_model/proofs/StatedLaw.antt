@@ -1,5 +1,5 @@
 -- The AL state is a part of the application of the one exchange.
-use Rattle.std.proofs.Common.{ℕ, [], refl}
+use Rattle.std.proofs.Common.{ℕ, [], false, refl}
 use Rattle.protocol_models.specs.of_exchange_model.Exchange.{AnswersLast}
 use Rattle.life_model.specs.of_state_model.Stated.{IsStated}
 use Rattle.life_model.specs.of_state_model.Families.{states_of}
@@ -31,10 +31,10 @@ use Rattle.slave_model.specs.Acknowledged.{acknowledges, acknowledged}
 
 module _ {T F I : Type 0} (o : Parts T F I) (law : ArePartsLawful o) (p : Profile) (is : IsProfile p) (al : ℕ) where
   served_last : (i : Protocol) → AnswersLast (served o p al i) (acknowledges i)
-  served_last Protocol.CoE = lifted_last _ (heard_by CoeOctets.coe_mail_heard (CoeMails.other [])) (told_by CoeOctets.coe_mail_written) (told_spells _ CoeOctets.coe_mail_heard CoeOctets.coe_mail_written (CoeMails.other []) (coe_spelled o law p is al)) _ (coe_last (station_tables o p.back al) (tables_law o law p.back al) p.has_eoe (areas_of p) (sized o law p is al))
+  served_last Protocol.CoE = lifted_last _ (heard_by CoeOctets.coe_mail_heard (CoeMails.other [])) (told_by CoeOctets.coe_mail_written) (told_spells _ CoeOctets.coe_mail_heard CoeOctets.coe_mail_written (CoeMails.other []) (coe_spelled o law p is al)) (λ q. false) (coe_last (station_tables o p.back al) (tables_law o law p.back al) p.has_eoe (areas_of p) (sized o law p is al))
   served_last Protocol.FoE = lifted_last _ (heard_by FoeOctets.foe_mail_heard (FoeMails.other [])) (told_by FoeOctets.foe_mail_written) (told_spells _ FoeOctets.foe_mail_heard FoeOctets.foe_mail_written (FoeMails.other []) (foe_spelled o law p is al)) _ (foe_last (station_files o al) (files_law o law al) (areas_of p) (sized o law p is al))
-  served_last Protocol.SoE = lifted_last _ (heard_by SoeOctets.soe_mail_heard (SoeMails.other [])) (told_by SoeOctets.soe_mail_written) (told_spells _ SoeOctets.soe_mail_heard SoeOctets.soe_mail_written (SoeMails.other []) (soe_spelled o law p is al)) _ (soe_last (station_elements o) (elements_law o law) (areas_of p) (sized o law p is al))
-  served_last Protocol.EoE = lifted_last _ (heard_by EoeOctets.eoe_mail_heard (EoeMails.other [])) (told_by EoeOctets.eoe_mail_written) (told_spells _ EoeOctets.eoe_mail_heard EoeOctets.eoe_mail_written (EoeMails.other []) (eoe_spelled o law p is al)) _ (eoe_last (network o p) (network_sound o law p) (areas_of p) (sized o law p is al))
+  served_last Protocol.SoE = lifted_last _ (heard_by SoeOctets.soe_mail_heard (SoeMails.other [])) (told_by SoeOctets.soe_mail_written) (told_spells _ SoeOctets.soe_mail_heard SoeOctets.soe_mail_written (SoeMails.other []) (soe_spelled o law p is al)) (λ q. false) (soe_last (station_elements o) (elements_law o law) (areas_of p) (sized o law p is al))
+  served_last Protocol.EoE = lifted_last _ (heard_by EoeOctets.eoe_mail_heard (EoeMails.other [])) (told_by EoeOctets.eoe_mail_written) (told_spells _ EoeOctets.eoe_mail_heard EoeOctets.eoe_mail_written (EoeMails.other []) (eoe_spelled o law p is al)) (λ q. false) (eoe_last (network o p) (network_sound o law p) (areas_of p) (sized o law p is al))
 
   protocols_last : AnswersLast (protocols o p al) acknowledged
   protocols_last = joined_last (slave o p al) (side o p al) _ (λ i. side_of o p al i (are_own o law p is al i)) acknowledges

@@ -14,7 +14,7 @@ use std::marker::Model;
 
 /// The services of one slave, which count those that they carried out.
 pub trait Services: Clear + Drop {
-    ghost use Rattle.std.specs.Prelude.{◌≡◌, ◌≤◌, ◌<◌, ℕ, suc, ◌+◌};
+    ghost use Rattle.std.specs.Prelude.{◌≡◌, ◌≤◌, ◌<◌, ℕ, suc};
     ghost use Rattle.mailbox_slave.specs.of_link_mails.Body.{Body};
 
     ghost handled: { Self → ℕ };
@@ -43,8 +43,9 @@ pub struct SlaveNode<S: Services> {
 }
 
 impl<S: Services> Model for SlaveNode<S> {
+    ghost use Rattle.std.specs.Prelude.{◌+◌, ◌≤◌};
     ghost use Rattle.mailbox_slave.specs.Registers.{in_len};
-    ghost use Rattle.slave_node.specs.Node.{Node, IsSteady, node_passed};
+    ghost use Rattle.slave_node.specs.Node.{Node, IsSteady};
 
     ghost Value = { Node S };
 
@@ -143,6 +144,7 @@ impl<S: Services> SlaveNode<S> {
 }
 
 impl<S: Services> Slave for SlaveNode<S> {
+    ghost use Rattle.slave_node.specs.Node.{node_passed};
     ghost use Rattle.slave_node.specs.Step.{pdi_step};
 
     ghost passed = { node_passed };

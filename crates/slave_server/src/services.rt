@@ -5,8 +5,8 @@ use slave_node::slave_steps::Clear;
 use soe_server::mailbox_mail::{Mail, MailFault};
 
 impl Server for SlaveServer {
-    ghost use Rattle.std.specs.Prelude.{◌≡◌, ◌<◌, ◌-◌, refl};
-    ghost use Rattle.slave_server.specs.Serving.{takes, next_mail, rest, cleared};
+    ghost use Rattle.std.specs.Prelude.{◌≡◌, ◌<◌, ◌-◌};
+    ghost use Rattle.slave_server.specs.Serving.{takes, next_mail, rest};
 
     ghost room = { λ s. s.profile.back - 6 };
 
@@ -36,6 +36,8 @@ impl Server for SlaveServer {
 }
 
 impl Clear for SlaveServer {
+    ghost use Rattle.slave_server.specs.Serving.{cleared};
+
     ghost cleared = { cleared };
 
     fn clear(&mut self) {
@@ -44,6 +46,7 @@ impl Clear for SlaveServer {
 }
 
 impl Services for SlaveServer {
+    ghost use Rattle.std.specs.Prelude.{refl};
     ghost use Rattle.slave_server.specs.Counting.{takes_one};
 
     ghost handled = { λ s. s.server.handled };

@@ -1,13 +1,14 @@
-use Rattle.std.proofs.Common.{◌≡◌, [], true, false, rules}
+use Rattle.std.proofs.Common.{◌≡◌, ◌∙◌, sym, [], true, false, rules}
 use Rattle.gateway_stream.specs.Cutting.{is_request}
 use Rattle.gateway_stream.specs.Sending.{has_failed}
 use Rattle.gateway_stream.proofs.Heard.{loopback}
-use Rattle.gateway_stream.proofs.Sent.{sends_one, sends_part}
+use Rattle.gateway_stream.proofs.Sent.{no_octets, sends_one, sends_part}
 use Rattle.gateway_stream.proofs.whole_port.WholePortPort.send.Goals as goal
 
 pub returns-then-has_failed-clause-sends : goal.returns-then-has_failed-clause-sends
 returns-then-has_failed-clause-sends g c =
-    let none : c.args.self.now.failed ≡ [] = search rules in
+    let empty : c.is_empty.result ≡ true = search rules in
+    let none : c.args.self.now.failed ≡ [] = no_octets c.args.self.now.failed (sym c.is_empty.ensures ∙ empty) in
     let peer : c.args.to ≡ loopback = search rules in
     let is : is_request c.args.bytes.now ≡ true = search rules in
     let cut : has_failed c.send-sent.result ≡ true = search rules in
@@ -15,7 +16,8 @@ returns-then-has_failed-clause-sends g c =
 
 pub returns-else-has_failed-clause-sends : goal.returns-else-has_failed-clause-sends
 returns-else-has_failed-clause-sends g c =
-    let none : c.args.self.now.failed ≡ [] = search rules in
+    let empty : c.is_empty.result ≡ true = search rules in
+    let none : c.args.self.now.failed ≡ [] = no_octets c.args.self.now.failed (sym c.is_empty.ensures ∙ empty) in
     let peer : c.args.to ≡ loopback = search rules in
     let is : is_request c.args.bytes.now ≡ true = search rules in
     let whole : has_failed c.send-sent.result ≡ false = search rules in
