@@ -3,7 +3,7 @@
 ghost use Rattle.std.specs.Prelude.{◌≡◌};
 
 use crate::tour::Tour;
-use master_side::datagrams::FrameBuf;
+use datagrams::FrameBuf;
 use master_side::{Hand, datagrams};
 
 impl<H: Hand> Tour<H> {

@@ -3,7 +3,7 @@ ghost use Rattle.std.specs.Prelude.{◌≡◌, ℕ, List};
 use crate::cursor::Cursor;
 use crate::stop::Stop;
 use arrayvec::ArrayVec;
-use master_side::datagrams::FrameBuf;
+use datagrams::FrameBuf;
 use master_side::{Hand, Wish, datagrams};
 
 /// All slaves of a master, in ring order, and where their tour stands.

@@ -4,9 +4,9 @@ ghost use Rattle.std.specs.Prelude.{◌≡◌, ◌≤◌, length};
 ghost use Rattle.master_side.specs.of_al_state.BringUp.{octets_of};
 
 use crate::stop::{Stand, Stop};
+use al_state::{BringStep, BringUp, access};
 use arrayvec::ArrayVec;
-use master_side::al_state::{BringStep, BringUp, access};
-use master_side::datagrams::{FrameBuf, Head};
+use datagrams::{FrameBuf, Head};
 use master_side::{Hand, Wish, datagrams};
 
 // How many octets the access of an opening has.

@@ -16,7 +16,6 @@ ghost use Rattle.run_promises.specs.of_segment_plan.Sound.{IsPlan};
 ghost use Rattle.run_promises.specs.of_segment_plan.declared.plan.Scenario.{Scenario};
 ghost use Rattle.run_promises.specs.of_packets_heard.Toured.{IsToured};
 
-use run_promises::plan_ring;
 use seen_slaves::{frame_view, idle_slaves};
 
 /// THE FRAMES OF A TOUR ARE A RUN OF THE PLAN whose count has a bound, where frame by frame its master makes no visit in vain by what it remembers: of those that

@@ -40,24 +40,24 @@ returns-in_ok-note-in-Moves c =
 
 pub invariant_of-self : goal.invariant_of-self
 invariant_of-self c = (
-    places_kept (λ (s : Seat). s.station) c.self.inside.seat_places c.self.inside.known.seats c.in-Some.at c.at_mut.result.now c.access.new.self c.self.invariant.0 c.at_mut.ensures.value c.access.ensures.station,
-    c.self.invariant.1,
+  places_kept (λ (s : Seat). s.station) c.self.inside.seat_places c.self.inside.known.seats c.in-Some.at c.at_mut.result.now c.access.new.self c.self.invariant.0 c.at_mut.ensures.value c.access.ensures.station,
+  c.self.invariant.1,
 )
 
 pub invariant_of-self-in-Breaks : goal.invariant_of-self-in-Breaks
 invariant_of-self-in-Breaks c = (
-    places_kept (λ (s : Seat). s.station) c.self.inside.seat_places c.self.inside.known.seats c.in-Some.at c.at_mut.result.now c.access.new.self c.self.invariant.0 c.at_mut.ensures.value c.access.ensures.station,
-    c.self.invariant.1,
+  places_kept (λ (s : Seat). s.station) c.self.inside.seat_places c.self.inside.known.seats c.in-Some.at c.at_mut.result.now c.access.new.self c.self.invariant.0 c.at_mut.ensures.value c.access.ensures.station,
+  c.self.invariant.1,
 )
 
 pub invariant_of-self-in_err-note-in-Moves : goal.invariant_of-self-in_err-note-in-Moves
 invariant_of-self-in_err-note-in-Moves c = (
-    places_kept (λ (s : Seat). s.station) c.self.inside.seat_places c.self.inside.known.seats c.in-Some.at c.at_mut.result.now c.access.new.self c.self.invariant.0 c.at_mut.ensures.value c.access.ensures.station,
-    c.note.ensures.places,
+  places_kept (λ (s : Seat). s.station) c.self.inside.seat_places c.self.inside.known.seats c.in-Some.at c.at_mut.result.now c.access.new.self c.self.invariant.0 c.at_mut.ensures.value c.access.ensures.station,
+  c.note.ensures.places,
 )
 
 pub invariant_of-self-in-Moves : goal.invariant_of-self-in-Moves
 invariant_of-self-in-Moves c = (
-    places_kept (λ (s : Seat). s.station) c.self.inside.seat_places c.self.inside.known.seats c.in-Some.at c.at_mut.result.now c.access.new.self c.self.invariant.0 c.at_mut.ensures.value c.access.ensures.station,
-    c.note.ensures.places,
+  places_kept (λ (s : Seat). s.station) c.self.inside.seat_places c.self.inside.known.seats c.in-Some.at c.at_mut.result.now c.access.new.self c.self.invariant.0 c.at_mut.ensures.value c.access.ensures.station,
+  c.note.ensures.places,
 )
