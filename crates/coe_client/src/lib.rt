@@ -8,4 +8,3 @@ mod sending;
 mod state;
 
 pub use client::CoeClient;
-pub use protocol_models::{coe_codec, mailbox_mail};

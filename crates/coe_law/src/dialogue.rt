@@ -13,7 +13,7 @@ ghost use Rattle.coe_law.specs.Talks.{means, emission_mails, areas_of, all_mails
 use crate::carried::{Carried, Emission};
 use crate::mailbox::Mailboxes;
 use arrayvec::ArrayVec;
-use coe_client::{CoeClient, coe_codec};
+use coe_client::CoeClient;
 use coe_codec::Coe;
 use coe_server::CoeServer;
 use mailbox_mail::{Kind, Mail};

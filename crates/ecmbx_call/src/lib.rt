@@ -14,5 +14,4 @@ mod viewing;
 pub use by_stream::stream_call;
 pub use by_word::program;
 pub use ecmbx_words::Status;
-pub use gateway_stream::{ec_links, ec_outside};
 pub use run_book::{Answer, Begun, Book, Ending, Epoch, Reply, SentFrame, SlaveBook};

@@ -6,5 +6,4 @@ mod serving;
 mod stop;
 mod turn;
 
-pub use run_record::{run_book, segment_plan};
 pub use serving::serve;

@@ -13,7 +13,7 @@ use crate::passing::Passing;
 use crate::side::Side;
 use datagrams::register::{AL_CONTROL, AL_STATUS, MANAGER_0, MANAGER_STATUS};
 use datagrams::{Command, FrameBuf};
-use mailbox_master::{InwardHalf, datagrams, head_of};
+use mailbox_master::{InwardHalf, head_of};
 use master_duty::Errand;
 
 impl<H: Hand> Side<H> {

@@ -4,7 +4,7 @@ use crate::cursor::Cursor;
 use crate::stop::Stop;
 use arrayvec::ArrayVec;
 use datagrams::FrameBuf;
-use master_side::{Hand, Wish, datagrams};
+use master_side::{Hand, Wish};
 
 /// All slaves of a master, in ring order, and where their tour stands.
 #[derive(Drop)]

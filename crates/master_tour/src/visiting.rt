@@ -7,7 +7,7 @@ use crate::stop::{Stand, Stop};
 use al_state::{BringStep, BringUp, access};
 use arrayvec::ArrayVec;
 use datagrams::{FrameBuf, Head};
-use master_side::{Hand, Wish, datagrams};
+use master_side::{Hand, Wish};
 
 // How many octets the access of an opening has.
 fn access_len(up: &BringUp) -> usize

@@ -12,7 +12,6 @@ use ec_fields::{NoMemory, Octets, buffer_of};
 use eoe::Packet;
 use mailbox_mail::ReplyKind;
 use segment_plan::Service;
-use slave_server::{al_state, eoe_server};
 use std::alloc::Global;
 
 /// The mailbox error of a protocol that isn't served (ETG.1000.4, "Mailbox error").

@@ -11,7 +11,7 @@ use crate::state::{Awaits, Unsent};
 use ec_fields::u16_at;
 use mailbox_mail::{Kind, Mail, ReplyKind, Took};
 use soe_codec::{READ_ANSWER, SoeView, WRITE_ANSWER};
-use soe_parts::{MOST, Subject, soe_codec};
+use soe_parts::{MOST, Subject};
 
 // Whether a message is an answer of this opcode about this subject.
 fn is_answer(opcode: u8, subject: Subject, message: SoeView<'_>) -> bool

@@ -12,7 +12,7 @@ use crate::state::{Common, Pending};
 use ec_fields::{bits, u16_at};
 use idn_table::IdnTable;
 use soe_codec::{READ, READ_ANSWER, SoeFault, SoeView, WRITE, WRITE_ANSWER};
-use soe_parts::{MOST, Subject, soe_codec};
+use soe_parts::{MOST, Subject};
 
 // What a message without the incomplete bit is about.
 fn subject_of(message: SoeView<'_>) -> Subject
