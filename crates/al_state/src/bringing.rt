@@ -3,12 +3,12 @@ ghost use Rattle.al_state.specs.BringUp.{manager_text, asking, shows, step_after
 
 use crate::machine::INIT;
 use arrayvec::ArrayVec;
-use datagrams::ec_fields::{buffer_of, put_u16, u16_at};
 use datagrams::register::{
     AL_CONTROL, AL_STATUS, IN_AREA, IN_CONTROL, MANAGER_0, MANAGER_1, OUT_AREA, OUT_CONTROL,
     STATION_ADDRESS,
 };
 use datagrams::{Command, Head};
+use ec_fields::{buffer_of, put_u16, u16_at};
 
 // Init, with the acknowledge of an error.
 const RETURN: u8 = INIT + 0x10;

@@ -1,7 +1,7 @@
 ghost use Rattle.std.specs.Prelude.{◌≡◌};
 ghost use Rattle.al_state.specs.Climb.{next_of, written_to, shown_to};
 
-use datagrams::ec_fields::bits;
+use ec_fields::bits;
 
 /// How far the master is on its way to bring a slave into a state.
 #[derive(Clone, Copy)]

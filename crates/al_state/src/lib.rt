@@ -9,6 +9,4 @@ mod machine;
 
 pub use bringing::{BringStep, BringUp, access, bring_new, came_back, cleared, reopen_new};
 pub use climbing::{Climb, ClimbNext, climb_new, next, status, written};
-pub use datagrams;
-pub use datagrams::ec_fields;
 pub use machine::{Al, Asked, BOOTSTRAP, INIT, OP, PRE_OP, SAFE_OP, request};

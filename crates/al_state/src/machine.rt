@@ -2,7 +2,7 @@ ghost use Rattle.std.specs.Prelude.{◌≡◌, ◌≢◌, ◌↔◌};
 ghost use Rattle.datagrams.specs.of_ec_fields.Fields.{bits_of};
 ghost use Rattle.al_state.specs.Request.{is_state, is_change, refusal_of, carried, request_of};
 
-use datagrams::ec_fields::bits;
+use ec_fields::bits;
 
 /// Init.
 pub const INIT: u8 = 1;

@@ -5,5 +5,4 @@
 mod chain;
 mod pool;
 
-pub use ec_fields;
 pub use pool::{ChainId, Pool, PoolFull};

@@ -7,6 +7,7 @@ use Rattle.std.proofs.lemmas.List.Quantifiers.{position-Some}
 use Rattle.std.proofs.lemmas.Iterator.Adapters.{position_from-zero}
 use Rattle.std.proofs.Math.Seq.{map-set_same, set-append_seam, get_or-append_seam}
 use Rattle.std.proofs.lemmas.List.{map-append}
+use Rattle.std.proofs.lemmas.Bool.{eqb-false, ne_eqb}
 use Rattle.capture_audit.specs.Audit.{row_of, changed_at}
 use Rattle.capture_audit.specs.Judged.{ArePlaces, HasRow}
 
@@ -19,7 +20,7 @@ none_is : (k i : ℕ) (ks : List ℕ) → position_from (λ s. s == k) i ks ≡ 
 none_is k i [] none = refl
 none_is k i (x ∷ ks) none =
     let parts = no_first i (position_from (λ s. s == k) (i + 1) ks) (x == k) none in
-    let own : (k == x) ≡ false = omega (arith, parts.0) in
+    let own : (k == x) ≡ false = ne_eqb k x (λ is. eqb-false x k parts.0 (sym is)) in
     rw own (none_is k (i + 1) ks parts.1)
 
 -- a key that is new stands behind the others

@@ -1,10 +1,10 @@
 ghost use Rattle.std.specs.Prelude.{◌≡◌};
 ghost use Rattle.capture_audit.specs.Access.{access_of, read_by, write_by};
 
-use capture_view::datagrams::register::{
+use datagrams::register::{
     IN_AREA, MANAGER_0, MANAGER_1, MANAGER_ACTIVATE, MANAGER_PDI_CONTROL, OUT_AREA,
 };
-use capture_view::datagrams::{Command, Head};
+use datagrams::{Command, Head};
 
 /// How many octets of a sync manager are written at once.
 pub const MANAGER_LEN: usize = 8;

@@ -12,10 +12,10 @@ use crate::exchange::{FrameView, datagram_of, returned};
 use crate::known::Ledger;
 use crate::rule::Rule;
 use crate::verdict::Verdict;
-use capture_view::datagrams::{Part, read};
-use capture_view::ec_fields::NoMemory;
 use capture_view::octets_of;
-use capture_view::pcap_frames::{Capture, PacketAt};
+use datagrams::{Part, read};
+use ec_fields::NoMemory;
+use pcap_frames::{Capture, PacketAt};
 use std::alloc::Global;
 
 /// What a packet came to: whether the one behind it is its return, and the rule that it breaks.

@@ -4,7 +4,7 @@ ghost use Rattle.capture_audit.specs.Exchanges.{same_lengths, same_index, return
 ghost use Rattle.capture_audit.specs.Seen.{found_seen, datagram_seen, return_seen, frame_found, IsFound};
 
 use capture_view::body_of;
-use capture_view::datagrams::{Frame, Head, Part, read};
+use datagrams::{Frame, Head, Part, read};
 
 /// What returned of a datagram.
 #[derive(Clone, Copy)]

@@ -10,7 +10,7 @@ use crate::link::Moved;
 use crate::places::Places;
 use crate::rule::Rule;
 use crate::station::{Seat, StationAudit, Step};
-use capture_view::ec_fields::{NoMemory, Rows};
+use ec_fields::{NoMemory, Rows};
 use std::alloc::Global;
 use std::marker::Model;
 

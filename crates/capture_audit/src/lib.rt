@@ -13,6 +13,5 @@ mod station;
 mod verdict;
 
 pub use auditing::audit;
-pub use capture_view;
 pub use station::StationAudit;
 pub use verdict::Verdict;

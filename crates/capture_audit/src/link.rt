@@ -9,8 +9,8 @@ ghost use Rattle.capture_audit.specs.Moves.{sent_by, accepted_by, IsWritten, Goe
 use crate::access::MailAccess;
 use crate::exchange::{Datagram, Return};
 use crate::rule::Rule;
-use capture_view::ec_fields::{NoMemory, Octets};
-use capture_view::mailbox_mail::{Mail, mail_of, view};
+use ec_fields::{NoMemory, Octets};
+use mailbox_mail::{Mail, mail_of, view};
 use std::alloc::Global;
 
 /// What the master's inward half sends next (ETG.1000.4, mailbox with repeat request and acknowledge).

@@ -1,6 +1,6 @@
 ghost use Rattle.std.specs.Prelude.{◌≡◌, ◌==◌, ◌<◌, [], ◌∷◌, ◌++◌, length, position, None, IfSome, IfOk, OnOk, OnErr};
 
-use capture_view::ec_fields::{NoMemory, Rows};
+use ec_fields::{NoMemory, Rows};
 use indexmap::IndexSet;
 use std::alloc::Global;
 use std::marker::Model;

@@ -7,9 +7,9 @@ use crate::access::{MailAccess, Manager};
 use crate::exchange::Datagram;
 use crate::link::{Link, Moved, is_done};
 use crate::rule::Rule;
-use capture_view::datagrams::register::MANAGER_ACTIVATE;
-use capture_view::ec_fields::{NoMemory, Rows, u16_at};
-use capture_view::mailbox_mail::Mail;
+use datagrams::register::MANAGER_ACTIVATE;
+use ec_fields::{NoMemory, Rows, u16_at};
+use mailbox_mail::Mail;
 use std::alloc::Global;
 
 /// Where the length of its area stands in a sync manager.

@@ -1,5 +1,5 @@
 use crate::station::StationAudit;
-use capture_view::ec_fields::Rows;
+use ec_fields::Rows;
 
 /// What an audit comes to.
 #[derive(Drop)]

@@ -8,8 +8,8 @@ ghost use Rattle.eoe.specs.Message.{eoe_read};
 ghost use Rattle.capture_view.specs.Bodies.{coe_fault, foe_fault, soe_fault, eoe_fault, service_text, segment_line, object_line, emergency_line, information_line, form_line, coe_line, foe_line, soe_line, words_line, eoe_line, is_error, error_line, body_line};
 
 use crate::lines::fault_line;
-use coe_codec::ec_fields::{bits, u16_at, u32_at};
 use coe_codec::{CoeFault, CoeView};
+use ec_fields::{bits, u16_at, u32_at};
 use eoe::EoeFault;
 use foe_codec::FoeFault;
 use mailbox_mail::Kind;

@@ -7,8 +7,4 @@ mod lines;
 mod numbers;
 mod viewing;
 
-pub use coe_codec::ec_fields;
-pub use datagrams;
-pub use mailbox_mail;
-pub use pcap_frames;
 pub use viewing::{body_of, octets_of, view};

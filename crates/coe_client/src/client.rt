@@ -5,9 +5,9 @@ ghost use Rattle.protocol_models.specs.CoeModel.{planned};
 ghost use Rattle.coe_client.specs.Talk.{service_view, octets_in, later, awaited, is_replied, IsFresh, is_paced, begun, begun_service};
 
 use crate::state::{Awaits, Task, Unsent};
+use ec_fields::{NoMemory, Octets, Transfer};
+use mailbox_mail::ReplyKind;
 use object_dictionary::SdoService;
-use object_dictionary::ec_fields::{NoMemory, Octets, Transfer};
-use protocol_models::mailbox_mail::ReplyKind;
 use std::alloc::Global;
 use std::marker::Model;
 

@@ -8,10 +8,9 @@ ghost use Rattle.coe_client.specs.Hear.{onward, refused, valued, answered, parte
 
 use crate::client::{CoeClient, MOST};
 use crate::state::{Awaits, Task, Unsent};
-use object_dictionary::ec_fields::u16_at;
-use protocol_models::coe_codec;
-use protocol_models::coe_codec::CoeView;
-use protocol_models::mailbox_mail::{Kind, Mail, ReplyKind, Took};
+use coe_codec::CoeView;
+use ec_fields::u16_at;
+use mailbox_mail::{Kind, Mail, ReplyKind, Took};
 
 impl CoeClient {
     // The number of mails that may go, behind an answer that lets one more go.

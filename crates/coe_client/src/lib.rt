@@ -8,6 +8,3 @@ mod sending;
 mod state;
 
 pub use client::CoeClient;
-pub use object_dictionary;
-pub use object_dictionary::ec_fields;
-pub use protocol_models::{coe_codec, mailbox_mail};

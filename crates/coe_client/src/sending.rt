@@ -8,8 +8,7 @@ ghost use Rattle.coe_client.specs.Send.{send_download, send_first, send_segment,
 use crate::client::CoeClient;
 use crate::state::{Task, Unsent};
 use arrayvec::ArrayVec;
-use protocol_models::coe_codec;
-use protocol_models::coe_codec::CoeView;
+use coe_codec::CoeView;
 
 impl CoeClient {
     // The first mail of a download: all of the value, or its first part.

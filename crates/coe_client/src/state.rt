@@ -1,4 +1,4 @@
-use protocol_models::mailbox_mail::ReplyKind;
+use mailbox_mail::ReplyKind;
 
 /// What is asked of the slave.
 #[derive(Clone, Copy)]

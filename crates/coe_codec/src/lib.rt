@@ -8,7 +8,6 @@ mod reading;
 mod viewing;
 mod writing;
 
-pub use ec_fields;
 pub use message::{Coe, CoeFault};
 pub use reading::read;
 pub use viewing::{CoeView, view, view_of};

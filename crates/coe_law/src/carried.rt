@@ -1,5 +1,5 @@
 use arrayvec::ArrayVec;
-use coe_client::mailbox_mail::ReplyKind;
+use mailbox_mail::ReplyKind;
 
 /// What a download has made the slave send of itself.
 #[derive(Drop)]

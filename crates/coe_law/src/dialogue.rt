@@ -13,11 +13,11 @@ ghost use Rattle.coe_law.specs.Talks.{means, emission_mails, areas_of, all_mails
 use crate::carried::{Carried, Emission};
 use crate::mailbox::Mailboxes;
 use arrayvec::ArrayVec;
-use coe_client::coe_codec::Coe;
-use coe_client::mailbox_mail::{Kind, Mail};
-use coe_client::object_dictionary::{Objects, SdoService};
-use coe_client::{CoeClient, coe_codec};
+use coe_client::CoeClient;
+use coe_codec::Coe;
 use coe_server::CoeServer;
+use mailbox_mail::{Kind, Mail};
+use object_dictionary::{Objects, SdoService};
 
 // The octets of an emergency.
 fn emergency_of(message: Coe) -> Option<ArrayVec<u8, 8>>

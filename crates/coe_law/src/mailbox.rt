@@ -4,8 +4,8 @@ ghost use Rattle.coe_client.specs.of_mailbox_mail.declared.mail.Kind.TheVariants
 ghost use Rattle.coe_client.specs.of_protocol_models.CoeOctets.{coe_mail_heard, mail_with};
 ghost use Rattle.coe_law.specs.Mailboxes.{empty, counted, posted, lengths_of};
 
-use coe_client::ec_fields::{NoMemory, buffer_of};
-use coe_client::mailbox_mail::{Kind, Mail, next_counter, read, write};
+use ec_fields::{NoMemory, buffer_of};
+use mailbox_mail::{Kind, Mail, next_counter, read, write};
 use std::alloc::Global;
 use std::marker::Model;
 

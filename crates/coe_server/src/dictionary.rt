@@ -3,7 +3,7 @@ ghost use Rattle.protocol_models.specs.Tables.{Tables};
 ghost use Rattle.protocol_models.specs.CoeServer.{emission_of};
 ghost use Rattle.coe_server.specs.Serving.{target_view, ask_view, Stores, Reads, IsFitting};
 
-use object_dictionary::ec_fields::Transfer;
+use ec_fields::Transfer;
 
 /// What an SDO transfer is about: an entry by its subindex, or, by complete access, the object from this subindex on.
 #[derive(Clone, Copy)]

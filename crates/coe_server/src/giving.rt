@@ -11,11 +11,10 @@ use crate::dictionary::Target;
 use crate::server::CoeServer;
 use crate::state::{Emitted, Pending};
 use arrayvec::ArrayVec;
+use coe_codec::CoeView;
 use coe_values::Slot;
-use object_dictionary::ec_fields::{append, refill};
-use protocol_models::coe_codec;
-use protocol_models::coe_codec::CoeView;
-use protocol_models::mailbox_mail::{Kind, Mail};
+use ec_fields::{append, refill};
+use mailbox_mail::{Kind, Mail};
 
 // Writes a message that is short enough for the mailbox.
 fn written(room: u16, message: CoeView<'_>, body: &mut ArrayVec<u8, 1480>)

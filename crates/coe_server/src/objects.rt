@@ -10,7 +10,7 @@ ghost use Rattle.coe_server.specs.Serving.{Serving, transfer_of, outcome_of, ser
 ghost use Rattle.coe_server.specs.ObjectTables.{tables_with, object_tables};
 
 use crate::dictionary::{Dictionary, Question, Target};
-use object_dictionary::ec_fields::Transfer;
+use ec_fields::Transfer;
 use object_dictionary::{Objects, SdoService};
 
 impl Dictionary for Objects {

@@ -8,7 +8,7 @@ use crate::server::CoeServer;
 use crate::state::{Emitted, Pending, State};
 use arrayvec::ArrayVec;
 use coe_values::Slot;
-use object_dictionary::ec_fields::refill;
+use ec_fields::refill;
 use object_dictionary::{COMMAND_NOT_VALID, TOGGLE_NOT_ALTERNATED, TOO_LONG, TOO_SHORT};
 
 /// The record whose download makes the slave send an emergency.

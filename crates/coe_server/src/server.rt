@@ -5,7 +5,7 @@ ghost use Rattle.coe_server.specs.Serving.{transfer_of, waiting_mails, packet_of
 use crate::state::{Emitted, Pending, State};
 use arrayvec::ArrayVec;
 use coe_values::Values;
-use object_dictionary::ec_fields::{NoMemory, Transfer};
+use ec_fields::{NoMemory, Transfer};
 use std::alloc::Global;
 use std::marker::Model;
 

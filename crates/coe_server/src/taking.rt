@@ -10,10 +10,9 @@ ghost use Rattle.coe_server.specs.Serving.{transfer_of, told_of, outcome_of};
 use crate::dictionary::{Dictionary, Question, Target};
 use crate::server::CoeServer;
 use crate::state::{Pending, State};
+use coe_codec::{CoeFault, CoeView};
+use ec_fields::u16_at;
 use object_dictionary::COMMAND_NOT_VALID;
-use object_dictionary::ec_fields::u16_at;
-use protocol_models::coe_codec;
-use protocol_models::coe_codec::{CoeFault, CoeView};
 
 impl CoeServer {
     // A mail whose answer is a mailbox error.

@@ -3,8 +3,8 @@ ghost use Rattle.coe_values.specs.Slots.{octets_in, put};
 
 use crate::chains;
 use arrayvec::ArrayVec;
-use block_pool::ec_fields::{NoMemory, Transfer};
 use block_pool::{ChainId, Pool};
+use ec_fields::{NoMemory, Transfer};
 use std::alloc::Global;
 use std::marker::Model;
 

@@ -11,7 +11,6 @@ pub mod register;
 mod writing;
 
 pub use command::Command;
-pub use ec_fields;
 pub use frame::{Frame, FrameBuf, FrameFault, Part};
 pub use head::Head;
 pub use passing::{Passage, pass};

@@ -6,8 +6,6 @@ mod link;
 mod mem_link;
 mod tcp;
 
-pub use ec_outside;
-pub use ec_outside::ec_fields;
 pub use link::{Asked, Link, LinkErr, LinkItem, Piece};
 pub use mem_link::MemLink;
 pub use tcp::TcpLink;

@@ -2,8 +2,8 @@ ghost use Rattle.std.specs.Prelude.{◌≡◌, ◌≤◌, ◌+◌, ◌||◌, tru
 ghost use Rattle.ec_outside.specs.Calls.{one_more};
 ghost use Rattle.ec_outside.specs.Faults.{Rose};
 
+use ec_fields::Octets;
 use ec_outside::Gram;
-use ec_outside::ec_fields::Octets;
 
 /// What a link gave.
 #[derive(Clone, Copy, Debug, PartialEq, Eq)]

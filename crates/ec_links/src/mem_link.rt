@@ -4,7 +4,7 @@ ghost use Rattle.ec_outside.specs.Calls.{made, will_fail};
 ghost use Rattle.ec_links.specs.Link.{Gives, Puts, has_ended, asked_more, bytes_first, given_at, left_at, is_given, from_piece, piece_first, behind_first};
 
 use crate::link::{Asked, Link, LinkErr, LinkItem, Piece};
-use ec_outside::ec_fields::{Octets, Rows, append};
+use ec_fields::{Octets, Rows, append};
 use ec_outside::{Calls, Gram};
 use std::alloc::Global;
 

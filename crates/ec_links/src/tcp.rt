@@ -3,8 +3,8 @@ ghost use Rattle.ec_outside.specs.Faults.{Rose};
 ghost use Rattle.ec_links.specs.Link.{Gives};
 
 use crate::link::{Link, LinkErr, Piece};
+use ec_fields::append;
 use ec_outside::Gram;
-use ec_outside::ec_fields::append;
 use std::io;
 use std::io::{Read, Write};
 use std::net::{Ipv4Addr, Net, OpenListener, OpenStream, SocketAddrV4, TcpListener};

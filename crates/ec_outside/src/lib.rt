@@ -15,7 +15,6 @@ mod udp;
 
 pub use calls::Calls;
 pub use disk::DiskFiles;
-pub use ec_fields;
 pub use files::{Files, FilesErr, Loaded, StoredFile};
 pub use mem_files::MemFiles;
 pub use mem_port::MemPort;

@@ -6,13 +6,13 @@
 mod output;
 
 use crate::output::Output;
-use ecmbx_call::ec_links::TcpLink;
-use ecmbx_call::ec_outside::{DiskFiles, UdpPort};
-use ecmbx_call::tool_call::is_ask;
+use ec_links::TcpLink;
+use ec_outside::{DiskFiles, UdpPort};
 use ecmbx_call::{Book, Status, program};
 use std::process::ExitCode;
 use std::rt::Env;
 use std::{env, io, mem};
+use tool_call::is_ask;
 
 /// The address at which datagrams are heard, 127.0.0.1.
 const LOCALHOST: u32 = 0x7F00_0001;

@@ -2,8 +2,8 @@ ghost use Rattle.std.specs.Prelude.{◌≡◌, ◌≤◌, Err};
 ghost use Rattle.ecmbx_call.specs.of_ec_outside.Faults.{Rose};
 ghost use Rattle.ecmbx_call.specs.of_ec_outside.declared.sink.SinkErr.TheVariants as errors;
 
-use ecmbx_call::ec_fields::Octets;
-use ecmbx_call::ec_outside::{Sink, SinkErr};
+use ec_fields::Octets;
+use ec_outside::{Sink, SinkErr};
 use std::alloc::Global;
 
 /// So many octets are held before they are written.

@@ -6,11 +6,11 @@ ghost use Rattle.tool_call.specs.of_ecmbx_words.declared.status.Status.TheVarian
 ghost use Rattle.ecmbx_call.specs.Audits.{line_of, yes_lines, PutsVerdict};
 
 use capture_audit::{StationAudit, Verdict, audit};
-use gateway_stream::ec_outside::Sink;
-use run_report::pcap_frames::Capture;
-use scenario_made::ec_fields::{NoMemory, Octets, Rows};
+use ec_fields::{NoMemory, Octets, Rows};
+use ec_outside::Sink;
+use ecmbx_words::{Status, audit_no, audit_yes, say, say_lines, station_text};
+use pcap_frames::Capture;
 use std::alloc::Global;
-use tool_call::ecmbx_words::{Status, audit_no, audit_yes, say, say_lines, station_text};
 
 // A line for each station.
 fn station_lines(alloc: Global, stations: &[StationAudit]) -> Result<Rows<Octets>, NoMemory>

@@ -9,12 +9,12 @@ ghost use Rattle.ecmbx_call.specs.Causes.{ServesNone};
 ghost use Rattle.ecmbx_call.specs.Objects.{first_of, last_of, PutsNoMore, ServesOnLink, CarriesOnLink, CallsOnLink};
 
 use crate::top::serve_file;
+use ec_links::Link;
+use ec_outside::{Files, Sink};
+use ecmbx_words::{Status, say, stream_of, usage};
 use gateway_stream::WholePort;
-use gateway_stream::ec_links::Link;
-use gateway_stream::ec_outside::{Files, Sink};
-use run_report::run_book::Book;
+use run_book::Book;
 use std::alloc::Global;
-use tool_call::ecmbx_words::{Status, say, stream_of, usage};
 
 // Serves the scenario under a name over a link.
 fn stream_file<F: Files, O: Sink, L: Link>(

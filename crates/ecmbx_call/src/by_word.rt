@@ -8,12 +8,11 @@ ghost use Rattle.tool_call.specs.Asked.{is_ask, asked_in};
 ghost use Rattle.ecmbx_call.specs.First.{is_stream};
 
 use crate::by_stream::stream_call;
-use crate::top::ecmbx;
-use gateway_stream::ec_links::Link;
-use gateway_stream::ec_outside::{Files, Port, Sink};
-use run_report::run_book::Book;
+use ec_links::Link;
+use ec_outside::{Files, Port, Sink};
+use ecmbx_words::Status;
+use run_book::Book;
 use std::alloc::Global;
-use tool_call::ecmbx_words::Status;
 use tool_call::{ask_call, is_ask};
 
 // Whether the first word is `stream`.

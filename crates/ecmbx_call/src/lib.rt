@@ -13,11 +13,5 @@ mod viewing;
 
 pub use by_stream::stream_call;
 pub use by_word::program;
-pub use gateway_stream::{ec_links, ec_outside};
-pub use promised_run::scenario;
-pub use run_report;
-pub use run_report::run_book::{Answer, Begun, Book, Ending, Epoch, Reply, SentFrame, SlaveBook};
-pub use scenario_made::ec_fields;
-pub use tool_call;
-pub use tool_call::ecmbx_words::Status;
-pub use top::ecmbx;
+pub use ecmbx_words::Status;
+pub use run_book::{Answer, Begun, Book, Ending, Epoch, Reply, SentFrame, SlaveBook};

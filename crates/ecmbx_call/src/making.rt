@@ -4,10 +4,10 @@ ghost use Rattle.scenario_made.specs.Made.{text_of};
 ghost use Rattle.tool_call.specs.of_ecmbx_words.Ends.{PutAll};
 ghost use Rattle.tool_call.specs.of_ecmbx_words.declared.status.Status.TheVariants as statuses;
 
-use gateway_stream::ec_outside::Sink;
-use scenario_made::ec_fields::Octets;
+use ec_fields::Octets;
+use ec_outside::Sink;
+use ecmbx_words::{Status, say_text};
 use std::alloc::Global;
-use tool_call::ecmbx_words::{Status, say_text};
 
 /// Puts the scenario of a seed and a size, 1 to 4,096 services.
 pub fn make<O: Sink>(alloc: Global, seed: u32, size: u32, out: &mut O) -> Status

@@ -13,15 +13,15 @@ ghost use Rattle.ecmbx_call.specs.Files.{IsSaved};
 ghost use Rattle.ecmbx_call.specs.Objects.{LeavesUnder};
 ghost use Rattle.ecmbx_call.specs.Course.{HasRun, IsReportable, status_of, Followed, RunCourse, SavesRun, IsUnread, IsUnsaved, BeganOn};
 
-use gateway_stream::ec_outside::{Files, FilesErr, Sink};
+use ec_fields::{NoMemory, Octets, Rows};
+use ec_outside::{Files, FilesErr, Sink};
+use ecmbx_words::{Status, refusal, say, say_lines};
 use promised_run::run;
-use promised_run::scenario::{Place, ReadErr, read};
-use run_report::run_book::{Book, Ending};
+use run_book::{Book, Ending};
 use run_report::{report, saved};
-use scenario_made::ec_fields::{NoMemory, Octets, Rows};
+use scenario::{Place, ReadErr, read};
+use segment_plan::Scenario;
 use std::alloc::Global;
-use tool_call::ecmbx_words::{Status, refusal, say, say_lines};
-use tool_call::segment_plan::Scenario;
 
 // How a call ends whose run ended so.
 fn status_of(ending: Ending) -> Status

@@ -6,12 +6,12 @@ ghost use Rattle.ecmbx_call.specs.Serving.{ServedOn};
 ghost use Rattle.ecmbx_call.specs.Objects.{told_by, ServesOctets};
 
 use crate::running::{plan_in, tell};
-use gateway_stream::ec_outside::{Port, Sink};
+use ec_fields::Octets;
+use ec_outside::{Port, Sink};
+use ecmbx_words::Status;
 use promised_run::promised_serving::serve;
-use run_report::run_book::{Book, Ending};
-use scenario_made::ec_fields::Octets;
+use run_book::{Book, Ending};
 use std::alloc::Global;
-use tool_call::ecmbx_words::Status;
 
 /// Serves the plan that octets write over a port, until so many datagrams were heard or the port ended, and puts the report; or why they
 /// write none, and the port stays as it was. The octets are let go before, as for a run.

@@ -13,10 +13,10 @@ use crate::making::make;
 use crate::running::{run_octets, run_saved};
 use crate::serving::serve_octets;
 use crate::viewing::{audit, decode};
-use gateway_stream::ec_outside::{Files, Port, Sink};
-use run_report::run_book::Book;
+use ec_outside::{Files, Port, Sink};
+use ecmbx_words::{Form, Status, form_of, load, say, usage};
+use run_book::Book;
 use std::alloc::Global;
-use tool_call::ecmbx_words::{Form, Status, form_of, load, say, usage};
 
 /// The most octets that a file may have.
 const LIMIT: usize = 16_777_216;

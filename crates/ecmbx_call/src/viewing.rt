@@ -10,11 +10,11 @@ ghost use Rattle.ecmbx_call.specs.Audits.{AuditCourse};
 ghost use Rattle.ecmbx_call.specs.Course.{Followed, ViewCourse};
 
 use crate::auditing::audit_capture;
-use capture_audit::capture_view::view;
-use gateway_stream::ec_outside::{Sink, SinkErr};
-use run_report::pcap_frames::{Capture, PcapFault, read};
+use capture_view::view;
+use ec_outside::{Sink, SinkErr};
+use ecmbx_words::{Status, capture_refusal, say};
+use pcap_frames::{Capture, PcapFault, read};
 use std::alloc::Global;
-use tool_call::ecmbx_words::{Status, capture_refusal, say};
 
 fn refuse<O: Sink>(alloc: Global, fault: PcapFault, out: &mut O) -> Status
     ensures put { PutAll statuses.Refused (capture_line fault) (O.written out.old) (O.written out.new) result }

@@ -7,7 +7,9 @@ use coe_codec::{CoeFault, CoeView};
 use ec_fields::buffer_of;
 use eoe::{EoeFault, EoeView, first_block, is_block};
 use foe_codec::{FoeFault, FoeView};
-use mailbox_mail::{Kind, Mail, MailFault, error_mail, next_counter, read, read_into, write, write_head};
+use mailbox_mail::{
+    Kind, Mail, MailFault, error_mail, next_counter, read, read_into, write, write_head,
+};
 use row_table::{Bench, Row};
 use soe_codec::SoeFault;
 
@@ -48,7 +50,12 @@ fn tell_coe_answer(row: &mut Row<'_>, message: CoeView<'_>) {
             sub,
             size,
             bytes,
-        } => tell(row, "first answer", &[index as u32, sub as u32, size], bytes),
+        } => tell(
+            row,
+            "first answer",
+            &[index as u32, sub as u32, size],
+            bytes,
+        ),
         CoeView::SegmentAnswer { toggle } => tell(row, "segment answer", &[toggle as u32], &[]),
         CoeView::UploadSegmentAnswer {
             toggle,

@@ -78,7 +78,10 @@ impl FragmentBench {
     // The same in place, and the length of the last packet that was completed so.
     fn take_into(&mut self, row: &mut Row<'_>) {
         let fragment = fragment_in(row);
-        match self.joined.take_into(fragment_of(&fragment), &mut self.whole) {
+        match self
+            .joined
+            .take_into(fragment_of(&fragment), &mut self.whole)
+        {
             Came::More => row.say("more"),
             Came::Whole => row.say("whole"),
             Came::Dropped => row.say("dropped"),

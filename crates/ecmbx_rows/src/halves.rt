@@ -4,9 +4,7 @@ use arrayvec::ArrayVec;
 use datagrams::{Body, Head};
 use ec_fields::buffer_of;
 use mailbox_mail::{Kind, Mail};
-use mailbox_master::{
-    Got, GotView, InwardHalf, OutwardHalf, OutwardSeat, new_inward, new_outward,
-};
+use mailbox_master::{Got, GotView, InwardHalf, OutwardHalf, OutwardSeat, new_inward, new_outward};
 use row_table::{Bench, Row};
 use std::mem;
 

@@ -88,7 +88,11 @@ fn tell_parts(rt: &HostRuntime) -> Result<()> {
     tell(rt, "stores", Some(StoreBench))?;
     tell(rt, "clients", ClientBench::new(rt.alloc()).ok())?;
     let strings = fs::read_to_string(rt, "strings.toml")?;
-    tell(rt, "carried", CarriedBench::new(rt.alloc(), strings.as_bytes()))
+    tell(
+        rt,
+        "carried",
+        CarriedBench::new(rt.alloc(), strings.as_bytes()),
+    )
 }
 
 // Calls.

@@ -12,7 +12,6 @@ use ec_fields::{NoMemory, Octets, buffer_of};
 use eoe::Packet;
 use mailbox_mail::ReplyKind;
 use object_dictionary::{Objects, SdoService};
-use reply_text::reply_text;
 use row_table::{Bench, Page, Row};
 use scenario::read;
 use segment_plan::{Scenario, Service, SlaveSpec};
@@ -165,8 +164,22 @@ fn service_in(row: &mut Row<'_>) -> (SdoService, Octets) {
     let octets = row.octets();
     let none = Octets::new(row.alloc());
     match call {
-        "download" => (SdoService::Download { index, sub, bytes: octets }, none),
-        "download_all" => (SdoService::DownloadAll { index, from: sub, bytes: octets }, none),
+        "download" => (
+            SdoService::Download {
+                index,
+                sub,
+                bytes: octets,
+            },
+            none,
+        ),
+        "download_all" => (
+            SdoService::DownloadAll {
+                index,
+                from: sub,
+                bytes: octets,
+            },
+            none,
+        ),
         "upload" => (SdoService::Upload { index, sub }, octets),
         "upload_all" => (SdoService::UploadAll { index, from: sub }, octets),
         _ => {

@@ -7,7 +7,6 @@ mod loading;
 mod status;
 mod texts;
 
-pub use ec_outside;
 pub use form::{Form, form_of, number, stream_of};
 pub use lines::{say, say_lines, say_text};
 pub use loading::load;

@@ -4,7 +4,7 @@ ghost use Rattle.ecmbx_words.specs.declared.status.Status.TheVariants as statuse
 ghost use Rattle.ecmbx_words.specs.Ends.{text_of, PutAll};
 
 use crate::status::Status;
-use ec_outside::ec_fields::Octets;
+use ec_fields::Octets;
 use ec_outside::{Sink, SinkErr};
 
 /// Puts a text, and answers the planned status where the sink took it whole.

@@ -6,7 +6,7 @@ ghost use Rattle.ecmbx_words.specs.Files.{IsLoaded, IsUnloaded};
 use crate::lines::say;
 use crate::status::Status;
 use crate::texts::{absent, file_fault, too_long};
-use ec_outside::ec_fields::Octets;
+use ec_fields::Octets;
 use ec_outside::{Files, FilesErr, Loaded, Sink};
 use std::alloc::Global;
 

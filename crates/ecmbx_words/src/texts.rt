@@ -3,7 +3,7 @@ ghost use Rattle.pcap_frames.specs.declared.capture.PcapFault.TheVariants as fau
 ghost use Rattle.std.specs.Fmt.{decimal};
 ghost use Rattle.ecmbx_words.specs.Texts.{usage_line, absent_line, long_line, fault_line, place_text, refusal_line, capture_line, station_line, yes_line, no_line};
 
-use ec_outside::ec_fields::{NoMemory, Octets};
+use ec_fields::{NoMemory, Octets};
 use pcap_frames::PcapFault;
 use scenario_keys::Place;
 use std::alloc::Global;

@@ -12,7 +12,6 @@ mod writing;
 
 pub use address::{first_block, is_block};
 pub use cutting::{Fragmenter, cut};
-pub use ec_fields;
 pub use joining::{Came, Joined, Reassembler, Unfinished};
 pub use message::{Block, Eoe, EoeFault, Fragment, Packet};
 pub use reading::read;

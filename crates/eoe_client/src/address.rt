@@ -8,10 +8,9 @@ ghost use Rattle.eoe_client.specs.Talk.{left, awaited, awaits_nothing, SendsNext
 ghost use Rattle.eoe_client.specs.Hear.{closed, hear_set, hear_get, hear_failed, hear_mail, TookIs};
 
 use arrayvec::ArrayVec;
-use protocol_models::ec_fields::{NoMemory, Octets, refill, u16_at};
-use protocol_models::eoe;
-use protocol_models::eoe::{Block, EoeView};
-use protocol_models::mailbox_mail::{Kind, Mail, ReplyKind, Took};
+use ec_fields::{NoMemory, Octets, refill, u16_at};
+use eoe::{Block, EoeView};
+use mailbox_mail::{Kind, Mail, ReplyKind, Took};
 use std::marker::Model;
 
 /// What of a service is not yet sent.

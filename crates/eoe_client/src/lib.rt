@@ -6,4 +6,3 @@ mod packet;
 
 pub use address::{AddressClient, Awaits, Unsent};
 pub use packet::PacketSender;
-pub use protocol_models::{eoe, mailbox_mail};

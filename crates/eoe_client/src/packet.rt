@@ -4,8 +4,7 @@ ghost use Rattle.protocol_models.specs.EoeMails.{packet_mails};
 ghost use Rattle.eoe_client.specs.Talk.{fragments_left, SendsPart};
 
 use arrayvec::ArrayVec;
-use protocol_models::eoe;
-use protocol_models::eoe::{EoeView, Fragmenter, Packet};
+use eoe::{EoeView, Fragmenter, Packet};
 use std::fmt;
 use std::marker::Model;
 

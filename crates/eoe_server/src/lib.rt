@@ -13,12 +13,9 @@ ghost use Rattle.eoe_server.specs.Serving.{Serving, answer_mail, cut_mails, wait
 ghost use Rattle.eoe_server.specs.declared.Addresses.{Addresses};
 
 use arrayvec::ArrayVec;
-use protocol_models::ec_fields::{bits, buffer_of, u16_at};
-use protocol_models::eoe;
-use protocol_models::eoe::{
-    Block, Eoe, EoeFault, Fragment, Fragmenter, Joined, Packet, Reassembler,
-};
-use protocol_models::mailbox_mail::{Kind, Mail, error_mail};
+use ec_fields::{bits, buffer_of, u16_at};
+use eoe::{Block, Eoe, EoeFault, Fragment, Fragmenter, Joined, Packet, Reassembler};
+use mailbox_mail::{Kind, Mail, error_mail};
 use std::marker::Model;
 
 /// What a slave answers to an address service, or in place of an answer.

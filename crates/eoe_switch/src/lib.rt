@@ -8,7 +8,5 @@ mod queue;
 mod switching;
 
 pub use addresses::Learned;
-pub use eoe;
-pub use eoe::ec_fields;
 pub use port::Port;
 pub use switching::{Ports, Switch, SwitchEvent};

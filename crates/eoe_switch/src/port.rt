@@ -2,8 +2,8 @@ ghost use Rattle.std.specs.Prelude.{◌≡◌};
 ghost use Rattle.eoe_switch.specs.Ports.{is_target, offered};
 
 use crate::queue::Queue;
+use ec_fields::buffer_of;
 use eoe::Packet;
-use eoe::ec_fields::buffer_of;
 
 /// A port: whether it is up, and the packets that wait at it.
 #[derive(Drop)]

@@ -2,8 +2,8 @@ ghost use Rattle.std.specs.Prelude.{◌≡◌, ◌≤◌, [], ◌∷◌, ◌++�
 ghost use Rattle.std.specs.Option.{option_copied};
 
 use circular_buffer::HeapCircularBuffer;
+use ec_fields::NoMemory;
 use eoe::Packet;
-use eoe::ec_fields::NoMemory;
 use std::alloc::Global;
 use std::marker::Model;
 

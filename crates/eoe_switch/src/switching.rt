@@ -6,8 +6,8 @@ use crate::addresses::{Learned, address_at, learn, port_of};
 use crate::port::{Offered, Port, Route};
 use crate::queue::Queue;
 use arrayvec::ArrayVec;
+use ec_fields::{NoMemory, Rows};
 use eoe::Packet;
-use eoe::ec_fields::{NoMemory, Rows};
 use std::alloc::Global;
 use std::marker::Model;
 

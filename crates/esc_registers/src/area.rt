@@ -1,6 +1,6 @@
 ghost use Rattle.std.specs.Prelude.{◌≡◌, ◌+◌, ◌≤◌, length, replicate, IfOk};
 
-use datagrams::ec_fields::NoMemory;
+use ec_fields::NoMemory;
 use mailbox_mail::Mail;
 use std::alloc::Global;
 use std::marker::Model;

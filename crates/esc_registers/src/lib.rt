@@ -10,7 +10,6 @@ mod row;
 mod slave;
 
 pub use area::Area;
-pub use mailbox_mail;
 pub use manager::Manager;
 pub use registers::Registers;
 pub use slave::Esc;

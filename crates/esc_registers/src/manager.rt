@@ -2,7 +2,7 @@ ghost use Rattle.std.specs.Prelude.{◌≡◌, ◌≤◌, length};
 ghost use Rattle.esc_registers.specs.Manager.{status_of, pdi_control_of, manager_text, is_enabled, is_repeat_bit, is_repeat_asked, is_right, activated, manager_written};
 
 use crate::area::Area;
-use datagrams::ec_fields::{bits, put_u16, u16_at};
+use ec_fields::{bits, put_u16, u16_at};
 
 /// A mailbox sync manager (ETG.1000.4, 6.7) and its area. Bit 0 of `activate` enables it, bit 1 is
 /// the repeat request, which bit 1 of its PDI control answers: the `acknowledge`.

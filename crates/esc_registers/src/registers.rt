@@ -5,12 +5,12 @@ ghost use Rattle.esc_registers.specs.Access.{reads, writes, manager_of, row_of, 
 use crate::manager::Manager;
 use crate::row::{Mailbox, Row, is_by_place, is_by_station, reads, writes};
 use arrayvec::ArrayVec;
-use datagrams::ec_fields::{buffer_of, u16_at};
 use datagrams::register::{
     AL_CONTROL, AL_STATUS, AL_STATUS_CODE, IN_AREA, IN_CONTROL, MANAGER_0, MANAGER_1, OUT_AREA,
     OUT_CONTROL, STATION_ADDRESS,
 };
 use datagrams::{Command, Head};
+use ec_fields::{buffer_of, u16_at};
 
 /// The registers of a slave. `unhandled` says that AL control was written and the slave's processor
 /// has not yet looked at it. `out_manager` is sync manager 0, whose mailbox the master writes,

@@ -4,6 +4,6 @@
 mod file;
 mod store;
 
-pub use block_pool::{PoolFull, ec_fields};
+pub use block_pool::PoolFull;
 pub use file::{FileSpec, NOT_FOUND, Name};
 pub use store::Store;

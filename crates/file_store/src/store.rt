@@ -6,8 +6,8 @@ ghost use Rattle.file_store.specs.Stored.{Stored, Part, HasPart, part_name, part
 
 use crate::file::{File, FileSpec, NOT_FOUND, Name, Version};
 use arrayvec::ArrayVec;
-use block_pool::ec_fields::{NoMemory, buffer_of};
 use block_pool::{Pool, PoolFull};
+use ec_fields::{NoMemory, buffer_of};
 use std::alloc::Global;
 use std::marker::Model;
 use std::mem;

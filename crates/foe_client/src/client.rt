@@ -8,9 +8,9 @@ ghost use Rattle.protocol_models.specs.FoeModel.{planned};
 ghost use Rattle.foe_client.specs.Talk.{areas_of, later, awaited, awaits_nothing, begun, IsFresh};
 
 use crate::state::{Awaits, Unsent};
-use protocol_models::ec_fields::{NoMemory, Octets, Transfer, buffer_of};
-use protocol_models::foe_codec::Name;
-use protocol_models::mailbox_mail::ReplyKind;
+use ec_fields::{NoMemory, Octets, Transfer, buffer_of};
+use foe_codec::Name;
+use mailbox_mail::ReplyKind;
 use std::alloc::Global;
 use std::marker::Model;
 

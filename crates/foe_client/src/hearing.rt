@@ -5,10 +5,9 @@ ghost use Rattle.foe_client.specs.Hear.{onward, refused, hear_data, hear_ack, he
 
 use crate::client::{FoeClient, HEADER, MOST};
 use crate::state::{Awaits, Unsent};
-use protocol_models::ec_fields::u16_at;
-use protocol_models::foe_codec;
-use protocol_models::foe_codec::FoeView;
-use protocol_models::mailbox_mail::{Kind, Mail, ReplyKind, Took};
+use ec_fields::u16_at;
+use foe_codec::FoeView;
+use mailbox_mail::{Kind, Mail, ReplyKind, Took};
 
 impl FoeClient {
     // The number of mails that may go, behind an answer that lets one more go.

@@ -10,7 +10,7 @@ ghost use Rattle.foe_client.specs.Send.{message_of, sent_first, SendsNext};
 use crate::client::{FoeClient, HEADER};
 use crate::state::Unsent;
 use arrayvec::ArrayVec;
-use protocol_models::foe_codec::{FoeView, write_view};
+use foe_codec::{FoeView, write_view};
 
 impl FoeClient {
     // A packet's octets: as many as the mailbox takes, or all that are left.

@@ -1,4 +1,4 @@
-use protocol_models::mailbox_mail::ReplyKind;
+use mailbox_mail::ReplyKind;
 
 /// The first of a service's mails that is not yet sent.
 #[derive(Clone, Copy)]

@@ -5,8 +5,8 @@ use crate::server::{FoeServer, PACKET_HEAD};
 use crate::state::Pending;
 use arrayvec::ArrayVec;
 use file_store::Store;
-use protocol_models::foe_codec::{FoeView, write_view};
-use protocol_models::mailbox_mail::{Kind, Mail, error_mail};
+use foe_codec::{FoeView, write_view};
+use mailbox_mail::{Kind, Mail, error_mail};
 
 impl FoeServer {
     /// Whether a mail waits.

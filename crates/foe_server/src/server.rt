@@ -4,7 +4,7 @@ ghost use Rattle.foe_server.specs.Serving.{Serving, fresh, told_of, without_part
 
 use crate::state::{Pending, State};
 use arrayvec::ArrayVec;
-use file_store::ec_fields::NoMemory;
+use ec_fields::NoMemory;
 use file_store::{Name, Store};
 use std::alloc::Global;
 use std::marker::Model;

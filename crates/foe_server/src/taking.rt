@@ -9,10 +9,9 @@ ghost use Rattle.foe_server.specs.Serving.{Serving, Serves, IsWriting, transfer_
 
 use crate::server::{FoeServer, PACKET_HEAD};
 use crate::state::{Pending, State};
-use file_store::ec_fields::refill;
+use ec_fields::refill;
 use file_store::{NOT_FOUND, Store};
-use protocol_models::foe_codec;
-use protocol_models::foe_codec::{FoeFault, FoeView};
+use foe_codec::{FoeFault, FoeView};
 
 /// No block is free for a packet's octets (ETG.1000.6, "FoE error codes").
 const DISK_FULL: u32 = 0x8003;

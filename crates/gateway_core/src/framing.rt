@@ -3,8 +3,8 @@ ghost use Rattle.byteorder.specs.Endian.{little_bytes};
 ghost use Rattle.mailbox_mail.specs.Mail.{mail_text};
 ghost use Rattle.gateway_core.specs.Framing.{request_in, request_seen, length_read, gram_text};
 
+use ec_fields::{bits, u16_at};
 use ec_outside::Gram;
-use ec_outside::ec_fields::{bits, u16_at};
 use mailbox_mail::{HEADER, Mail, MailHead, MailView, view, write_head};
 
 /// The octets of the frame header in front of the mail.

@@ -5,7 +5,7 @@ ghost use Rattle.gateway_core.specs.Gateway.{place_from, is_passed, unfinished_a
 
 use crate::asker::{Asked, Asker};
 use crate::framing::{mail_behind, write_to};
-use ec_outside::ec_fields::NoMemory;
+use ec_fields::NoMemory;
 use ec_outside::{Gram, Peer};
 use mailbox_mail::{HEADER, Kind, Mail, error_mail, mail_of};
 use slab::Slab;

@@ -7,8 +7,5 @@ mod framing;
 mod gateway;
 
 pub use asker::{Asked, Asker};
-pub use ec_outside;
-pub use ec_outside::ec_fields;
 pub use framing::{GatewayFault, gateway_read, gateway_write};
 pub use gateway::Gateway;
-pub use mailbox_mail;

@@ -7,13 +7,13 @@ ghost use Rattle.gateway_run.specs.Account.{has_key, is_of, others, elsewhere, b
 ghost use Rattle.gateway_run.specs.Heard.{IsJudged};
 ghost use Rattle.gateway_run.specs.Desk.{HasNone, IsOpen, IsSound, HearsNow, HearsSoundly, StaysSound, AsksMails, SameLan, SameLive, StaysBusy, Tells, NotesAll, cut_one, Answers, PassesSoundly, PassesSo, IsTakenSo, Takes, TakesSoundly};
 
-use gateway_core::ec_fields::{NoMemory, Octets};
-use gateway_core::ec_outside::{Gram, Peer};
-use gateway_core::mailbox_mail::{Mail, error_mail};
+use ec_fields::{NoMemory, Octets};
+use ec_outside::{Gram, Peer};
 use gateway_core::{Asked, Gateway};
+use mailbox_mail::{Mail, error_mail};
+use master_node::{Event, Origin};
+use run_book::{Book, GramIn, GramOut};
 use run_record::Session;
-use run_record::master_node::{Event, Origin};
-use run_record::run_book::{Book, GramIn, GramOut};
 use std::alloc::Global;
 use std::collections::VecDeque;
 

@@ -6,7 +6,4 @@ mod serving;
 mod stop;
 mod turn;
 
-pub use gateway_core::ec_outside;
-pub use run_record;
-pub use run_record::{run_book, segment_plan};
 pub use serving::serve;

@@ -11,11 +11,11 @@ ghost use Rattle.gateway_run.specs.Served.{IsServedOver};
 
 use crate::stop::Stop;
 use crate::turn::Serving;
-use gateway_core::ec_fields::NoMemory;
-use gateway_core::ec_outside::Port;
+use ec_fields::NoMemory;
+use ec_outside::Port;
+use run_book::{Book, Ending};
 use run_record::Session;
-use run_record::run_book::{Book, Ending};
-use run_record::segment_plan::Scenario;
+use segment_plan::Scenario;
 use std::alloc::Global;
 
 // How a serving ends at which nothing is left to do.

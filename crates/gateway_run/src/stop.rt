@@ -2,8 +2,8 @@ ghost use Rattle.std.specs.Prelude.{◌≡◌};
 ghost use Rattle.gateway_run.specs.Stops.{stop_of};
 ghost use Rattle.gateway_run.specs.declared.stop.Stop.TheVariants as stops;
 
-use gateway_core::ec_fields::NoMemory;
-use gateway_core::ec_outside::PortErr;
+use ec_fields::NoMemory;
+use ec_outside::PortErr;
 
 /// Why a serving stops in a turn.
 #[derive(Clone, Copy)]

@@ -12,11 +12,11 @@ ghost use Rattle.gateway_run.specs.Serving.{told, SendsOne, LivesUnless, EmptyWh
 
 use crate::desk::Desk;
 use crate::stop::Stop;
-use gateway_core::ec_fields::NoMemory;
-use gateway_core::ec_outside::{Gram, Heard, Port};
+use ec_fields::NoMemory;
+use ec_outside::{Gram, Heard, Port};
+use run_book::{Book, GramOut};
 use run_record::Session;
-use run_record::run_book::{Book, GramOut};
-use run_record::segment_plan::Scenario;
+use segment_plan::Scenario;
 use std::alloc::Global;
 
 /// A serving of a plan.

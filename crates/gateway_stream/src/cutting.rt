@@ -1,7 +1,7 @@
 ghost use Rattle.std.specs.Prelude.{◌≡◌, ◌≤◌, ◌+◌, length, IfSome};
 ghost use Rattle.gateway_stream.specs.Cutting.{missing, is_request};
 
-use ec_links::ec_fields::{bits, u16_at};
+use ec_fields::{bits, u16_at};
 
 /// The octets of the frame header in front of a mail.
 const FRAME_HEADER: usize = 2;

@@ -6,7 +6,5 @@ mod cutting;
 mod stream;
 mod whole_port;
 
-pub use ec_links;
-pub use ec_links::ec_outside;
 pub use stream::StreamPort;
 pub use whole_port::WholePort;

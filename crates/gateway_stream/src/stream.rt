@@ -5,9 +5,9 @@ ghost use Rattle.gateway_stream.specs.Cutting.{is_whole};
 ghost use Rattle.gateway_stream.specs.Hearing.{heard_of, is_broken, answer_of, error_of, AsksLink, PutsBytes, TurnsTo};
 
 use crate::cutting::missing;
-use ec_links::ec_fields::refill;
-use ec_links::ec_outside::{Gram, Heard, Peer, Port, PortErr};
+use ec_fields::refill;
 use ec_links::{Link, LinkErr, Piece};
+use ec_outside::{Gram, Heard, Peer, Port, PortErr};
 
 /// The peer of a stream, whose address is the loopback's, 127.0.0.1.
 pub(crate) const PEER: Peer = Peer {

@@ -3,9 +3,9 @@ ghost use Rattle.gateway_stream.specs.Sending.{has_failed};
 
 use crate::cutting::is_request;
 use crate::stream::{PEER, StreamPort};
+use ec_fields::refill;
 use ec_links::Link;
-use ec_links::ec_fields::refill;
-use ec_links::ec_outside::{Gram, Heard, Peer, Port, PortErr};
+use ec_outside::{Gram, Heard, Peer, Port, PortErr};
 use std::marker::Model;
 
 /// A port over a link that tells what it sends: in the octets put, too, the datagrams stand one

@@ -5,7 +5,7 @@ ghost use Rattle.gateway_tool.specs.Ended.{HasEnded, IsKept};
 
 use crate::reply::Reply;
 use crate::talk::Talk;
-use gateway_core::ec_outside::{Peer, Port, PortErr};
+use ec_outside::{Peer, Port, PortErr};
 use segment_plan::Service;
 use std::alloc::Global;
 

@@ -8,12 +8,12 @@ ghost use Rattle.gateway_tool.specs.Client.{left, awaits, kind_of, Begins, Sends
 use crate::reply::Reply;
 use arrayvec::ArrayVec;
 use coe_client::CoeClient;
-use coe_client::object_dictionary::SdoService;
+use ec_fields::NoMemory;
+use file_store::Name;
 use foe_client::FoeClient;
-use gateway_core::ec_fields::NoMemory;
-use gateway_core::mailbox_mail::{Kind, Mail, Took};
+use mailbox_mail::{Kind, Mail, Took};
+use object_dictionary::SdoService;
 use segment_plan::Service;
-use segment_plan::file_store::Name;
 use std::alloc::Global;
 
 /// A service at the client of its protocol.

@@ -5,7 +5,7 @@ ghost use Rattle.gateway_tool.specs.Client.{left, awaits};
 ghost use Rattle.gateway_tool.specs.Talk.{Goes, GoesSo, Rests, Replies, Stops};
 
 use crate::talk::Talk;
-use gateway_core::ec_outside::{Port, PortErr};
+use ec_outside::{Port, PortErr};
 
 /// As many datagrams are passed over in a row, and as many are taken, at most.
 const MOST: u32 = 65_536;

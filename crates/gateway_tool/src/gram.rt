@@ -2,9 +2,9 @@ ghost use Rattle.std.specs.Prelude.{◌≡◌, ◌≤◌};
 ghost use Rattle.gateway_core.specs.Framing.{request_in, gram_text};
 ghost use Rattle.gateway_tool.specs.Rule.{mail_in};
 
-use gateway_core::ec_outside::Gram;
-use gateway_core::mailbox_mail::{HEADER, Mail, read, write};
+use ec_outside::Gram;
 use gateway_core::{gateway_read, gateway_write};
+use mailbox_mail::{HEADER, Mail, read, write};
 
 /// The octets of the frame header in front of a datagram's mail.
 const FRAME_HEADER: usize = 2;

@@ -7,8 +7,8 @@ ghost use Rattle.gateway_tool.specs.Talk.{heard_by, HearsMail, passed_behind, ta
 
 use crate::gram::mail_in;
 use crate::talk::Talk;
-use gateway_core::ec_outside::{Heard, Port, PortErr};
-use gateway_core::mailbox_mail::{Mail, Took};
+use ec_outside::{Heard, Port, PortErr};
+use mailbox_mail::{Mail, Took};
 
 // Whether a mail completed the reply.
 fn is_done(took: Took) -> bool

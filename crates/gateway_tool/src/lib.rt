@@ -11,7 +11,4 @@ mod sending;
 mod talk;
 
 pub use asking::{ToolEnd, ask};
-pub use coe_client::object_dictionary;
 pub use reply::Reply;
-pub use segment_plan;
-pub use segment_plan::file_store;

@@ -1,5 +1,5 @@
-use gateway_core::ec_fields::Octets;
-use gateway_core::mailbox_mail::ReplyKind;
+use ec_fields::Octets;
+use mailbox_mail::ReplyKind;
 
 /// What a service came to, and the value that it brought; there are no octets where it has none.
 #[derive(Drop)]

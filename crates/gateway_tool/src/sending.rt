@@ -9,9 +9,9 @@ use crate::client::Client;
 use crate::gram::write_gram;
 use crate::talk::Talk;
 use arrayvec::ArrayVec;
-use gateway_core::ec_fields::NoMemory;
-use gateway_core::ec_outside::{Gram, Peer, Port, PortErr};
-use gateway_core::mailbox_mail::{Mail, next_counter};
+use ec_fields::NoMemory;
+use ec_outside::{Gram, Peer, Port, PortErr};
+use mailbox_mail::{Mail, next_counter};
 use segment_plan::Service;
 use std::alloc::Global;
 

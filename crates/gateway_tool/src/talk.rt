@@ -1,7 +1,7 @@
 ghost use Rattle.std.specs.Prelude.{◌≤◌};
 
 use crate::client::Client;
-use gateway_core::ec_outside::{Gram, Peer};
+use ec_outside::{Gram, Peer};
 
 /// A service on its way: its client, and what was sent and heard last.
 #[derive(Drop)]

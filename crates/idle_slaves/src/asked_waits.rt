@@ -7,8 +7,6 @@ ghost use Rattle.plan_ring.specs.of_slave_model.Waits.{NeverWaits};
 ghost use Rattle.plan_ring.specs.Asked.{asked};
 ghost use Rattle.plan_ring.specs.of_slave_model.Profile.{Profile, IsProfile};
 
-use plan_ring::slave_parts;
-
 /// A SLAVE OF A PLAN, with the services that its master asks for, never has a client that waits in vain.
 pub fn asked_waits_law()
     ensures { (p : Profile) → IsProfile p → (boot : Bool) (lens : ℕ → Lens) → NeverWaits (asked p boot lens).exchange }

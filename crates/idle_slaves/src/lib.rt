@@ -49,8 +49,6 @@ pub mod held_visits;
 pub mod states_come;
 pub mod wait_runs;
 
-pub use plan_ring::{frame_view, scenario, slave_parts};
-
 /// A SLAVE THAT WAS VISITED TWICE IN VAIN behind a step of its processor, since something was gained last, is spent: no mail is held for it, both mailboxes
 /// are empty, it has nothing to offer, and no state service drains.
 pub fn waiting_law<B, S>()

@@ -18,8 +18,6 @@ ghost use Rattle.plan_ring.specs.of_segment_plan.Sound.{IsPlan};
 ghost use Rattle.plan_ring.specs.of_segment_plan.declared.plan.Scenario.{Scenario};
 ghost use Rattle.idle_slaves.specs.WaitEager.{EagerIn};
 
-use plan_ring::frame_view;
-
 /// SOME SLAVE OF A PLAN'S RUN WAITS YET behind each frame that came back and gained nothing, with nothing to repair and no packet of the host: where its master
 /// makes no visit in vain if more could go on, and no frame if all is done.
 pub fn wait_runs_law()

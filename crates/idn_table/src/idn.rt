@@ -9,7 +9,7 @@ use crate::codes::{
 use crate::element::Element;
 use crate::spec::IdnSpec;
 use byteorder::{ByteOrder, LittleEndian};
-use protocol_models::ec_fields::{NoMemory, Octets, Transfer};
+use ec_fields::{NoMemory, Octets, Transfer};
 use std::alloc::Global;
 use std::marker::Model;
 

@@ -15,6 +15,5 @@ pub use codes::{
     VALUE_TOO_LONG, VALUE_TOO_SHORT, VALUE_TOO_SMALL,
 };
 pub use law::idns_are_lawful;
-pub use protocol_models::{ec_fields, eoe, mailbox_mail};
 pub use spec::IdnSpec;
 pub use table::IdnTable;

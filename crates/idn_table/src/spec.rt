@@ -1,4 +1,4 @@
-use protocol_models::ec_fields::Octets;
+use ec_fields::Octets;
 
 /// An IDN of a drive as it is described: its elements, and what bounds its value. Integers are unsigned, the lowest octet first.
 #[derive(Drop)]

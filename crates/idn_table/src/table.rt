@@ -8,8 +8,8 @@ use crate::codes::{NO_ELEMENT, NO_IDN};
 use crate::element::element_of;
 use crate::idn::Idn;
 use crate::spec::IdnSpec;
+use ec_fields::{NoMemory, Transfer};
 use indexmap::IndexMap;
-use protocol_models::ec_fields::{NoMemory, Transfer};
 use std::alloc::Global;
 use std::marker::Model;
 

@@ -85,7 +85,7 @@ module _ {V M Q R : Type 0} (x : Exchange V V M Q R) (calm : V → Bool) (fair :
     rests_by None (Some (Service.State target)) base l = go (is_free y d d.now && is_acknowledged y acknowledged d d.now) refl l
       where
         go : (b : Bool) → (is_free y d d.now && is_acknowledged y acknowledged d d.now) ≡ b → StateLast (if b then state_begins a target frame else a).started → AllAnswered (side_begins y frame d d.now None).now
-        go true e l = no_side (free_answers d d.now (both_of (is_free y d d.now) (is_acknowledged x acknowledged d d.now) e).0)
+        go true e l = no_side (free_answers d d.now (both_of (is_free y d d.now) (is_acknowledged y acknowledged d d.now) e).0)
         go false e l = no_side (base l)
 
     -- WHERE NO MAIL IS PASSED ON that isn't over

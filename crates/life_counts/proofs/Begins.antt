@@ -106,7 +106,7 @@ module _ {V M Q R T : Type 0} (x : Exchange V V M Q R) (calm : V → Bool) (fair
   none_box None = refl
   none_box (Some m) = refl
 
-  none_answer : (a : Option (Option R × ℕ)) → is_none (option_map (λ (k : Option R × ℕ). (same k.0, k.1)) a) ≡ is_none a
+  none_answer : (a : Option (Option R × ℕ)) → is_none {T = Option R × ℕ} (option_map (λ (k : Option R × ℕ). (same k.0, k.1)) a) ≡ is_none a
   none_answer None = refl
   none_answer (Some a) = refl
 

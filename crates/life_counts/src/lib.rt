@@ -25,8 +25,6 @@ ghost use Rattle.master_hand.specs.of_state_model.Accounts.{Pick};
 ghost use Rattle.master_hand.specs.of_state_model.Promise.{services_in};
 ghost use Rattle.whole_ring.specs.Whole.{OwesLaws, IsLived};
 
-pub use few_replies;
-
 /// WHAT AN EPOCH HAS GAINED, in mails and in steps of state services, is no more than what its services count: each by mails what it takes at most, a
 /// state service six.
 pub fn epoch_counts<V, A, M, Q, R, K>()

@@ -17,12 +17,6 @@ ghost use Rattle.life_runs.specs.Spans.{SameEpochs, EpochsBack, EpochsLost};
 ghost use Rattle.life_runs.specs.First.{first_leads};
 ghost use Rattle.master_hand.specs.of_segment_plan.declared.plan.Scenario.{Scenario};
 
-pub use master_hand;
-pub use master_hand::{mailbox_mail, object_dictionary, segment_plan};
-pub use master_tour;
-pub use master_tour::{al_state, frame_view, mailbox_master, master_duty, master_side};
-pub use segment_ring::datagrams;
-
 /// A frame that came back ends the lost ones in a row.
 pub fn returned_law()
     ensures { (lens : ℕ → Lens) (recover retry missed : ℕ) → missed_behind lens recover retry Pass missed ≡ 0 }

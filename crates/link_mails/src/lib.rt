@@ -5,8 +5,6 @@
 ghost use Rattle.std.specs.Prelude.{◌≡◌, ◌≤◌};
 ghost use Rattle.link_model.specs.Counters.{next_counter, repeats};
 
-pub use mailbox_mail;
-
 /// The counter behind this one: 0, which stands for none, and 7 are followed by 1 (ETG.1000.4, mailbox counter).
 pub fn next_counter(counter: u8) -> u8
     requires { counter ≤ 7 }

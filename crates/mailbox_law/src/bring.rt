@@ -6,11 +6,11 @@ ghost use Rattle.mailbox_slave.specs.of_esc_registers.Access.{access};
 ghost use Rattle.mailbox_slave.specs.Registers.{out_box, in_box, request_of, acknowledge_of};
 ghost use Rattle.mailbox_law.specs.Wire.{IsLinked};
 
-use al_state::datagrams::Head;
-use al_state::ec_fields::NoMemory;
 use al_state::{BringUp, PRE_OP, access, bring_new, came_back};
 use arrayvec::ArrayVec;
-use mailbox_slave::esc_registers::Esc;
+use datagrams::Head;
+use ec_fields::NoMemory;
+use esc_registers::Esc;
 use std::alloc::Global;
 
 /// The station address of the slave of a run.

@@ -3,8 +3,8 @@
 ghost use Rattle.std.specs.Prelude.{◌≡◌, ◌+◌, ◌-◌, ◌≤◌, ◌<◌, [], ◌∷◌, ◌++◌, OnOk};
 ghost use Rattle.mailbox_law.specs.Waiting.{HasRoom};
 
-use al_state::ec_fields::{NoMemory, Rows, buffer_of};
-use mailbox_master::mailbox_mail::{Mail, MailFault};
+use ec_fields::{NoMemory, Rows, buffer_of};
+use mailbox_mail::{Mail, MailFault};
 use mailbox_slave::Server;
 use std::alloc::Global;
 use std::collections::VecDeque;

@@ -10,8 +10,8 @@ ghost use Rattle.mailbox_law.specs.World.{IsSound, Shows, link_of};
 
 use crate::steps::{LinkRun, LinkStep};
 use crate::world::{World, add};
-use al_state::ec_fields::{NoMemory, Rows};
-use mailbox_master::mailbox_mail::Mail;
+use ec_fields::{NoMemory, Rows};
+use mailbox_mail::Mail;
 use std::alloc::Global;
 
 // The same mails in rows.

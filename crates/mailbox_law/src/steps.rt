@@ -2,8 +2,8 @@
 
 ghost use Rattle.std.specs.Prelude.{◌↔◌, IsTrue};
 
-use al_state::ec_fields::Rows;
-use mailbox_master::mailbox_mail::{HEADER, Mail};
+use ec_fields::Rows;
+use mailbox_mail::{HEADER, Mail};
 
 /// What becomes of a datagram.
 #[derive(Clone, Copy)]

@@ -11,10 +11,10 @@ ghost use Rattle.mailbox_law.specs.Wire.{IsLinked, IsReadable, met_by, accepted_
 ghost use Rattle.mailbox_law.specs.Steps.{fate_of};
 
 use crate::steps::LinkFate;
-use al_state::datagrams::Head;
 use arrayvec::ArrayVec;
+use datagrams::Head;
+use esc_registers::Esc;
 use mailbox_master::{Got, Holding, InwardHalf, LinkState, Outward, OutwardHalf};
-use mailbox_slave::esc_registers::Esc;
 
 // The datagram of a half meets the slave: its head and its body behind it.
 fn send<L: LinkState>(esc: &mut Esc, half: &L, body: &mut ArrayVec<u8, 1486>) -> Head

@@ -15,11 +15,11 @@ use crate::keeper::{Keeper, copy_of};
 use crate::steps::{LinkFate, LinkStep};
 use crate::wire::{in_sent, out_sent};
 use al_state::PRE_OP;
-use al_state::ec_fields::{NoMemory, Rows};
-use mailbox_master::mailbox_mail::Mail;
+use ec_fields::{NoMemory, Rows};
+use esc_registers::Esc;
+use mailbox_mail::Mail;
 use mailbox_master::{Got, InwardHalf, OutwardHalf, new_inward, new_outward};
 use mailbox_slave::SlaveBox;
-use mailbox_slave::esc_registers::Esc;
 use std::alloc::Global;
 
 /// A link as it runs.

@@ -7,7 +7,6 @@ mod outcome;
 mod reading;
 mod writing;
 
-pub use ec_fields;
 pub use mail::{BODY, HEADER, Kind, Mail, MailFault, MailHead, MailView, error_mail, next_counter};
 pub use outcome::{ReplyKind, Took};
 pub use reading::{mail_of, read, read_into, view};

@@ -4,9 +4,9 @@ ghost use Rattle.std.specs.Prelude.{◌≡◌, ◌≤◌, false, length, replica
 ghost use Rattle.mailbox_master.specs.Access.{Access, access_head};
 
 use arrayvec::ArrayVec;
-use datagrams::ec_fields::buffer_of;
 use datagrams::register::{MANAGER_1, MANAGER_ACTIVATE, MANAGER_PDI_CONTROL};
 use datagrams::{Command, Head};
+use ec_fields::buffer_of;
 
 /// The activate octet of sync manager 1: enable in bit 0, repeat request in bit 1.
 pub const ACTIVATE: u16 = MANAGER_1 + MANAGER_ACTIVATE;

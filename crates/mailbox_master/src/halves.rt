@@ -17,7 +17,7 @@ use crate::seat::GotView;
 use crate::states;
 use arrayvec::ArrayVec;
 use datagrams::Head;
-use link_mails::mailbox_mail::Mail;
+use mailbox_mail::Mail;
 
 /// The outward half of a link in whichever state.
 #[derive(Drop)]

@@ -17,11 +17,11 @@ use crate::access::{ACTIVATE, ENABLE, LinkState, PDI_CONTROL, REPEAT, fill_blank
 use crate::seat::GotView;
 use crate::states::{Asked, Clear, Doubt, Refetch};
 use arrayvec::ArrayVec;
-use datagrams::ec_fields::buffer_of;
 use datagrams::register::IN_AREA;
 use datagrams::{Command, Head};
+use ec_fields::buffer_of;
 use link_mails::is_repeat;
-use link_mails::mailbox_mail::{Mail, MailFault, view};
+use mailbox_mail::{Mail, MailFault, view};
 use std::marker::Model;
 
 /// The inward half of a link in the state `S`: it reads mailbox 1 of one slave.

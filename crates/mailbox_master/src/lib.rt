@@ -10,11 +10,8 @@ mod seat;
 mod states;
 
 pub use access::{LinkState, head_of};
-pub use datagrams;
-pub use datagrams::ec_fields;
 pub use halves::{InwardHalf, OutwardHalf};
 pub use inward::{AskedNext, DoubtNext, Got, Inward, new_inward};
-pub use link_mails::mailbox_mail;
 pub use outward::{OutNext, OutState, Outward, new_outward};
 pub use seat::{GotView, OutwardSeat};
 pub use states::{Asked, Clear, Doubt, Holding, Idle, Refetch};

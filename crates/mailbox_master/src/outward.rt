@@ -19,8 +19,8 @@ use crate::states::{Holding, Idle};
 use arrayvec::ArrayVec;
 use datagrams::register::OUT_AREA;
 use datagrams::{Command, Head};
-use link_mails::mailbox_mail::{Mail, write};
 use link_mails::next_counter;
+use mailbox_mail::{Mail, write};
 use std::marker::Model;
 
 /// A state of the outward half.

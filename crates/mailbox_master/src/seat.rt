@@ -15,11 +15,11 @@ ghost use Rattle.link_mails.specs.of_link_model.Master.{InState, read_answered, 
 use crate::access::{ACTIVATE, ENABLE, PDI_CONTROL, REPEAT, head_of};
 use crate::halves::InwardHalf;
 use crate::inward::{Got, new_inward};
-use datagrams::ec_fields::refill;
 use datagrams::register::{IN_AREA, OUT_AREA};
 use datagrams::{Body, Command, Head};
-use link_mails::mailbox_mail::{Kind, Mail, MailFault, MailView, error_mail, mail_of, write};
+use ec_fields::refill;
 use link_mails::next_counter;
+use mailbox_mail::{Kind, Mail, MailFault, MailView, error_mail, mail_of, write};
 use std::marker::Model;
 use std::mem;
 

@@ -1,6 +1,6 @@
 //! The states of the halves.
 
-use link_mails::mailbox_mail::Mail;
+use mailbox_mail::Mail;
 
 /// The outward half holds no mail.
 #[derive(Drop)]

@@ -5,6 +5,5 @@
 mod server;
 mod slave_box;
 
-pub use esc_registers;
 pub use server::Server;
 pub use slave_box::SlaveBox;

@@ -3,7 +3,7 @@
 ghost use Rattle.std.specs.Prelude.{◌≡◌, ◌≤◌, None, Some, is_some, IsSome, length};
 ghost use Rattle.link_mails.specs.Body.{link_read};
 
-use esc_registers::mailbox_mail::{Mail, MailFault};
+use mailbox_mail::{Mail, MailFault};
 
 /// The services of a slave: they take mails, and have mails waiting to be offered.
 pub trait Server {

@@ -14,8 +14,8 @@ ghost use Rattle.mailbox_slave.specs.Exact.{with_mail, kept_noticed, last_repeat
 
 use crate::server::Server;
 use esc_registers::Esc;
-use esc_registers::mailbox_mail::{Mail, MailFault, error_mail, read_into, view};
 use link_mails::{is_repeat, next_counter};
+use mailbox_mail::{Mail, MailFault, error_mail, read_into, view};
 use std::marker::Model;
 
 /// What a slave keeps of its mails: which was taken last, and which it may have to offer again. The

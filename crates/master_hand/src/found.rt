@@ -13,12 +13,10 @@ ghost use Rattle.master_hand.specs.Joins.{fragment_of, unfinished_by, completed_
 
 use crate::clients::Which;
 use arrayvec::ArrayVec;
-use coe_client::coe_codec;
-use coe_client::coe_codec::CoeView;
-use coe_client::ec_fields::refill;
-use eoe_client::eoe;
-use eoe_client::eoe::{Came, EoeView, Packet, Reassembler};
-use eoe_client::mailbox_mail::{Kind, Mail, MailView, Took};
+use coe_codec::CoeView;
+use ec_fields::refill;
+use eoe::{Came, EoeView, Packet, Reassembler};
+use mailbox_mail::{Kind, Mail, MailView, Took};
 
 /// What the mail heard last brought besides a reply to a service of the master's own.
 #[derive(Clone, Copy)]

@@ -7,9 +7,9 @@ ghost use Rattle.master_hand.specs.declared.laying.Laid.{Laid};
 
 use crate::clients::{Clients, Which};
 use crate::passed::Content;
-use coe_client::ec_fields::{Rows, buffer_of, refill};
-use eoe_client::eoe::Packet;
-use eoe_client::mailbox_mail::Kind;
+use ec_fields::{Rows, buffer_of, refill};
+use eoe::Packet;
+use mailbox_mail::Kind;
 use segment_plan::Service;
 use std::marker::Model;
 

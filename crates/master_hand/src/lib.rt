@@ -11,11 +11,8 @@ mod passed;
 mod telling;
 
 pub use clients::{Clients, Which};
-pub use coe_client::object_dictionary;
 pub use course::Course;
-pub use eoe_client::mailbox_mail;
 pub use found::{Brought, Found};
 pub use hand::InHand;
 pub use laying::{Laid, Laying};
 pub use passed::{Content, PassedMail};
-pub use segment_plan;

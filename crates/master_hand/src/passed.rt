@@ -11,11 +11,9 @@ ghost use Rattle.master_hand.specs.Spoken.{followed_by};
 ghost use Rattle.master_hand.specs.Passed.{body_of, mail_of, passed_left, passed_awaits, PassedTook};
 
 use arrayvec::ArrayVec;
-use coe_client::coe_codec;
-use coe_client::coe_codec::CoeView;
-use coe_client::ec_fields::refill;
-use eoe_client::mailbox_mail::{Kind, Mail, Took};
-use soe_client::soe_codec;
+use coe_codec::CoeView;
+use ec_fields::refill;
+use mailbox_mail::{Kind, Mail, Took};
 
 /// A mail to nobody that isn't counted.
 #[derive(Drop)]

@@ -13,9 +13,9 @@ use crate::course::Course;
 use crate::found::Brought;
 use crate::hand::InHand;
 use arrayvec::ArrayVec;
-use coe_client::ec_fields::{NoMemory, Octets};
-use eoe_client::eoe::Packet;
-use eoe_client::mailbox_mail::{Mail, ReplyKind};
+use ec_fields::{NoMemory, Octets};
+use eoe::Packet;
+use mailbox_mail::{Mail, ReplyKind};
 use segment_plan::Service;
 
 impl InHand {

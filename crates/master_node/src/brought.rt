@@ -9,9 +9,9 @@ ghost use Rattle.life_runs.specs.of_master_side.Heard.{Brought};
 
 use crate::node::MasterNode;
 use arrayvec::ArrayVec;
-use eoe_switch::eoe::Packet;
-use life_runs::master_hand::InHand;
-use life_runs::master_side::Side;
+use eoe::Packet;
+use master_hand::InHand;
+use master_side::Side;
 
 // The emergency that the last returned frame brought.
 fn emergency_of(side: &Side<InHand>) -> Option<&ArrayVec<u8, 8>>

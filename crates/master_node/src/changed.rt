@@ -9,7 +9,7 @@ ghost use Rattle.life_runs.specs.of_state_model.Accounts.{Account};
 ghost use Rattle.master_node.specs.Changed.{TellsChange};
 
 use crate::node::MasterNode;
-use life_runs::master_duty::Met;
+use master_duty::Met;
 
 /// What became of the newest change of state since a slave was opened.
 #[derive(Clone, Copy)]

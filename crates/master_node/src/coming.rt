@@ -5,9 +5,9 @@ ghost use Rattle.master_node.specs.Coming.{wish_of, IsComing};
 ghost use Rattle.master_node.specs.Starts.{IsByMails, NeverBegins};
 ghost use Rattle.master_node.specs.declared.coming.Coming.{Coming};
 
-use life_runs::master_hand::InHand;
-use life_runs::master_side::{Target, Wish};
-use life_runs::segment_plan::Service;
+use master_hand::InHand;
+use master_side::{Target, Wish};
+use segment_plan::Service;
 
 /// What may come into hand at a visit.
 #[derive(Clone, Copy)]

@@ -1,9 +1,9 @@
 ghost use Rattle.std.specs.Prelude.{◌≡◌, ◌==◌, ◌++◌, ◌∷◌, [], if◌then◌else◌, IfOk, OnOk};
 ghost use Rattle.master_node.specs.Scripts.{script_for};
 
-use eoe_switch::ec_fields::{NoMemory, Octets, Rows, buffer_of};
-use life_runs::object_dictionary::SdoService;
-use life_runs::segment_plan::Service;
+use ec_fields::{NoMemory, Octets, Rows, buffer_of};
+use object_dictionary::SdoService;
+use segment_plan::Service;
 use std::alloc::Global;
 
 // A service of CoE of its own.

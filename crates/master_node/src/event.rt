@@ -1,8 +1,8 @@
 ghost use Rattle.std.specs.Prelude.{◌≡◌, ◌≤◌, ◌<◌, ◌++◌, ◌∷◌, [], IfOk, vec_len};
 
 use arrayvec::ArrayVec;
-use eoe_switch::ec_fields::NoMemory;
-use life_runs::mailbox_mail::{Mail, ReplyKind};
+use ec_fields::NoMemory;
+use mailbox_mail::{Mail, ReplyKind};
 use std::alloc::Global;
 
 /// Where a service comes from, and its number among those of its slave from there, counted from 0.

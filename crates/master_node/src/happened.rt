@@ -1,7 +1,7 @@
 ghost use Rattle.std.specs.Prelude.{◌≡◌, ◌≤◌, ◌<◌, ◌+◌, ◌++◌, ◌∷◌, [], length, IfOk};
 
+use ec_fields::NoMemory;
 use eoe_switch::SwitchEvent;
-use eoe_switch::ec_fields::NoMemory;
 use std::alloc::Global;
 use std::marker::Model;
 

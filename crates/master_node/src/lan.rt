@@ -8,10 +8,10 @@ ghost use Rattle.master_node.specs.Forwards.{port_by, forwarded};
 
 use crate::happened::{Happening, Happenings};
 use arrayvec::ArrayVec;
-use eoe_switch::ec_fields::{NoMemory, Rows, buffer_of};
-use eoe_switch::eoe::Packet;
+use ec_fields::{NoMemory, Rows, buffer_of};
+use eoe::Packet;
 use eoe_switch::{Ports, Switch, SwitchEvent};
-use life_runs::segment_plan::{Scenario, SlaveSpec};
+use segment_plan::{Scenario, SlaveSpec};
 use std::alloc::Global;
 
 /// The port of the host.

@@ -4,10 +4,10 @@ ghost use Rattle.std.specs.Prelude.{◌≡◌, ◌≤◌, ◌<◌, ◌+◌, suc,
 ghost use Rattle.life_runs.specs.of_master_hand.declared.laying.Laid.{Laid};
 ghost use Rattle.master_node.specs.Kept.{SideKept};
 
-use eoe_switch::eoe::Packet;
-use life_runs::mailbox_mail::Mail;
-use life_runs::master_hand::InHand;
-use life_runs::master_side::Side;
+use eoe::Packet;
+use mailbox_mail::Mail;
+use master_hand::InHand;
+use master_side::Side;
 
 /// A packet is laid ready.
 pub fn lay_packet(side: &mut Side<InHand>, packet: &Packet)

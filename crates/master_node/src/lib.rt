@@ -21,9 +21,7 @@ mod told;
 mod wants;
 
 pub use changed::Changed;
-pub use eoe_switch;
 pub use event::{Event, Origin};
 pub use happened::Happening;
-pub use life_runs::datagrams;
 pub use node::{MasterNode, Next};
 pub use told::Told;

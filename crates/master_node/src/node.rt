@@ -6,10 +6,10 @@ use crate::happened::Happening;
 use crate::lan::Lan;
 use crate::laying::pass_by;
 use crate::post::{Post, Work};
-use life_runs::datagrams::FrameBuf;
-use life_runs::mailbox_mail::Mail;
-use life_runs::master_hand::InHand;
-use life_runs::master_tour::{Stand, Tour};
+use datagrams::FrameBuf;
+use mailbox_mail::Mail;
+use master_hand::InHand;
+use master_tour::{Stand, Tour};
 
 /// The most slaves of a segment.
 const SLAVES: usize = 16;

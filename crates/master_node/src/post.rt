@@ -2,8 +2,8 @@ ghost use Rattle.std.specs.Prelude.{◌≡◌, ◌↔◌, [], false, length, IfO
 
 use crate::event::Origin;
 use circular_buffer::HeapCircularBuffer;
-use eoe_switch::ec_fields::{NoMemory, buffer_of};
-use life_runs::mailbox_mail::{Mail, ReplyKind};
+use ec_fields::{NoMemory, buffer_of};
+use mailbox_mail::{Mail, ReplyKind};
 use std::alloc::Global;
 
 /// How many mails that are passed on may wait for a slave.

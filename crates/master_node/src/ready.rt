@@ -7,7 +7,7 @@ use crate::event::Origin;
 use crate::laying::{lay_mail, lay_nothing, lay_packet, lay_script};
 use crate::node::MasterNode;
 use crate::post::Work;
-use life_runs::master_tour::Stand;
+use master_tour::Stand;
 
 impl MasterNode {
     ghost use Rattle.std.specs.Prelude.{◌≡◌, ◌<◌, vec_len};

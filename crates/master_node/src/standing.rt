@@ -4,8 +4,8 @@ ghost use Rattle.std.specs.Prelude.{◌≡◌};
 ghost use Rattle.master_node.specs.Standing.{leaves, is_up};
 
 use crate::node::MasterNode;
-use life_runs::al_state::BringStep;
-use life_runs::master_tour::Stand;
+use al_state::BringStep;
+use master_tour::Stand;
 
 // Whether a slave is opened anew and wasn't seen in Init yet.
 fn leaves(stand: Stand) -> bool

@@ -15,13 +15,13 @@ use crate::event::EventList;
 use crate::lan::Lan;
 use crate::node::MasterNode;
 use crate::post::Post;
+use al_state::bring_new;
 use arrayvec::ArrayVec;
-use eoe_switch::ec_fields::NoMemory;
-use life_runs::al_state::bring_new;
-use life_runs::master_hand::InHand;
-use life_runs::master_side::Side;
-use life_runs::master_tour::{Stand, Stop, Tour};
-use life_runs::segment_plan::{Scenario, SlaveSpec};
+use ec_fields::NoMemory;
+use master_hand::InHand;
+use master_side::Side;
+use master_tour::{Stand, Stop, Tour};
+use segment_plan::{Scenario, SlaveSpec};
 use std::alloc::Global;
 
 // The side of a slave: nothing is in hand, and its script is its own.

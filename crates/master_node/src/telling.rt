@@ -6,12 +6,12 @@ ghost use Rattle.master_node.specs.Downs.{is_given_up};
 use crate::event::Event;
 use crate::node::MasterNode;
 use crate::post::{Work, bare};
-use eoe_switch::ec_fields::buffer_of;
-use life_runs::datagrams::FrameBuf;
-use life_runs::mailbox_mail::ReplyKind;
-use life_runs::master_duty::Met;
-use life_runs::master_side::Heard;
-use life_runs::master_tour::{Stand, Turned};
+use datagrams::FrameBuf;
+use ec_fields::buffer_of;
+use mailbox_mail::ReplyKind;
+use master_duty::Met;
+use master_side::Heard;
+use master_tour::{Stand, Turned};
 
 // Whether a frame turned a slave into one that is given up.
 fn is_given_up(news: Option<Turned>) -> bool

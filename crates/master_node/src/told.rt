@@ -10,9 +10,9 @@ ghost use Rattle.life_runs.specs.of_master_hand.Spoken.{Asked};
 ghost use Rattle.master_node.specs.Told.{Tells, has_value, value_in};
 
 use crate::node::MasterNode;
-use eoe_switch::ec_fields::{NoMemory, Octets};
-use life_runs::mailbox_mail::ReplyKind;
-use life_runs::master_hand::InHand;
+use ec_fields::{NoMemory, Octets};
+use mailbox_mail::ReplyKind;
+use master_hand::InHand;
 
 /// What became of the newest service by mails of a slave.
 #[derive(Clone, Copy)]

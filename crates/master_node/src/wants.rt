@@ -8,10 +8,10 @@ ghost use Rattle.master_node.specs.Resting.{SideRests};
 ghost use Rattle.master_node.specs.Wants.{IsQuiet, gave_more};
 
 use crate::node::MasterNode;
-use life_runs::mailbox_master::InwardHalf;
-use life_runs::master_hand::InHand;
-use life_runs::master_side::Side;
-use life_runs::master_tour::Stand;
+use mailbox_master::InwardHalf;
+use master_hand::InHand;
+use master_side::Side;
+use master_tour::Stand;
 
 // Whether a slave's link is at rest: no mail is held, and nothing is asked again.
 fn is_at_rest(side: &Side<InHand>) -> bool

@@ -16,9 +16,9 @@ ghost use Rattle.master_side.specs.Heard.{view_in};
 
 use crate::carried::Carried;
 use crate::passing::is_full;
+use ec_fields::u16_at;
+use mailbox_mail::MailView;
 use mailbox_master::GotView;
-use mailbox_master::ec_fields::u16_at;
-use mailbox_master::mailbox_mail::MailView;
 use master_duty::{Duty, Met};
 
 /// The mail that was accepted.

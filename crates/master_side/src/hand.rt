@@ -2,7 +2,7 @@
 
 ghost use Rattle.std.specs.Prelude.{◌≡◌};
 
-use mailbox_master::mailbox_mail::{Kind, MailView};
+use mailbox_mail::{Kind, MailView};
 
 /// What a mail that was accepted is to the service in hand.
 #[derive(Clone, Copy)]

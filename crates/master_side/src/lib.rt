@@ -11,11 +11,6 @@ mod sending;
 mod side;
 
 pub use carried::{Carried, Target, Wish};
-pub use frame_view;
 pub use hand::{Hand, Heard};
-pub use mailbox_master;
-pub use mailbox_master::datagrams;
-pub use master_duty;
-pub use master_duty::al_state;
 pub use passing::Passing;
 pub use side::Side;

@@ -6,7 +6,7 @@ ghost use Rattle.master_side.specs.Passes.{told_by, written_by, full_by, heard_b
 
 use crate::carried::Carried;
 use crate::hand::Heard;
-use mailbox_master::ec_fields::bits;
+use ec_fields::bits;
 
 /// How far a mail that is passed on has come.
 #[derive(Clone, Copy)]

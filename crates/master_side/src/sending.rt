@@ -11,9 +11,9 @@ use crate::carried::{Carried, Wish};
 use crate::hand::Hand;
 use crate::passing::Passing;
 use crate::side::Side;
-use mailbox_master::datagrams::register::{AL_CONTROL, AL_STATUS, MANAGER_0, MANAGER_STATUS};
-use mailbox_master::datagrams::{Command, FrameBuf};
-use mailbox_master::{InwardHalf, datagrams, head_of};
+use datagrams::register::{AL_CONTROL, AL_STATUS, MANAGER_0, MANAGER_STATUS};
+use datagrams::{Command, FrameBuf};
+use mailbox_master::{InwardHalf, head_of};
 use master_duty::Errand;
 
 impl<H: Hand> Side<H> {

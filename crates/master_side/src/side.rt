@@ -6,7 +6,7 @@ use crate::back::{duty_left, duty_met, view_in};
 use crate::carried::{Carried, Target, Wish};
 use crate::hand::{Hand, Heard};
 use crate::passing::{Passing, empty, heard, status_passed, told, written};
-use mailbox_master::mailbox_mail::MailView;
+use mailbox_mail::MailView;
 use mailbox_master::{InwardHalf, OutwardSeat, new_inward};
 use master_duty::{Duty, Met};
 

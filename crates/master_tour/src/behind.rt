@@ -3,8 +3,8 @@
 ghost use Rattle.std.specs.Prelude.{◌≡◌};
 
 use crate::tour::Tour;
-use master_side::datagrams::FrameBuf;
-use master_side::{Hand, datagrams};
+use datagrams::FrameBuf;
+use master_side::Hand;
 
 impl<H: Hand> Tour<H> {
     ghost use Rattle.std.specs.Prelude.{◌≡◌, ◌≤◌, ◌<◌, ◌-◌, ℕ, List, length, true, ◌+◌, Option, Some, Bool, false, not, nat_lt, ◌&&◌, if◌then◌else◌, None};

@@ -2,8 +2,7 @@ ghost use Rattle.std.specs.Prelude.{List};
 ghost use Rattle.master_side.specs.of_datagrams.Datagram as Raw;
 ghost use Rattle.master_side.specs.of_datagrams.Frame.{IsFrame, IsPart};
 
-use master_side::datagrams;
-use master_side::datagrams::Part;
+use datagrams::Part;
 
 /// A place in a frame that reads: one of its datagrams, with its number, from 0 on.
 #[derive(Clone, Copy)]

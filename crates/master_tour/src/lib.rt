@@ -10,7 +10,5 @@ mod tour;
 mod visiting;
 
 pub use cursor::Cursor;
-pub use master_side;
-pub use master_side::{al_state, frame_view, mailbox_master, master_duty};
 pub use stop::{Stand, Stop, Turned};
 pub use tour::Tour;

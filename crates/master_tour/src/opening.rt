@@ -6,8 +6,8 @@ ghost use Rattle.master_tour.specs.Stands.{turned_by};
 
 use crate::cursor::Cursor;
 use crate::stop::{Stand, Stop, Turned, body_of};
+use al_state::{BringUp, came_back, cleared};
 use master_side::Hand;
-use master_side::al_state::{BringUp, came_back, cleared};
 
 // How the master stands to a slave behind an access of its opening.
 fn stand_behind(is_up: bool, up: BringUp) -> Stand

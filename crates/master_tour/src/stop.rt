@@ -2,8 +2,8 @@ ghost use Rattle.std.specs.Prelude.{◌≡◌, ◌+◌, take, drop, true, nat_lt
 ghost use Rattle.master_side.specs.of_datagrams.Frame.{IsPart};
 
 use crate::cursor::Cursor;
-use master_side::al_state::{BringUp, reopen_new};
-use master_side::datagrams::Part;
+use al_state::{BringUp, reopen_new};
+use datagrams::Part;
 use master_side::{Hand, Side};
 
 /// How the master stands to a slave.

@@ -3,8 +3,8 @@ ghost use Rattle.std.specs.Prelude.{◌≡◌, ℕ, List};
 use crate::cursor::Cursor;
 use crate::stop::Stop;
 use arrayvec::ArrayVec;
-use master_side::datagrams::FrameBuf;
-use master_side::{Hand, Wish, datagrams};
+use datagrams::FrameBuf;
+use master_side::{Hand, Wish};
 
 /// All slaves of a master, in ring order, and where their tour stands.
 #[derive(Drop)]

@@ -4,10 +4,10 @@ ghost use Rattle.std.specs.Prelude.{◌≡◌, ◌≤◌, length};
 ghost use Rattle.master_side.specs.of_al_state.BringUp.{octets_of};
 
 use crate::stop::{Stand, Stop};
+use al_state::{BringStep, BringUp, access};
 use arrayvec::ArrayVec;
-use master_side::al_state::{BringStep, BringUp, access};
-use master_side::datagrams::{FrameBuf, Head};
-use master_side::{Hand, Wish, datagrams};
+use datagrams::{FrameBuf, Head};
+use master_side::{Hand, Wish};
 
 // How many octets the access of an opening has.
 fn access_len(up: &BringUp) -> usize

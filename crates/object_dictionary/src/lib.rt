@@ -13,7 +13,6 @@ mod service;
 mod whole;
 
 pub use accepts::are_small;
-pub use ec_fields;
 pub use entry::EntrySpec;
 pub use kinds::{is_string, size_of_kind};
 pub use objects::Objects;

@@ -22,9 +22,6 @@ ghost use Rattle.packets_heard.specs.Servings.{served_joined, served_times};
 ghost use Rattle.master_node.specs.of_life_runs.Served.{Serves, IsServedLed};
 ghost use Rattle.std.specs.Prelude.{◌≡◌, ◌≤◌, ◌++◌, ℕ, None, List, length};
 
-pub use slave_server;
-pub use slave_server::slave_node;
-
 /// FRAME BY FRAME a slave's packets are joined as from its mails at once: over a run they are, in order, just those that the mails of each time that it
 /// was open join to, with nothing unfinished before. And where the fragments of such a time are the first of those of packets that the slave sent, the
 /// first of these packets are joined, each whole as sent; of all fragments all packets are.

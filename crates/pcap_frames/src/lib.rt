@@ -9,7 +9,6 @@ mod reading;
 mod writing;
 
 pub use capture::{Capture, PacketAt, PcapFault, Stamp};
-pub use ec_fields;
 pub use laws::written_law;
 pub use reading::read;
 pub use writing::{write_head, write_packet};

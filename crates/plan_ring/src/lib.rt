@@ -55,11 +55,6 @@ pub mod run_answers;
 pub mod server_lives;
 pub mod slave_clocks;
 
-pub use run_frames;
-pub use run_frames::{frame_view, life_runs};
-pub use scenario;
-pub use slave_server::slave_parts;
-
 /// The services of a slave of a plan, as the master asks for them, are such as the laws of whole lives speak of; and the master speaks of them as
 /// their own client does, but for mails that are passed on.
 pub fn asked_whole_law()

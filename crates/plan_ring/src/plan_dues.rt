@@ -11,8 +11,6 @@ ghost use Rattle.plan_ring.specs.Asked.{asked};
 ghost use Rattle.plan_ring.specs.Lives.{IsKnown};
 ghost use Rattle.slave_server.specs.of_slave_model.Profile.{Profile, IsProfile};
 
-use slave_server::slave_parts;
-
 /// A SLAVE OF A PLAN, with the services that its master asks for, has a client that hears first.
 pub fn asked_hears_law()
     ensures { (p : Profile) → IsProfile p → (boot : Bool) (lens : ℕ → Lens) → HearsFirst (asked p boot lens).exchange }

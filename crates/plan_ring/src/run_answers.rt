@@ -15,8 +15,6 @@ ghost use Rattle.slave_server.specs.of_segment_plan.Bound.{slowest};
 ghost use Rattle.slave_server.specs.of_segment_plan.Sound.{IsPlan};
 ghost use Rattle.slave_server.specs.of_segment_plan.declared.plan.Scenario.{Scenario};
 
-use run_frames::frame_view;
-
 /// EACH SLAVE OF A PLAN'S RING ANSWERS what awaits a step of its processor, by each frame of a run that came back, where its frames went round the ring
 /// and ask by the inward half first: behind a step it shows the state that its opening awaits, and acknowledges the repeat request.
 pub fn answer_law()

@@ -18,8 +18,6 @@ ghost use Rattle.slave_server.specs.of_slave_node.Node.{Node};
 ghost use Rattle.plan_ring.specs.Real.{running_as, real, real_clearing, StepsAs};
 ghost use Rattle.plan_ring.specs.Rooms.{IsSound};
 
-use slave_server::slave_parts;
-
 /// The services of a slave of a plan are those of its exchange, in each AL state, a return to Init
 /// clears them, and its steps are theirs.
 pub fn real_server_law()

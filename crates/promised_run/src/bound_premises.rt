@@ -11,8 +11,6 @@ ghost use Rattle.run_promises.specs.of_segment_plan.Sound.{IsPlan};
 ghost use Rattle.run_promises.specs.of_segment_plan.declared.plan.Scenario.{Scenario};
 ghost use Rattle.std.specs.Prelude.{ℕ, List};
 
-use seen_slaves::frame_view;
-
 /// THE FRAMES OF A MASTER'S TOUR ARE THE VISITS THAT THE COUNT OF FRAMES SPEAKS OF, frame by frame, with the slaves that come again, as many that have
 /// ended their first bring-up, and as many frames lost in a row; and each asks by the inward half first.
 pub fn toured_law()

@@ -18,8 +18,6 @@ ghost use Rattle.run_promises.specs.of_segment_plan.Bound.{bound_of};
 ghost use Rattle.run_promises.specs.of_segment_plan.Sound.{IsPlan};
 ghost use Rattle.run_promises.specs.of_segment_plan.declared.plan.Scenario.{Scenario};
 
-use seen_slaves::run_work;
-
 /// THE FRAMES OF A BOOK ARE FEWER THAN THE BOUND, whatever frames are lost, unless memory ran out: its packets are those of one switch by the events of the book,
 /// where its frames are a run of the plan.
 pub fn bounded_law()

@@ -29,8 +29,6 @@ ghost use Rattle.run_promises.specs.of_life_runs.Served.{IsServedLed, Serves, al
 ghost use Rattle.seen_slaves.specs.Eager.{ServedEagerIn};
 ghost use Rattle.std.specs.Prelude.{◌≡◌, ◌<◌, ◌≤◌, ◌+◌, ◌*◌, ◌++◌, ℕ, All, List, Option, length};
 
-use seen_slaves::served_rings;
-
 /// THE FRAMES OF A SERVING COUNT AS THOSE OF ITS PLAN, where they are the visits of one tour, each asks by the inward half first, its master makes no visit in vain
 /// where more could go on, and they went round the plan's ring: its slaves answer, and some waits yet while nothing is gained. So with quiet mails asked between
 /// them, no more than so many, and with just the events of its switch that the frames list, they are fewer than the bound.

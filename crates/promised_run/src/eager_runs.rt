@@ -16,9 +16,6 @@ ghost use Rattle.run_promises.specs.of_segment_plan.Sound.{IsPlan};
 ghost use Rattle.run_promises.specs.of_segment_plan.declared.plan.Scenario.{Scenario};
 ghost use Rattle.run_promises.specs.of_packets_heard.Toured.{IsToured};
 
-use run_promises::plan_ring;
-use seen_slaves::{frame_view, idle_slaves};
-
 /// THE FRAMES OF A TOUR ARE A RUN OF THE PLAN whose count has a bound, where frame by frame its master makes no visit in vain by what it remembers: of those that
 /// gained nothing, with nothing to repair and no packet of the host, each leaves some slave waiting. And no more let packets of the host in than it has.
 pub fn eager_run_law()

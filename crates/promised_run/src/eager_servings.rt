@@ -18,9 +18,6 @@ ghost use Rattle.run_promises.specs.of_segment_plan.declared.plan.Scenario.{Scen
 ghost use Rattle.run_promises.specs.of_life_runs.Served.{Serves, all_serve};
 ghost use Rattle.std.specs.Prelude.{◌≡◌, ◌++◌, ℕ, List};
 
-use run_promises::plan_ring;
-use seen_slaves::{frame_view, served_rings};
-
 /// THE FRAMES OF A MASTER'S SERVING COUNT, where frame by frame the master makes no visit in vain by what it remembers: of those that gained nothing, with nothing to
 /// repair, each was made with something left to do, but for as many as the host has packets, and six for each mail that was asked. And no more let packets of the host in
 /// than it has.

@@ -20,19 +20,17 @@ pub mod served_books;
 pub mod toured_servings;
 
 use crate::bounded_runs::fewer_law;
-use gateway_run::run_book::{Book, Ending};
-use gateway_run::run_record;
-use gateway_run::segment_plan::Scenario;
+use life_runs::epochs_law;
+use life_runs::served_runs::run_served_law;
+use plan_ring::plan_dues::plan_due_law;
+use plan_ring::plan_rooms::room_law;
+use run_book::{Book, Ending};
+use run_frames::script_runs::script_run_law;
 use run_promises::accepted_mails::accepted_law;
-use run_promises::life_runs::epochs_law;
-use run_promises::life_runs::served_runs::run_served_law;
-use run_promises::plan_ring::plan_dues::plan_due_law;
-use run_promises::plan_ring::plan_rooms::room_law;
-use run_promises::run_frames::script_runs::script_run_law;
 use run_promises::whole_packets::whole_packets_law;
 use run_promises::{read_promise_law, rest_promise_law};
-pub use seen_slaves::scenario;
-use seen_slaves::served_rings::served_replies::served_replies_law;
+use segment_plan::Scenario;
+use served_rings::served_replies::served_replies_law;
 use std::alloc::Global;
 
 /// Runs a plan that was read, as `run_record` does. Whatever frames are lost, each slave begins just the first services of its script, each once and

@@ -21,19 +21,19 @@ ghost use Rattle.promised_run.specs.Visits.{IsServedVisited};
 ghost use Rattle.promised_run.specs.Written.{IsServedWritten};
 
 use crate::fewer_servings::fewer_law;
-use gateway_run::ec_outside::Port;
-use gateway_run::run_book::{Book, Ending};
-use gateway_run::segment_plan::Scenario;
+use ec_outside::Port;
+use life_runs::served_runs::{asked_law, opened_law, told_law};
+use plan_ring::plan_rooms::room_law;
+use run_book::{Book, Ending};
 use run_promises::accepted_mails::accepted_law;
-use run_promises::life_runs::served_runs::{asked_law, opened_law, told_law};
-use run_promises::plan_ring::plan_rooms::room_law;
 use run_promises::whole_packets::whole_packets_law;
-use seen_slaves::served_rings::given_rows::given_law;
-use seen_slaves::served_rings::heard_stays::heard_stays;
-use seen_slaves::served_rings::served_replies::served_replies_law;
-use seen_slaves::served_rings::served_rests::served_rests_law;
-use seen_slaves::served_rings::told_eras::told_eras_law;
 use seen_slaves::served_waits::served_due_law;
+use segment_plan::Scenario;
+use served_rings::given_rows::given_law;
+use served_rings::heard_stays::heard_stays;
+use served_rings::served_replies::served_replies_law;
+use served_rings::served_rests::served_rests_law;
+use served_rings::told_eras::told_eras_law;
 use std::alloc::Global;
 
 /// Serves a plan that was read, as `gateway_run` does. At each moment, whatever frames are lost, each slave has carried out in each epoch just the first of the

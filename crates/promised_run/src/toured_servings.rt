@@ -11,8 +11,6 @@ ghost use Rattle.run_promises.specs.of_life_runs.Served.{Serves, all_serve};
 ghost use Rattle.std.specs.Prelude.{List};
 ghost use Rattle.promised_run.specs.TouredTours.{IsCounted};
 
-use seen_slaves::frame_view;
-
 /// THE FRAMES OF A MASTER'S SERVING ARE THE VISITS THAT THE COUNT OF FRAMES SPEAKS OF, frame by frame and mail by mail, with the slaves that come again, as many
 /// that have ended their first bring-up, and as many frames lost in a row; and each asks by the inward half first.
 pub fn toured_law()

@@ -7,10 +7,3 @@ pub mod coe_model;
 pub mod eoe_model;
 pub mod foe_model;
 pub mod soe_model;
-
-pub use coe_codec;
-pub use coe_codec::ec_fields;
-pub use eoe;
-pub use foe_codec;
-pub use mailbox_mail;
-pub use soe_codec;

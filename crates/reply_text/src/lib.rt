@@ -2,7 +2,3 @@
 #![tactic(auto)]
 
 mod reply;
-
-pub use mailbox_mail;
-pub use mailbox_mail::ec_fields;
-pub use reply::reply_text;

@@ -1,8 +1,8 @@
 ghost use Rattle.std.specs.Prelude.{◌≡◌, ◌++◌, codes, IfOk};
 ghost use Rattle.reply_text.specs.Reply.{hex_of, value_text, kind_text};
 
+use ec_fields::{NoMemory, Octets};
 use mailbox_mail::ReplyKind;
-use mailbox_mail::ec_fields::{NoMemory, Octets};
 use std::alloc::Global;
 
 fn text_of_value(alloc: Global, value: &[u8]) -> Result<Octets, NoMemory>

@@ -7,7 +7,6 @@ mod page;
 mod row;
 mod table;
 
-pub use ec_fields;
 pub use page::Page;
 pub use row::Row;
 pub use table::{Bench, tell};

@@ -1,13 +1,13 @@
 ghost use Rattle.run_book.specs.Book.{IsNew};
 
+use ec_fields::{Octets, Rows};
 use ec_outside::Peer;
-use ec_outside::ec_fields::{Octets, Rows};
+use eoe_switch::SwitchEvent;
+use mailbox_mail::ReplyKind;
 use master_node::Origin;
-use master_node::eoe_switch::SwitchEvent;
+use segment_ring::Fate;
+use slave_node::SlaveNode;
 use slave_server::SlaveServer;
-use slave_server::mailbox_mail::ReplyKind;
-use slave_server::segment_ring::Fate;
-use slave_server::slave_node::SlaveNode;
 use std::alloc::Global;
 
 /// What a service came to, and the value that it brought.

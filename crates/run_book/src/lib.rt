@@ -8,7 +8,3 @@ pub mod life_heard;
 pub use book::{
     Answer, Begun, Book, Emergency, Ending, Epoch, GramIn, GramOut, Reply, SentFrame, SlaveBook,
 };
-pub use ec_outside::ec_fields;
-pub use master_node;
-pub use master_node::{datagrams, eoe_switch};
-pub use slave_server::{mailbox_mail, segment_plan, segment_ring};

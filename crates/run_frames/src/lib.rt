@@ -31,9 +31,6 @@ ghost use Rattle.run_frames.specs.Runs.{Progress, IsRun};
 ghost use Rattle.run_frames.specs.States.{states_all};
 ghost use Rattle.run_frames.specs.Toured.{IsToured, AskIn, AnswerIn, WaitIn};
 
-pub use life_runs;
-pub use life_runs::{datagrams, frame_view};
-
 /// BEFORE THE FIRST FRAME the tally of a ring is new: each slave is brought up by five accesses and the wait for one step, one slave behind the other.
 pub fn begins_law<M, Q, R>()
     ensures { (slowest : ℕ) (last : Option ℕ) (cs : List (Clocked M Q R)) → AllNew cs → tally_of slowest (length cs) 0 last 0 0 0 cs ≡ new_tally (length cs * (5 + slowest)) }

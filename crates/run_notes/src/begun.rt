@@ -8,8 +8,8 @@ ghost use Rattle.run_notes.specs.Stays.{StaysMaking};
 
 use crate::log::note_began;
 use crate::standing::Log;
-use run_book::ec_fields::NoMemory;
-use run_book::master_node::{Event, Origin};
+use ec_fields::NoMemory;
+use master_node::{Event, Origin};
 
 impl Log {
     ghost use Rattle.std.specs.Prelude.{◌∷◌, [], OnOk};

@@ -9,8 +9,8 @@ ghost use Rattle.run_notes.specs.Reports.{KeepsReports, ReportsOn, PassesAll};
 ghost use Rattle.run_notes.specs.Times.{GoesBehind, KeepsTime, behind};
 
 use crate::standing::Log;
-use run_book::ec_fields::{NoMemory, Octets};
-use run_book::master_node::MasterNode;
+use ec_fields::{NoMemory, Octets};
+use master_node::MasterNode;
 use std::alloc::Global;
 
 impl Log {

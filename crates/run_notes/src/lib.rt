@@ -14,6 +14,4 @@ mod switching;
 
 pub use log::Moment;
 pub use notes::{Awaited, Notes};
-pub use run_book;
-pub use run_book::{ec_fields, mailbox_mail, master_node, segment_plan, segment_ring};
 pub use standing::{AskedMail, Log};

@@ -17,11 +17,11 @@ ghost use Rattle.run_notes.specs.Times.{Goes, KeepsTime, TimesStay, behind};
 
 use crate::notes::Notes;
 use crate::standing::{AskedMail, Log};
-use run_book::ec_fields::{NoMemory, Octets, Rows};
-use run_book::mailbox_mail::ReplyKind;
-use run_book::master_node::{Event, MasterNode, Origin};
-use run_book::segment_plan::{Scenario, Service, SlaveSpec};
+use ec_fields::{NoMemory, Octets, Rows};
+use mailbox_mail::ReplyKind;
+use master_node::{Event, MasterNode, Origin};
 use run_book::{Book, Reply};
+use segment_plan::{Scenario, Service, SlaveSpec};
 use std::alloc::Global;
 
 /// When something happened: with which frame, and how many frames had been sent then.

@@ -10,10 +10,10 @@ ghost use Rattle.run_notes.specs.Times.{GoesBehind, KeepsTime, TimesBehind, behi
 
 use crate::log::{Moment, station_of};
 use crate::standing::Log;
+use ec_fields::NoMemory;
+use master_node::MasterNode;
 use run_book::Book;
-use run_book::ec_fields::NoMemory;
-use run_book::master_node::MasterNode;
-use run_book::segment_ring::Fate;
+use segment_ring::Fate;
 use std::alloc::Global;
 
 // The station of the slave at a place and the length of its mailbox.

@@ -2,8 +2,8 @@ ghost use Rattle.std.specs.Prelude.{◌≡◌, ◌++◌, ◌∷◌, [], IfOk, On
 ghost use Rattle.run_notes.specs.Notes as the;
 ghost use Rattle.run_notes.specs.declared.notes.Awaited.TheVariants as Awaits;
 
-use run_book::ec_fields::{NoMemory, Octets, Rows};
-use run_book::master_node::Origin;
+use ec_fields::{NoMemory, Octets, Rows};
+use master_node::Origin;
 use run_book::{Answer, Begun, Emergency, Epoch, Reply};
 use std::alloc::Global;
 

@@ -11,10 +11,10 @@ ghost use Rattle.run_notes.specs.declared.notes.Awaited.TheVariants as Awaits;
 
 use crate::notes::{Awaited, Notes};
 use crate::standing::Log;
+use ec_fields::{NoMemory, Octets};
+use mailbox_mail::ReplyKind;
+use master_node::{Changed, MasterNode, Told};
 use run_book::Reply;
-use run_book::ec_fields::{NoMemory, Octets};
-use run_book::mailbox_mail::ReplyKind;
-use run_book::master_node::{Changed, MasterNode, Told};
 use std::alloc::Global;
 
 // What a master tells of the service by mails in hand, which awaits its reply. One of which it says nothing goes on awaiting it.

@@ -12,9 +12,9 @@ ghost use Rattle.run_notes.specs.Times.{TimesStay, making};
 
 use crate::log::Moment;
 use crate::standing::Log;
+use ec_fields::NoMemory;
+use master_node::MasterNode;
 use run_book::Book;
-use run_book::ec_fields::NoMemory;
-use run_book::master_node::MasterNode;
 use std::alloc::Global;
 
 impl Log {

@@ -2,8 +2,8 @@ ghost use Rattle.std.specs.Prelude.{◌≡◌};
 ghost use Rattle.run_notes.specs.Notes.{stations_of};
 
 use crate::notes::Notes;
-use run_book::ec_fields::{Octets, Rows};
-use run_book::mailbox_mail::Kind;
+use ec_fields::{Octets, Rows};
+use mailbox_mail::Kind;
 
 /// A mail that is passed on to a slave.
 #[derive(Drop)]

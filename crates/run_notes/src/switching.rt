@@ -14,10 +14,10 @@ ghost use Rattle.run_notes.specs.Times.{ReceivesAt, Time, TimesStay};
 
 use crate::log::Moment;
 use crate::standing::Log;
+use ec_fields::{NoMemory, Octets, Rows, buffer_of};
+use eoe_switch::SwitchEvent;
+use master_node::Happening;
 use run_book::Book;
-use run_book::ec_fields::{NoMemory, Octets, Rows, buffer_of};
-use run_book::eoe_switch::SwitchEvent;
-use run_book::master_node::Happening;
 use std::alloc::Global;
 
 /// The octets of a packet's addresses and its EtherType.

@@ -3,8 +3,6 @@
 
 ghost use Rattle.run_promises.specs.Laws.{RunsHear, ServingsHear};
 
-use served_rings::life_runs;
-
 /// THE MAILS ACCEPTED EACH TIME that a slave was open are just those that were heard in the rows of its epochs, in order, of each epoch that heard one: whatever
 /// frames are lost, whatever mails are passed on, and where slaves are given up, taken up again or returned to Init.
 pub fn accepted_law()

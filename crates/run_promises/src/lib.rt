@@ -24,8 +24,6 @@ ghost use Rattle.served_rings.specs.of_scenario.Told.{IsTold};
 ghost use Rattle.run_promises.specs.Promise.{Keeps};
 ghost use Rattle.run_promises.specs.Rest.{AllStayed, IsResting, NothingIsLeft, AllIsDone};
 
-pub use served_rings::{life_runs, plan_ring, run_frames};
-
 /// THE PROMISE OF A RUN, whatever frames are lost: of each slave just the first services of its script came into hand, with the packets of its port
 /// among them, and its application, which is that of the ring's node behind the frames, has carried out in each epoch just the first of these, each
 /// once and in order; each reply is that application's; and where nothing is left of an open slave all of them are carried out.

@@ -11,8 +11,6 @@ ghost use Rattle.packets_heard.specs.of_segment_plan.declared.plan.Scenario.{Sce
 ghost use Rattle.run_promises.specs.Sent.{AllSend};
 ghost use Rattle.std.specs.Prelude.{ℕ, List};
 
-use served_rings::plan_ring;
-
 /// WHAT A MASTER JOINED OF A SLAVE'S PACKETS over a run weighs no more, whatever each packet weighs, than what the services that came into hand of it may
 /// make it send: each service makes it send its packet once at most, in whatever epoch, whatever frames are lost and whoever is given up.
 pub fn sent_law()

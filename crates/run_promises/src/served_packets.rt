@@ -13,8 +13,6 @@ ghost use Rattle.run_promises.specs.Quiet.{AsksQuiet};
 ghost use Rattle.packets_heard.specs.of_life_runs.Served.{ServeTo, Serves};
 ghost use Rattle.std.specs.Prelude.{ℕ, All, List};
 
-use served_rings::{few_replies, life_runs};
-
 /// WHAT A MASTER JOINED OF A SLAVE'S PACKETS over a serving weighs no more, whatever each packet weighs, than what the services that came into hand of it may make
 /// it send: a mail that is passed on makes it send none, where it is fair and none of EoE, whatever frames are lost and whoever is given up.
 pub fn served_sent_law()

@@ -16,8 +16,6 @@ ghost use Rattle.served_rings.specs.of_run_work.Switched.{AreSwitched};
 ghost use Rattle.packets_heard.specs.of_segment_plan.Sound.{IsPlan};
 ghost use Rattle.packets_heard.specs.of_segment_plan.declared.plan.Scenario.{Scenario};
 
-use served_rings::{run_frames, run_work};
-
 /// THE PACKETS OF A RUN ARE THOSE OF ONE SWITCH, where its events are just those that the frames list, at the ports of the plan: just the packets of the host,
 /// the first of them, came in at its port, and at a slave's port just those that its mails complete; and those that came into hand began there, each the oldest.
 pub fn switched_run_law()

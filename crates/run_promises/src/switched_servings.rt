@@ -17,8 +17,6 @@ ghost use Rattle.packets_heard.specs.of_segment_plan.declared.plan.Scenario.{Sce
 ghost use Rattle.run_promises.specs.Quiet.{AsksQuiet};
 ghost use Rattle.packets_heard.specs.of_life_runs.Served.{ServeTo, Serves};
 
-use served_rings::{life_runs, run_work};
-
 /// THE PACKETS OF A SERVING ARE THOSE OF ONE SWITCH, where its events are just those that the frames list, at the ports of the plan, as over a run: whatever mails
 /// are asked between the frames, if they are fair and none of EoE.
 pub fn switched_serving_law()

@@ -108,7 +108,7 @@ module _ (areas : Areas) where
 
     begun_over : (t : Service Asked) → (account_begins y acknowledged made l.era.side a None (Some t)).started ≡ starts a t made → over ≡ true
     begun_over (Service.Mails q) e = begun_mails q (y.valid q) over e
-    begun_over (Service.State target) e = begun_state target over (is_acknowledged x acknowledged l.era.side l.era.side.now) e
+    begun_over (Service.State target) e = begun_state target over (is_acknowledged y acknowledged l.era.side l.era.side.now) e
 
     was_open : (account_next y acknowledged made l.era.side a (granted l.era.passing pick)).started ≡ starts a s made → over ≡ true
     was_open e = by l.era.passing a.hand refl refl

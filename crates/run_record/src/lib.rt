@@ -4,6 +4,5 @@
 mod running;
 mod session;
 
-pub use run_notes::{master_node, run_book, segment_plan};
 pub use running::run;
 pub use session::Session;

@@ -8,9 +8,9 @@ ghost use Rattle.run_record.specs.Led.{exchanged, AreLed, LedBook};
 ghost use Rattle.run_record.specs.Ran.{HasFrames, EndsSo, EndsAs};
 
 use crate::session::Session;
-use run_notes::ec_fields::NoMemory;
-use run_notes::run_book::{Book, Ending};
-use run_notes::segment_plan::Scenario;
+use ec_fields::NoMemory;
+use run_book::{Book, Ending};
+use segment_plan::Scenario;
 use std::alloc::Global;
 
 // How a session ends that is settled, or has spent its budget.

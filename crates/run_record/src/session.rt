@@ -18,16 +18,16 @@ ghost use Rattle.run_record.specs.Telling.{BringsBack, LivesGoOn, PacketsComeIn,
 ghost use Rattle.run_record.specs.Session.{budget_of, smaller_bound, rests_at, session_rows, first_session, are_at_rest, some_given_up, has_live, FrameEvents, IsDone, Steps, Stops, SwitchGrows, Asks};
 ghost use Rattle.run_notes.specs.Slaves.{slave_row, slave_rows, KeepsRest};
 
-use packets_heard::slave_node::SlaveNode;
-use packets_heard::slave_server::{SlaveServer, node_of};
-use run_notes::ec_fields::{NoMemory, Octets, Rows};
-use run_notes::mailbox_mail::Mail;
-use run_notes::master_node::{Event, MasterNode};
-use run_notes::run_book::{Book, Ending, SentFrame, SlaveBook};
-use run_notes::segment_plan::{Scenario, SlaveSpec, bound};
-use run_notes::segment_ring::{Fate, Ring, Wire};
+use datagrams::FrameBuf;
+use ec_fields::{NoMemory, Octets, Rows};
+use mailbox_mail::Mail;
+use master_node::{Event, MasterNode};
+use run_book::{Book, Ending, SentFrame, SlaveBook};
 use run_notes::{AskedMail, Log, Moment, Notes};
-use served_places::datagrams::FrameBuf;
+use segment_plan::{Scenario, SlaveSpec, bound};
+use segment_ring::{Fate, Ring, Wire};
+use slave_node::SlaveNode;
+use slave_server::{SlaveServer, node_of};
 use std::alloc::Global;
 use std::marker::Model;
 

@@ -1,8 +1,8 @@
-use run_book::datagrams::register::{
+use datagrams::register::{
     AL_CONTROL, AL_STATUS, IN_AREA, MANAGER_0, MANAGER_1, MANAGER_ACTIVATE, MANAGER_PDI_CONTROL,
     MANAGER_STATUS, OUT_AREA,
 };
-use run_book::datagrams::{Command, Head, Part};
+use datagrams::{Command, Head, Part};
 
 /// Where a slave is meant: by its station, or by its place in the ring, as ADP has that where no slave was passed.
 #[derive(Clone, Copy)]

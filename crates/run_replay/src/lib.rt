@@ -18,5 +18,3 @@ mod tracker;
 
 pub use measure::{Measured, Uncounted};
 pub use replay::{Replayed, replay};
-pub use run_book;
-pub use run_book::segment_plan;

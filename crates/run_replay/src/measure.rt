@@ -3,11 +3,11 @@ use crate::repair::Ring;
 use crate::sending::Sending;
 use crate::tally::Tally;
 use crate::tracker::Tracker;
+use datagrams::{Frame, FrameFault, read};
+use ec_fields::{NoMemory, Rows};
 use run_book::SentFrame;
-use run_book::datagrams::{Frame, FrameFault, read};
-use run_book::ec_fields::{NoMemory, Rows};
-use run_book::segment_plan::Scenario;
-use run_book::segment_ring::Fate;
+use segment_plan::Scenario;
+use segment_ring::Fate;
 use std::alloc::Global;
 
 /// What a run came to by the measure.

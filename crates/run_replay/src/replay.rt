@@ -2,13 +2,13 @@ ghost use Rattle.run_book.specs.of_segment_plan.Sound.{IsPlan};
 
 use crate::checksum::Checksum;
 use crate::measure::{Measured, Uncounted, count_frames};
-use run_book::datagrams::FrameBuf;
-use run_book::ec_fields::{NoMemory, Rows};
-use run_book::eoe_switch::SwitchEvent;
-use run_book::master_node::{MasterNode, Next};
-use run_book::segment_plan::Scenario;
-use run_book::segment_ring::Fate;
+use datagrams::FrameBuf;
+use ec_fields::{NoMemory, Rows};
+use eoe_switch::SwitchEvent;
+use master_node::{MasterNode, Next};
 use run_book::{Book, SentFrame};
+use segment_plan::Scenario;
+use segment_ring::Fate;
 use std::alloc::Global;
 
 /// What became of a run that was to be made again.

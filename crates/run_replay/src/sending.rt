@@ -1,8 +1,8 @@
 use crate::gram::{FrameView, Gram, Spot};
 use crate::tracker::Tracker;
+use datagrams::read;
+use ec_fields::{NoMemory, Rows};
 use run_book::SentFrame;
-use run_book::datagrams::read;
-use run_book::ec_fields::{NoMemory, Rows};
 use std::alloc::Global;
 
 /// A frame that was sent, and what became of it.

@@ -1,10 +1,9 @@
 ghost use Rattle.std.specs.Prelude.{◌≡◌, ◌++◌, length, IfOk, OnOk, OnErr};
 ghost use Rattle.run_report.specs.Report.{answer_text, answer_line, answer_lines, is_scripted, is_packet, is_handed, is_handed_kind, packets_handed, Extends};
 
-use pcap_frames::ec_fields::{NoMemory, Octets, Rows};
-use reply_text::mailbox_mail::ReplyKind;
-use reply_text::reply_text;
-use run_book::master_node::Origin;
+use ec_fields::{NoMemory, Octets, Rows};
+use mailbox_mail::ReplyKind;
+use master_node::Origin;
 use run_book::{Answer, Begun};
 use std::alloc::Global;
 

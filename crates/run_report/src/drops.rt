@@ -3,9 +3,9 @@ ghost use Rattle.run_book.specs.of_eoe_switch.Switch.{switched};
 ghost use Rattle.run_book.specs.Ports.{ports_of, IsAtPort};
 ghost use Rattle.run_report.specs.Drops.{behind, drops_at};
 
-use pcap_frames::ec_fields::NoMemory;
-use run_book::eoe_switch::{Switch, SwitchEvent};
-use run_book::segment_plan::SlaveSpec;
+use ec_fields::NoMemory;
+use eoe_switch::{Switch, SwitchEvent};
+use segment_plan::SlaveSpec;
 use std::alloc::Global;
 
 // The ports of the switch: the host's, and one for each slave that serves EoE.

@@ -7,7 +7,5 @@ mod reporting;
 mod saving;
 mod slaves;
 
-pub use pcap_frames;
 pub use reporting::report;
-pub use run_book;
 pub use saving::saved;

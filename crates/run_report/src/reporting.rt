@@ -4,10 +4,10 @@ ghost use Rattle.run_report.specs.Report.{is_lost, frames_line, dropped_line, ga
 
 use crate::drops::drops;
 use crate::slaves::{push_octets, push_slaves};
-use pcap_frames::ec_fields::{NoMemory, Octets, Rows};
-use run_book::segment_plan::Scenario;
-use run_book::segment_ring::Fate;
+use ec_fields::{NoMemory, Octets, Rows};
 use run_book::{Book, Ending, SentFrame};
+use segment_plan::Scenario;
+use segment_ring::Fate;
 use std::alloc::Global;
 
 fn is_lost(fate: Fate) -> bool

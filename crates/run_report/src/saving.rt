@@ -4,10 +4,10 @@ ghost use Rattle.pcap_frames.specs.declared.order.Order.TheVariants.{LowFirst};
 ghost use Rattle.run_book.specs.Book.{IsShort};
 ghost use Rattle.run_report.specs.Saved.{stamp_of, packets_of, capture_of};
 
-use pcap_frames::ec_fields::{NoMemory, Octets};
+use ec_fields::{NoMemory, Octets};
 use pcap_frames::{Stamp, write_head, write_packet};
 use run_book::SentFrame;
-use run_book::segment_ring::Fate;
+use segment_ring::Fate;
 
 /// So many microseconds are a second.
 const SECOND: usize = 1_000_000;

@@ -2,9 +2,9 @@ ghost use Rattle.std.specs.Prelude.{◌≡◌, ◌++◌, length, IfOk, OnOk, OnE
 ghost use Rattle.run_report.specs.Report.{station_text, handled_text, slave_line, epoch_line, epoch_lines, octets_line, octets_lines, emergency_lines, lines_of_slave, slave_lines, Extends};
 
 use crate::answers::{packets_handed, push_answers};
-use pcap_frames::ec_fields::{NoMemory, Octets, Rows};
-use run_book::segment_plan::SlaveSpec;
+use ec_fields::{NoMemory, Octets, Rows};
 use run_book::{Emergency, Epoch, SlaveBook};
+use segment_plan::SlaveSpec;
 use std::alloc::Global;
 
 fn state_text(alloc: Global, station: u16, state: u8) -> Result<Octets, NoMemory>

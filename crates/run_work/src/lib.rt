@@ -34,10 +34,6 @@ pub mod packet_work;
 pub mod served_counts;
 pub mod served_work;
 
-pub use life_counts::few_replies;
-pub use plan_ring;
-pub use plan_ring::{life_runs, run_frames, slave_parts};
-
 /// THE SHAPE OF A PLAN'S SLAVE STAYS, whatever services it carries out, whatever its AL state and whenever it is returned to Init; and each service that
 /// its master asks for takes at most as many mails as its shape says.
 pub fn shape_law()

@@ -26,9 +26,6 @@ ghost use Rattle.life_counts.specs.of_state_model.Families.{InState};
 ghost use Rattle.run_work.specs.Fair.{IsFairGram};
 ghost use Rattle.run_work.specs.Lives.{IsServedLife, AllServedLives};
 
-use life_counts::few_replies;
-use plan_ring::slave_parts;
-
 /// WHAT A SLAVE'S LIFE HAS GAINED in which fair mails are passed on beside services is no more than what came into hand of it counts, in all its epochs: a
 /// service what the shape of the slave says, and a mail 78.
 pub fn slave_law()

@@ -17,8 +17,6 @@ ghost use Rattle.life_counts.specs.of_segment_plan.declared.plan.Scenario.{Scena
 ghost use Rattle.plan_ring.specs.of_life_runs.Served.{Serves, Keyed, IsServedLed, all_serve, new_serves, asked_at};
 ghost use Rattle.run_work.specs.ServedGained.{AllPaid, served_in, asked_in, leads_of};
 
-use plan_ring::life_runs;
-
 /// THE LIVES OF A SERVING TOGETHER, where each has gained no more than what came into hand of it counts: what they have gained, and how often state services
 /// began to reopen their slaves, is no more than all services of the plan count of their own, the fragments of what downloads emit that began, what the
 /// packets take that came into hand, one for each slave, and 82 for each mail that was asked. Of the 128 that the frame bound counts for a datagram 46 are left.

@@ -4,5 +4,5 @@
 mod reading;
 
 pub use reading::read;
-pub use scenario_document::scenario_keys::{Place, ReadErr};
-pub use scenario_document::segment_plan::{Scenario, bound};
+pub use scenario_keys::{Place, ReadErr};
+pub use segment_plan::{Scenario, bound};

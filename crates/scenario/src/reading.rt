@@ -9,9 +9,9 @@ ghost use Rattle.scenario_document.specs.of_scenario_keys.Rules.{Answers};
 ghost use Rattle.scenario_document.specs.Told.{IsTold};
 ghost use Rattle.scenario.specs.Document.{document_of, plan_of};
 
-use scenario_document::scenario_keys::{Place, ReadErr, Rule, Stop, refused};
-use scenario_document::segment_plan::Scenario;
 use scenario_document::{tables, whole};
+use scenario_keys::{Place, ReadErr, Rule, Stop, refused};
+use segment_plan::Scenario;
 use std::alloc::Global;
 use std::str;
 use toml::Table;

@@ -8,11 +8,11 @@ ghost use Rattle.scenario_document.specs.Tables.{tables_of};
 use crate::host::packets;
 use crate::losses::lose;
 use crate::top::{budget, slave_tables, version};
-use scenario_services::scenario_keys::{Place, Stop, integer_or, needed_integer, only_known};
-use scenario_services::scenario_values::tables_or_none;
-use scenario_services::segment_plan::Scenario;
+use scenario_keys::{Place, Stop, integer_or, needed_integer, only_known};
 use scenario_services::services;
 use scenario_slaves::{paces, slaves};
+use scenario_values::tables_or_none;
+use segment_plan::Scenario;
 use std::alloc::Global;
 use toml::Table;
 

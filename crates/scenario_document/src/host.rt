@@ -5,10 +5,10 @@ ghost use Rattle.scenario_services.specs.of_scenario_keys.Reading.{Gives};
 ghost use Rattle.scenario_document.specs.Top.{packet_of, packets_of};
 
 use arrayvec::ArrayVec;
-use scenario_services::ec_fields::Rows;
-use scenario_services::eoe::Packet;
-use scenario_services::scenario_keys::{Place, Stop, only_known, put};
-use scenario_services::scenario_values::needed_buffer;
+use ec_fields::Rows;
+use eoe::Packet;
+use scenario_keys::{Place, Stop, only_known, put};
+use scenario_values::needed_buffer;
 use std::alloc::Global;
 use toml::Table;
 

@@ -4,8 +4,8 @@ ghost use Rattle.scenario_services.specs.of_segment_plan.Sound.{is_same_name, is
 ghost use Rattle.scenario_services.specs.of_scenario_keys.Reading.{Gives};
 ghost use Rattle.scenario_document.specs.Whole.{unless_repeated, whole};
 
-use scenario_services::scenario_keys::{Place, Rule, Stop, refused, unless};
-use scenario_services::segment_plan::{Scenario, SlaveSpec, bound};
+use scenario_keys::{Place, Rule, Stop, refused, unless};
+use segment_plan::{Scenario, SlaveSpec, bound};
 
 /// The most frames of a run for which no budget is given.
 const MOST_FRAMES: u64 = 100_000_000;

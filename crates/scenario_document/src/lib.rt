@@ -10,4 +10,3 @@ mod top;
 
 pub use document::tables;
 pub use judging::whole;
-pub use scenario_services::{scenario_keys, segment_plan};

@@ -5,10 +5,8 @@ ghost use Rattle.scenario_services.specs.of_scenario_keys.Reading.{Gives, each};
 ghost use Rattle.scenario_services.specs.of_scenario_keys.Keys.{two_numbers_in, list_of};
 ghost use Rattle.scenario_document.specs.Losses.{lost_in, lose_of, lose_in, lose_at};
 
-use scenario_services::ec_fields::Rows;
-use scenario_services::scenario_keys::{
-    Place, Rule, Stop, find, number_in, pair_of, put, refused, unless,
-};
+use ec_fields::Rows;
+use scenario_keys::{Place, Rule, Stop, find, number_in, pair_of, put, refused, unless};
 use std::alloc::Global;
 use toml::{Table, Value};
 

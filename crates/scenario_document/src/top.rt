@@ -3,10 +3,8 @@ ghost use Rattle.toml.specs.View.{table_view};
 ghost use Rattle.scenario_services.specs.of_scenario_keys.Reading.{Gives};
 ghost use Rattle.scenario_document.specs.Top.{version_of, version_at, budget_at, slave_tables_at};
 
-use scenario_services::scenario_keys::{
-    Place, Rule, Stop, find, integer, needed, number, refused, unless,
-};
-use scenario_services::scenario_values::needed_tables;
+use scenario_keys::{Place, Rule, Stop, find, integer, needed, number, refused, unless};
+use scenario_values::needed_tables;
 use std::alloc::Global;
 use toml::Table;
 

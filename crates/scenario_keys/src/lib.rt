@@ -6,7 +6,6 @@ mod keys;
 mod place;
 mod refusal;
 
-pub use ec_fields;
 pub use keys::{
     bool_or_false, find, integer, integer_or, label_or_none, needed, needed_integer, needed_name,
     needed_pair, needed_sizes, needed_text, no_number, no_pair, number, number_in, number_or_none,

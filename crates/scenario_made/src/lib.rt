@@ -5,5 +5,4 @@ mod draws;
 mod parts;
 mod text;
 
-pub use ec_fields;
 pub use text::make;

@@ -11,14 +11,12 @@ ghost use Rattle.scenario_services.specs.Bodies.{password_at, element_at, block_
 
 use crate::actions::{Action, SdoAction};
 use crate::sdo::{sdo_body, subindex, word};
-use scenario_values::ec_fields::{Octets, Rows, buffer_of};
-use scenario_values::eoe::is_block;
-use scenario_values::file_store::Name;
+use ec_fields::{Octets, Rows, buffer_of};
+use eoe::is_block;
+use file_store::Name;
+use scenario_keys::{Place, Rule, Stop, integer_or, needed_integer, needed_name, put, unless};
 use scenario_values::needed_octets;
-use scenario_values::scenario_keys::{
-    Place, Rule, Stop, integer_or, needed_integer, needed_name, put, unless,
-};
-use scenario_values::segment_plan::{Service, SlaveSpec, smaller};
+use segment_plan::{Service, SlaveSpec, smaller};
 use std::alloc::Global;
 use toml::Table;
 

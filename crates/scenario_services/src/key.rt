@@ -4,7 +4,7 @@ ghost use Rattle.scenario_values.specs.of_scenario_keys.Reading.{Gives};
 ghost use Rattle.scenario_services.specs.Actions.{given_action, only_keys_of, action_at};
 
 use crate::actions::{Action, known_for, word_action};
-use scenario_values::scenario_keys::{Place, Rule, Stop, find, needed_text, only_known, refused};
+use scenario_keys::{Place, Rule, Stop, find, needed_text, only_known, refused};
 use toml::Table;
 
 /// What a service's key `do` says, where it is a word that is known.

@@ -8,5 +8,3 @@ mod reading;
 mod sdo;
 
 pub use reading::services;
-pub use scenario_values;
-pub use scenario_values::{ec_fields, eoe, scenario_keys, segment_plan};

@@ -9,9 +9,9 @@ ghost use Rattle.scenario_services.specs.Services.{slave_named, target_at, addre
 use crate::actions::Action;
 use crate::bodies::add_body;
 use crate::key::{needed_action, only_known_of, said_action};
-use scenario_values::ec_fields::Rows;
-use scenario_values::scenario_keys::{Place, Rule, Stop, needed_text, refused};
-use scenario_values::segment_plan::{Service, SlaveSpec};
+use ec_fields::Rows;
+use scenario_keys::{Place, Rule, Stop, needed_text, refused};
+use segment_plan::{Service, SlaveSpec};
 use std::alloc::Global;
 use toml::Table;
 

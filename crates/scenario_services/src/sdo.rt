@@ -5,9 +5,9 @@ ghost use Rattle.scenario_values.specs.of_scenario_keys.Reading.{Gives};
 ghost use Rattle.scenario_services.specs.Sdo.{word_at, sub_at, sdo_of};
 
 use crate::actions::SdoAction;
+use object_dictionary::SdoService;
+use scenario_keys::{Place, Stop, needed_integer};
 use scenario_values::needed_octets;
-use scenario_values::object_dictionary::SdoService;
-use scenario_values::scenario_keys::{Place, Stop, needed_integer};
 use std::alloc::Global;
 use toml::Table;
 

@@ -6,13 +6,13 @@ ghost use Rattle.scenario_values.specs.of_segment_plan.Sound.{taken, has_name, i
 ghost use Rattle.scenario_values.specs.of_scenario_keys.Reading.{Gives};
 ghost use Rattle.scenario_slaves.specs.Files.{rights_of, rights_at, file_name_at, file_value_at, file_of, files_of};
 
-use scenario_values::ec_fields::{Octets, Rows, buffer_of};
-use scenario_values::file_store::{FileSpec, Name};
-use scenario_values::needed_octets;
-use scenario_values::scenario_keys::{
+use ec_fields::{Octets, Rows, buffer_of};
+use file_store::{FileSpec, Name};
+use scenario_keys::{
     Place, Rule, Stop, bool_or_false, integer_or, needed_name, needed_text, only_known, put,
     refused, unless,
 };
+use scenario_values::needed_octets;
 use std::alloc::Global;
 use toml::Table;
 

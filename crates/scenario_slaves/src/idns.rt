@@ -5,9 +5,9 @@ ghost use Rattle.scenario_values.specs.of_segment_plan.Sound.{has_key, is_new_id
 ghost use Rattle.scenario_values.specs.of_scenario_keys.Reading.{Gives};
 ghost use Rattle.scenario_slaves.specs.Idns.{drive_at, idn_of, idns_of};
 
-use scenario_values::ec_fields::Rows;
-use scenario_values::idn_table::IdnSpec;
-use scenario_values::scenario_keys::{
+use ec_fields::Rows;
+use idn_table::IdnSpec;
+use scenario_keys::{
     Place, Rule, Stop, bool_or_false, integer_or, needed_integer, needed_sizes, only_known, put,
     some_label, unless,
 };

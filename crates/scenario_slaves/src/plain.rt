@@ -6,11 +6,11 @@ ghost use Rattle.scenario_slaves.specs.Plain.{HasMac, plain_slave_of};
 
 use crate::protocols::serves;
 use crate::settings::{mac, pace, start};
-use scenario_values::ec_fields::{Octets, Rows};
-use scenario_values::scenario_keys::{
+use ec_fields::{Octets, Rows};
+use scenario_keys::{
     Place, Stop, bool_or_false, integer_or, needed_integer, needed_name, needed_pair,
 };
-use scenario_values::segment_plan::SlaveSpec;
+use segment_plan::SlaveSpec;
 use std::alloc::Global;
 use toml::Table;
 

@@ -4,7 +4,7 @@ ghost use Rattle.scenario_values.specs.of_scenario_keys.Reading.{Gives, each};
 ghost use Rattle.scenario_values.specs.of_scenario_keys.Keys.{text_in, list_of};
 ghost use Rattle.scenario_slaves.specs.Protocols.{more_served, none_served, served_of, serves_of, serves_in, serves_at};
 
-use scenario_values::scenario_keys::{Place, Rule, Stop, needed, refused, text};
+use scenario_keys::{Place, Rule, Stop, needed, refused, text};
 use std::alloc::Global;
 use toml::{Table, Value};
 

@@ -8,9 +8,9 @@ ghost use Rattle.scenario_slaves.specs.Slaves.{slaves_of, paces_of};
 
 use crate::settings::pace;
 use crate::slave::slave;
-use scenario_values::ec_fields::Rows;
-use scenario_values::scenario_keys::{Place, Stop, put};
-use scenario_values::segment_plan::SlaveSpec;
+use ec_fields::Rows;
+use scenario_keys::{Place, Stop, put};
+use segment_plan::SlaveSpec;
 use std::alloc::Global;
 use toml::Table;
 

@@ -4,7 +4,7 @@ ghost use Rattle.scenario_values.specs.of_segment_plan.Sound.{is_start, is_mac, 
 ghost use Rattle.scenario_values.specs.of_scenario_keys.Reading.{Gives};
 ghost use Rattle.scenario_slaves.specs.Settings.{start_of, start_in, start_at, own_mac_at, mac_at, pace_at};
 
-use scenario_values::scenario_keys::{Place, Rule, Stop, find, integer_or, refused, text, unless};
+use scenario_keys::{Place, Rule, Stop, find, integer_or, refused, text, unless};
 use scenario_values::{needed_in_place, no_octets};
 use toml::{Table, Value};
 

@@ -9,9 +9,9 @@ ghost use Rattle.scenario_slaves.specs.Slave.{slave_keys, slave_of};
 use crate::files::files;
 use crate::idns::idns;
 use crate::plain::plain_slave;
-use scenario_values::scenario_keys::{Place, Stop, only_known};
-use scenario_values::segment_plan::SlaveSpec;
+use scenario_keys::{Place, Stop, only_known};
 use scenario_values::{objects, tables_or_none};
+use segment_plan::SlaveSpec;
 use std::alloc::Global;
 use toml::Table;
 

@@ -7,12 +7,12 @@ ghost use Rattle.segment_plan.specs.Sound.{IsEntry, is_code, kept, IsObject, ind
 
 use crate::entries::entries;
 use crate::tables::needed_tables;
-use scenario_keys::ec_fields::Rows;
+use ec_fields::Rows;
+use object_dictionary::are_small;
 use scenario_keys::{
     Place, Rule, Stop, label_or_none, needed_integer, needed_text, only_known, put, refused, unless,
 };
 use segment_plan::ObjectSpec;
-use segment_plan::object_dictionary::are_small;
 use std::alloc::Global;
 use toml::Table;
 

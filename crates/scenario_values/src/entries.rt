@@ -6,12 +6,12 @@ ghost use Rattle.scenario_keys.specs.Reading.{Gives};
 ghost use Rattle.scenario_values.specs.Entries.{is_wanted, kind_at, string_sizes_at, number_sizes_at, entry_sizes_at, no_bound_at, bound_at, are_bounds, bounds_at, bounded, entry_of, kind_behind, entries_of};
 
 use crate::octets::needed_octets;
-use scenario_keys::ec_fields::Rows;
+use ec_fields::Rows;
+use object_dictionary::{EntrySpec, is_string, size_of_kind};
 use scenario_keys::{
     Place, Rule, Stop, label_or_none, needed_integer, needed_sizes, no_number, no_pair,
     number_or_none, only_known, put, unless,
 };
-use segment_plan::object_dictionary::{EntrySpec, is_string, size_of_kind};
 use std::alloc::Global;
 use toml::Table;
 

@@ -7,7 +7,7 @@ ghost use Rattle.scenario_values.specs.Bounds.{idn_bound_at, idn_bound_if, are_i
 
 use crate::octets::needed_octets;
 use byteorder::{ByteOrder, LittleEndian};
-use scenario_keys::ec_fields::Octets;
+use ec_fields::Octets;
 use scenario_keys::{Place, Rule, Stop, find, integer, no_number, unless};
 use std::alloc::Global;
 use toml::Table;

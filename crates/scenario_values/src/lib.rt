@@ -12,8 +12,4 @@ mod tables;
 pub use dictionary::objects;
 pub use idn_bounds::{Bounds, bounded_value, bounds};
 pub use octets::{needed_buffer, needed_in_place, needed_octets, no_octets};
-pub use scenario_keys;
-pub use scenario_keys::ec_fields;
-pub use segment_plan;
-pub use segment_plan::{eoe, file_store, idn_table, object_dictionary};
 pub use tables::{needed_tables, tables_or_none};

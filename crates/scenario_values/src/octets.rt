@@ -9,7 +9,7 @@ ghost use Rattle.scenario_values.specs.Octets.{digits_in, is_fit, octets_in, oct
 
 use crate::digits::{decode_behind, decode_into, writes_octets};
 use arrayvec::ArrayVec;
-use scenario_keys::ec_fields::Octets;
+use ec_fields::Octets;
 use scenario_keys::{Place, Rule, Stop, find, needed, refused, text, unless};
 use std::alloc::Global;
 use toml::{Table, Value};

@@ -23,11 +23,6 @@ ghost use Rattle.served_rings.specs.of_serving_model.Erasing.{slave_as};
 ghost use Rattle.idle_slaves.specs.of_state_model.States.{Phase, Table};
 ghost use Rattle.std.specs.Prelude.{◌≡◌, ℕ, List, [], map};
 
-pub use idle_slaves;
-pub use idle_slaves::{frame_view, scenario};
-pub use served_rings;
-pub use served_rings::run_work;
-
 /// THE LINK of an open slave: mails that went between its master and it agree with both, also as another sees them, who has other forms of them.
 pub fn link_seen<N, M, P, Q, S, R, W, V>()
     ensures { (f : N → M) (g : P → Q) (h : S → R) (server : W → V) (d : Side N P S) (n : Slave W N) → HasLink d n → HasLink (side_seen f g h d) (slave_as f server n) }

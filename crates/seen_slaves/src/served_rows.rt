@@ -10,8 +10,6 @@ ghost use Rattle.idle_slaves.specs.of_run_frames.Answers.{AllReturned};
 ghost use Rattle.seen_slaves.specs.Rows.{IsNew, PassesSo, SaidSo, ToldSo};
 ghost use Rattle.idle_slaves.specs.of_life_runs.Served.{Serves, IsServedLed, all_serve};
 
-use idle_slaves::frame_view;
-
 /// WHILE A MAIL THAT IS PASSED ON ISN'T OVER it is the newest row of its slave's epoch, and the newest service, and no reply of it was heard, or others follow
 /// the last that was: over all frames of a serving, whatever comes back.
 pub fn served_rows()

@@ -21,9 +21,6 @@ ghost use Rattle.idle_slaves.specs.of_life_runs.Served.{Serves, all_serve};
 ghost use Rattle.seen_slaves.specs.Dues.{ServedMailsAreDue};
 ghost use Rattle.seen_slaves.specs.Eager.{ServedEagerIn};
 
-use idle_slaves::frame_view;
-use served_rings::run_work;
-
 /// SOME SLAVE OF A PLAN'S SERVING WAITS YET behind each frame that came back and gained nothing, with nothing to repair, before which no mail was asked since the
 /// last, with no packet of the host and by which no mail that is passed on came a step on: where its master makes no visit in vain if more could go on, and no
 /// frame if all is done, whatever mails are asked.

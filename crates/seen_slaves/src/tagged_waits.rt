@@ -11,8 +11,6 @@ ghost use Rattle.idle_slaves.specs.of_slave_parts.Parts.{parts};
 ghost use Rattle.idle_slaves.specs.of_slave_parts.Served.{product_whole};
 ghost use Rattle.std.specs.Prelude.{Bool};
 
-use idle_slaves::slave_parts;
-
 /// A CLIENT THAT NEVER WAITS IN VAIN never does where mails are passed on beside its services: such a mail is told at once, whatever was heard.
 pub fn tagged_never<V, M, Q, R, C>()
     ensures tagged { (x : Exchange V V M Q R) (core : V → C) → IsServed x core → NeverWaits x → NeverWaits (tagged x) }

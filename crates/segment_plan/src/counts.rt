@@ -6,9 +6,9 @@ ghost use Rattle.segment_plan.specs.Sound.{IsSlave, IsSdo, IsService, IsAddresse
 use crate::plan::Scenario;
 use crate::service::Service;
 use crate::slave::{ObjectSpec, SlaveSpec};
+use ec_fields::Octets;
+use eoe::Packet;
 use file_store::FileSpec;
-use idn_table::eoe::Packet;
-use object_dictionary::ec_fields::Octets;
 use object_dictionary::{EntrySpec, SdoService};
 
 /// The object code of a variable.

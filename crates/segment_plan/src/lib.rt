@@ -8,11 +8,6 @@ mod service;
 mod slave;
 
 pub use counts::{bound, smaller};
-pub use file_store;
-pub use idn_table;
-pub use idn_table::eoe;
-pub use object_dictionary;
-pub use object_dictionary::ec_fields;
 pub use plan::Scenario;
 pub use service::Service;
 pub use slave::{ObjectSpec, SlaveSpec};

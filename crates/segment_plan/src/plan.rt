@@ -1,7 +1,7 @@
 use crate::service::Service;
 use crate::slave::SlaveSpec;
-use idn_table::eoe::Packet;
-use object_dictionary::ec_fields::Rows;
+use ec_fields::Rows;
+use eoe::Packet;
 
 /// What a scenario says: the segment, the services addressed to its slaves, the packets of the host and the frames that are lost.
 #[derive(Drop)]

@@ -1,7 +1,7 @@
+use ec_fields::Octets;
+use eoe::Packet;
 use file_store::Name;
-use idn_table::eoe::Packet;
 use object_dictionary::SdoService;
-use object_dictionary::ec_fields::Octets;
 
 /// A service that is addressed to a slave's application.
 #[derive(Drop)]

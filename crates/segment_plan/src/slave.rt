@@ -1,7 +1,7 @@
+use ec_fields::{Octets, Rows};
 use file_store::FileSpec;
 use idn_table::IdnSpec;
 use object_dictionary::EntrySpec;
-use object_dictionary::ec_fields::{Octets, Rows};
 
 /// An object of a slave's dictionary and its entries from subindex 1 on (ETG.1000.6, section 5.6.7).
 #[derive(Drop)]

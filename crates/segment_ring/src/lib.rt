@@ -6,6 +6,5 @@ mod ring;
 mod schedule;
 mod wire;
 
-pub use datagrams;
 pub use ring::Ring;
 pub use wire::{Fate, Slave, Wire};

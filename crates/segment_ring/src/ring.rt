@@ -6,7 +6,7 @@ ghost use Rattle.segment_ring.specs.Ring.{ArePaces, AllFew, is_in_pace, nodes_pa
 use crate::schedule::fate_of;
 use crate::wire::{Fate, Slave, Wire};
 use datagrams::FrameBuf;
-use datagrams::ec_fields::Rows;
+use ec_fields::Rows;
 use std::marker::Model;
 
 /// A ring of slaves, in the order in which a frame meets them.

@@ -2,7 +2,7 @@ ghost use Rattle.std.specs.Prelude.{◌≡◌, ◌+◌};
 ghost use Rattle.segment_ring.specs.Schedule.{Rises, StandsAt, fate_at};
 
 use crate::wire::Fate;
-use datagrams::ec_fields::Rows;
+use ec_fields::Rows;
 
 /// The fate of a frame by a schedule whose numbers rise, where `next` stands behind the rows of all frames before it, and goes on to the next
 /// frame.

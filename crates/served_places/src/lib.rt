@@ -11,8 +11,6 @@ ghost use Rattle.std.specs.Prelude.{◌≡◌, ℕ, List, map, All};
 pub mod kept_rows;
 pub mod served_tours;
 
-pub use run_frames::datagrams;
-
 /// EACH SLAVE STAYS AT ITS PLACE over all frames of a serving, whatever is asked of it.
 pub fn places_law()
     ensures { (lens : ℕ → Lens) (recover retry : ℕ) (first : List Serves) (fs : List Exchanged) (missed : ℕ) (ws : List Serves) → IsServedLed lens recover retry first fs missed ws → map spot_at ws ≡ map spot_at first }

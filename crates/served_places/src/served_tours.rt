@@ -18,8 +18,6 @@ ghost use Rattle.run_frames.specs.of_life_runs.Served.{Serves, IsServedLed, all_
 ghost use Rattle.served_places.specs.Answered.{ServedAsks, ServedAnswers, ServedWaits};
 ghost use Rattle.served_places.specs.Toured.{IsServedToured, first_served};
 
-use run_frames::frame_view;
-
 /// SUCH FRAMES ARE A SERVING, and each is counted once.
 pub fn served_tours()
     ensures { (lens : ℕ → Lens) (recover retry slowest : ℕ) (first : List Serves) (fs : List Exchanged) (again : Option (List ℕ)) (missed : ℕ) (ws : List Serves) (p : Progress) (cs : List (Clocked Body Asked Reply)) →

@@ -20,8 +20,6 @@ ghost use Rattle.run_work.specs.of_protocol_models.SoeMails.{fragments_of};
 ghost use Rattle.run_work.specs.of_protocol_models.SoeOctets.{soe_mail_written};
 ghost use Rattle.std.specs.Prelude.{◌≡◌, ℕ, ◌<◌, Bool, true, false, List, [], ◌∷◌, map, replicate, length};
 
-use run_work::slave_parts;
-
 /// THE PARTS OF AN ANSWER go on but the last: those of an information, and the fragments of an element, where the mailbox has room for an octet of them.
 pub fn parts_told()
     ensures information { (fuel opcode part : ℕ) (bytes : List ℕ) → 0 < part → length bytes < fuel →

@@ -30,9 +30,6 @@ pub mod served_rests;
 pub mod stood_rings;
 pub mod told_eras;
 
-pub use run_work;
-pub use run_work::{few_replies, life_runs, plan_ring, run_frames};
-
 /// A MASTER THAT LEADS A SERVING, by frames that went round the ring of its plan's slaves, with mails asked between them, leads lives that the nodes of the ring live
 /// as they are led: whatever frames are lost, and where slaves are given up, taken up again or returned to Init.
 pub fn served_ring_law()

@@ -20,8 +20,6 @@ ghost use Rattle.served_places.specs.of_state_model.Stated.{IsStated};
 ghost use Rattle.run_work.specs.of_life_counts.Epochs.{IsSpeaker, IsRun};
 ghost use Rattle.served_rings.specs.Speakers.{any_speaker, speaker, spoken, spoken_states, table_of, processor_of, seer_of, cleared_whole};
 
-use run_work::{few_replies, slave_parts};
-
 /// A SLAVE OF A PLAN AND ITS MASTER keep the laws of both: the server owes those of its services and of its AL state in whatever state it is, with fair mails
 /// among them, gives replies first, of which the last tells that it is; and the master speaks as the clients of the slave's protocols do.
 pub fn speaker_law()

@@ -20,8 +20,6 @@ ghost use Rattle.run_work.specs.of_slave_node.Node.{Node};
 ghost use Rattle.served_places.specs.of_state_model.Families.{InState};
 ghost use Rattle.served_rings.specs.Serves.{serves};
 
-use run_work::plan_ring;
-
 /// THE SERVICES OF A SLAVE IN A SERVING are those that its node runs.
 pub fn behind_law()
     ensures { (p : Profile) (boot : Bool) (lens : ℕ → Lens) → IsBehind (serves p boot lens) }

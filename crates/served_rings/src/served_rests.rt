@@ -11,8 +11,6 @@ ghost use Rattle.served_rings.specs.Rests.{AllServedDoneIf};
 ghost use Rattle.served_rings.specs.Rings.{nodes_behind};
 ghost use Rattle.served_places.specs.of_life_runs.Served.{ServeTo, Serves};
 
-use run_work::life_runs;
-
 /// WHERE NOTHING IS LEFT: of each slave of a serving that is settled and of which its master wants nothing, all services of its script came into hand, and the mails
 /// that were asked of it, in order, and all of them where it was never given up; and all rows of its newest epoch are carried out, each once and in order, each
 /// service by mails that has a reply has it, and each change of its AL state is over. What the epochs before left its node held as each of them ended.

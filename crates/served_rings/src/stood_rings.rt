@@ -10,8 +10,6 @@ ghost use Rattle.served_rings.specs.Rings.{AreStoodLived, nodes_behind};
 ghost use Rattle.served_places.specs.of_life_runs.Served.{ServeTo, Serves};
 ghost use Rattle.std.specs.Prelude.{ℕ, List};
 
-use run_work::plan_ring;
-
 /// The lives that the master of a serving leads are lived by the nodes of the ring, and each epoch of them begins with what its slave had, cleared, behind the frame
 /// that showed the return to Init before it; and a slave that is given up for good while it is open stays up and lives its epoch on.
 pub fn stood_ring_law()

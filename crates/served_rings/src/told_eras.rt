@@ -11,8 +11,6 @@ ghost use Rattle.run_work.specs.of_segment_plan.declared.plan.Scenario.{Scenario
 ghost use Rattle.served_rings.specs.ToldEras.{AllToldLives};
 ghost use Rattle.served_places.specs.of_life_runs.Served.{ServeTo, Serves};
 
-use run_work::plan_ring;
-
 /// EACH SERVICE OF A SERVING HAS JUST THE ANSWER THAT THE FRAMES OF ITS EPOCH GIVE, of the frame that completed it, and none where they give none; and so has each
 /// change of the AL state: whatever frames are lost, and where slaves are given up, taken up again or returned to Init. Of mails that are passed on nothing is said
 /// here: their replies are handed on one by one. And all mails that were heard by the frames of an epoch were heard in its rows, in order: none before the first.

@@ -2,12 +2,12 @@ ghost use Rattle.std.specs.Prelude.{◌≡◌, IfOk};
 ghost use Rattle.slave_server.specs.of_segment_plan.Sound.{IsSlave};
 ghost use Rattle.slave_app.specs.New.{app_of};
 
-use slave_server::ec_fields::{NoMemory, buffer_of};
-use slave_server::eoe::Block;
-use slave_server::file_store::Store;
-use slave_server::idn_table::IdnTable;
-use slave_server::object_dictionary::Objects;
-use slave_server::segment_plan::SlaveSpec;
+use ec_fields::{NoMemory, buffer_of};
+use eoe::Block;
+use file_store::Store;
+use idn_table::IdnTable;
+use object_dictionary::Objects;
+use segment_plan::SlaveSpec;
 use std::alloc::Global;
 
 /// The address block of a slave that was told none: no field is set (ETG.1000.6, "EoE set IP parameter").

@@ -6,9 +6,9 @@ ghost use Rattle.slave_app.specs.Meaning.{meant_by, file_read, file_written, ele
 use crate::app::App;
 use crate::performed::{Performed, replied, valued};
 use crate::sdo::MOST;
-use slave_server::ec_fields::{NoMemory, Octets, Transfer};
-use slave_server::file_store::{Name, Store};
-use slave_server::mailbox_mail::ReplyKind;
+use ec_fields::{NoMemory, Octets, Transfer};
+use file_store::{Name, Store};
+use mailbox_mail::ReplyKind;
 use std::alloc::Global;
 
 /// The FoE error code of a file for which there are too few free blocks (ETG.1000.6, "FoE error codes").

@@ -11,6 +11,6 @@ mod performed;
 mod sdo;
 
 pub use app::App;
+pub use idn_table::IdnSpec;
 pub use performed::{Emission, Performed, Reply};
-pub use slave_server::idn_table::IdnSpec;
-pub use slave_server::segment_plan::{ObjectSpec, Service, SlaveSpec};
+pub use segment_plan::{ObjectSpec, Service, SlaveSpec};

@@ -7,12 +7,11 @@ ghost use Rattle.slave_app.specs.Exchange.{mail_service, Fits, IsExchanged, IsSt
 
 use crate::app::App;
 use crate::performed::{Emission, Performed, Reply, replied, valued};
-use slave_server::al_state::{Al, Asked, BOOTSTRAP, INIT, PRE_OP};
-use slave_server::ec_fields::{NoMemory, Octets, buffer_of};
-use slave_server::eoe::Packet;
-use slave_server::mailbox_mail::ReplyKind;
-use slave_server::segment_plan::Service;
-use slave_server::{al_state, eoe_server};
+use al_state::{Al, Asked, BOOTSTRAP, INIT, PRE_OP};
+use ec_fields::{NoMemory, Octets, buffer_of};
+use eoe::Packet;
+use mailbox_mail::ReplyKind;
+use segment_plan::Service;
 use std::alloc::Global;
 
 /// The mailbox error of a protocol that isn't served (ETG.1000.4, "Mailbox error").

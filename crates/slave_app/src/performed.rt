@@ -1,9 +1,9 @@
 ghost use Rattle.std.specs.Prelude.{◌≡◌, [], None};
 
 use arrayvec::ArrayVec;
-use slave_server::ec_fields::Octets;
-use slave_server::eoe::Packet;
-use slave_server::mailbox_mail::ReplyKind;
+use ec_fields::Octets;
+use eoe::Packet;
+use mailbox_mail::ReplyKind;
 use std::alloc::Global;
 
 /// What a service came to, and the value that it brought: octets as the protocol has them, none where there is no value.

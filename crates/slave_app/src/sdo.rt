@@ -6,10 +6,10 @@ ghost use Rattle.slave_app.specs.Meaning.{emission_view, meant_by, sdo_of, downl
 
 use crate::app::App;
 use crate::performed::{Emission, Performed, Reply, replied, valued};
-use slave_server::coe_server::{Dictionary, Question, Target};
-use slave_server::ec_fields::{NoMemory, Octets, Transfer, buffer_of};
-use slave_server::mailbox_mail::ReplyKind;
-use slave_server::object_dictionary::SdoService;
+use coe_server::{Dictionary, Question, Target};
+use ec_fields::{NoMemory, Octets, Transfer, buffer_of};
+use mailbox_mail::ReplyKind;
+use object_dictionary::SdoService;
 use std::alloc::Global;
 
 /// The most octets that an SDO service brings.

@@ -6,9 +6,8 @@ ghost use Rattle.al_state.specs.of_datagrams.Frame.{IsFrame, IsPart};
 ghost use Rattle.mailbox_slave.specs.of_esc_registers.Access.{access, KeepsLengths};
 ghost use Rattle.slave_node.specs.Passing.{part_passed, frame_passed, replaced, IsPassed, PartPasses};
 
-use al_state::datagrams;
-use al_state::datagrams::{FrameBuf, Head, Part};
-use mailbox_slave::esc_registers::Esc;
+use datagrams::{FrameBuf, Head, Part};
+use esc_registers::Esc;
 
 // Where the first datagram of a frame stands.
 const FIRST: usize = 16;

@@ -7,7 +7,4 @@ mod node;
 pub mod slave_steps;
 mod stepping;
 
-pub use al_state;
-pub use mailbox_slave;
 pub use node::{Services, SlaveNode};
-pub use segment_ring;

@@ -4,9 +4,9 @@ ghost use Rattle.slave_node.specs.Step.{pdi_step};
 
 use crate::slave_steps::Clear;
 use al_state::Al;
-use al_state::datagrams::FrameBuf;
-use al_state::ec_fields::NoMemory;
-use mailbox_slave::esc_registers::Esc;
+use datagrams::FrameBuf;
+use ec_fields::NoMemory;
+use esc_registers::Esc;
 use mailbox_slave::{Server, SlaveBox};
 use segment_ring::Slave;
 use std::alloc::Global;

@@ -5,7 +5,7 @@ ghost use Rattle.slave_node.specs.Node.{IsSteady};
 ghost use Rattle.slave_node.specs.Step.{status_word, looked, al_behind, word_behind, pdi_step};
 
 use al_state::Al;
-use mailbox_slave::esc_registers::Esc;
+use esc_registers::Esc;
 use mailbox_slave::{Server, SlaveBox};
 
 /// Services that can be made anew.

@@ -19,10 +19,6 @@ ghost use Rattle.slave_model.specs.Acknowledged.{acknowledged};
 ghost use Rattle.slave_model.specs.Product.{product};
 ghost use Rattle.slave_parts.specs.Parts.{parts};
 
-pub use coe_server;
-pub use eoe_server;
-pub use foe_server;
-
 /// Dictionary, store and IDN table are such parts as the protocols of a slave stand on.
 pub fn parts_are_lawful()
     ensures { ArePartsLawful parts }

@@ -4,8 +4,8 @@ ghost use Rattle.slave_node.specs.of_mailbox_mail.Mail.{error_of};
 ghost use Rattle.slave_server.specs.Serving.{next_mail, rest};
 
 use crate::server::SlaveServer;
-use slave_parts::eoe_server::{Addresses, EoeServer};
-use soe_server::mailbox_mail::{Mail, error_mail};
+use eoe_server::{Addresses, EoeServer};
+use mailbox_mail::{Mail, error_mail};
 
 impl SlaveServer {
     /// Whether a mail waits.

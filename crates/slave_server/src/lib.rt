@@ -11,12 +11,5 @@ mod spec;
 mod taking;
 
 pub use law::server_is_exchange;
-pub use segment_plan;
-pub use segment_plan::{ec_fields, eoe, file_store, object_dictionary};
 pub use server::{Lengths, Protocols, SlaveServer};
-pub use slave_node;
-pub use slave_node::{al_state, segment_ring};
-pub use slave_parts;
-pub use slave_parts::{coe_server, eoe_server};
-pub use soe_server::{idn_table, mailbox_mail};
 pub use spec::{idns_of, node_of, objects_of, server_of, store_of};

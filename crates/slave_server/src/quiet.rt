@@ -1,11 +1,9 @@
 ghost use Rattle.std.specs.Prelude.{◌≡◌, ◌≤◌, true, false, length};
 ghost use Rattle.slave_server.specs.Serving.{is_quiet_drive, is_quiet_ether, is_last_ether};
 
-use segment_plan::ec_fields::{bits, u16_at};
-use segment_plan::eoe;
-use segment_plan::eoe::{EoeFault, EoeView};
-use soe_server::soe_codec;
-use soe_server::soe_codec::SoeFault;
+use ec_fields::{bits, u16_at};
+use eoe::{EoeFault, EoeView};
+use soe_codec::SoeFault;
 
 /// Whether a mail of SoE gets no answer where that isn't served: it goes on.
 pub(crate) fn is_quiet_drive(body: &[u8]) -> bool

@@ -2,14 +2,14 @@ ghost use Rattle.std.specs.Prelude.{◌≡◌, ◌≤◌, [], true, None, IfOk};
 ghost use Rattle.slave_parts.specs.of_eoe_server.Serving.{is_roomy};
 ghost use Rattle.slave_server.specs.Serving.{fresh, cleared};
 
-use segment_plan::ec_fields::NoMemory;
-use segment_plan::file_store::Store;
-use segment_plan::object_dictionary::Objects;
-use slave_parts::coe_server::CoeServer;
-use slave_parts::eoe_server::{Addresses, EoeServer};
-use slave_parts::foe_server::FoeServer;
+use coe_server::CoeServer;
+use ec_fields::NoMemory;
+use eoe_server::{Addresses, EoeServer};
+use file_store::Store;
+use foe_server::FoeServer;
+use idn_table::IdnTable;
+use object_dictionary::Objects;
 use soe_server::SoeServer;
-use soe_server::idn_table::IdnTable;
 use std::alloc::Global;
 use std::marker::Model;
 

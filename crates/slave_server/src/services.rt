@@ -1,8 +1,8 @@
 use crate::server::SlaveServer;
+use mailbox_mail::{Mail, MailFault};
+use mailbox_slave::Server;
 use slave_node::Services;
-use slave_node::mailbox_slave::Server;
 use slave_node::slave_steps::Clear;
-use soe_server::mailbox_mail::{Mail, MailFault};
 
 impl Server for SlaveServer {
     ghost use Rattle.std.specs.Prelude.{◌≡◌, ◌<◌, ◌-◌};

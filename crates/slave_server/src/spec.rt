@@ -6,13 +6,13 @@ ghost use Rattle.segment_plan.specs.Sound.{IsSlave, IsIdn};
 ghost use Rattle.slave_server.specs.Spec.{with_file, with_idn, objects_of, files_of, idns_of, addresses_of, server_of, node_of};
 
 use crate::server::{Lengths, Protocols, SlaveServer};
-use segment_plan::ec_fields::{NoMemory, Octets, Rows, buffer_of};
-use segment_plan::file_store::{FileSpec, NOT_FOUND, Store};
-use segment_plan::object_dictionary::{EntrySpec, Objects};
+use ec_fields::{NoMemory, Octets, Rows, buffer_of};
+use eoe_server::Addresses;
+use file_store::{FileSpec, NOT_FOUND, Store};
+use idn_table::{IdnSpec, IdnTable};
+use object_dictionary::{EntrySpec, Objects};
 use segment_plan::{ObjectSpec, SlaveSpec};
 use slave_node::SlaveNode;
-use slave_parts::eoe_server::Addresses;
-use soe_server::idn_table::{IdnSpec, IdnTable};
 use std::alloc::Global;
 
 /// The address block of a slave that was told none.

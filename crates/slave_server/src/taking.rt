@@ -8,10 +8,10 @@ ghost use Rattle.slave_server.specs.Serving.{takes, failed, counted};
 
 use crate::quiet::{is_last_ether, is_quiet_drive, is_quiet_ether};
 use crate::server::SlaveServer;
-use segment_plan::eoe::Packet;
-use slave_parts::coe_server::CoeServer;
-use slave_parts::eoe_server::EoeServer;
-use soe_server::mailbox_mail::{Kind, Mail, MailFault};
+use coe_server::CoeServer;
+use eoe::Packet;
+use eoe_server::EoeServer;
+use mailbox_mail::{Kind, Mail, MailFault};
 
 /// The AL state in which files alone are served.
 const BOOTSTRAP: u8 = 3;

@@ -1,5 +1,5 @@
-use ec_links::ec_outside::{Gram, Heard, Peer, Port, UdpPort};
 use ec_links::{Link, Piece, TcpLink};
+use ec_outside::{Gram, Heard, Peer, Port, UdpPort};
 use std::io::{Read, Write};
 use std::net::{TcpStream, UdpSocket};
 use std::test::Fail;

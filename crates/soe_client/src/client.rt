@@ -6,8 +6,8 @@ ghost use Rattle.soe_parts.specs.Parts.{subject_view};
 ghost use Rattle.soe_client.specs.Talk.{about, is_near, left, awaited, awaits_nothing, begun, is_begun};
 
 use crate::state::{Awaits, Task, Unsent};
-use soe_parts::ec_fields::{NoMemory, Octets, Transfer};
-use soe_parts::mailbox_mail::ReplyKind;
+use ec_fields::{NoMemory, Octets, Transfer};
+use mailbox_mail::ReplyKind;
 use soe_parts::{MOST, Subject};
 use std::alloc::Global;
 use std::marker::Model;

@@ -8,10 +8,10 @@ ghost use Rattle.soe_client.specs.Hear.{closed, valued, hear_refusal, hear_part,
 
 use crate::client::SoeClient;
 use crate::state::{Awaits, Unsent};
-use soe_parts::ec_fields::u16_at;
-use soe_parts::mailbox_mail::{Kind, Mail, ReplyKind, Took};
-use soe_parts::soe_codec::{READ_ANSWER, SoeView, WRITE_ANSWER};
-use soe_parts::{MOST, Subject, soe_codec};
+use ec_fields::u16_at;
+use mailbox_mail::{Kind, Mail, ReplyKind, Took};
+use soe_codec::{READ_ANSWER, SoeView, WRITE_ANSWER};
+use soe_parts::{MOST, Subject};
 
 // Whether a message is an answer of this opcode about this subject.
 fn is_answer(opcode: u8, subject: Subject, message: SoeView<'_>) -> bool

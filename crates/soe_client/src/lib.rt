@@ -7,4 +7,3 @@ mod sending;
 mod state;
 
 pub use client::SoeClient;
-pub use soe_parts::soe_codec;

@@ -7,7 +7,7 @@ ghost use Rattle.soe_client.specs.Talk.{left, awaited, SendsNext};
 use crate::client::SoeClient;
 use crate::state::Unsent;
 use arrayvec::ArrayVec;
-use soe_parts::soe_codec::{READ, WRITE};
+use soe_codec::{READ, WRITE};
 use soe_parts::{write_message, write_part};
 
 impl SoeClient {

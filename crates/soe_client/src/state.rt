@@ -1,5 +1,5 @@
+use mailbox_mail::ReplyKind;
 use soe_parts::Subject;
-use soe_parts::mailbox_mail::ReplyKind;
 
 /// What a client is asked.
 #[derive(Clone, Copy)]

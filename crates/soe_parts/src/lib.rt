@@ -5,6 +5,5 @@
 mod subject;
 mod writing;
 
-pub use protocol_models::{ec_fields, mailbox_mail, soe_codec};
 pub use subject::{MOST, Subject};
 pub use writing::{write_message, write_part, write_refusal};

@@ -6,7 +6,7 @@ ghost use Rattle.soe_parts.specs.Parts.{subject_view, message_with, left_from, I
 
 use crate::subject::Subject;
 use arrayvec::ArrayVec;
-use protocol_models::soe_codec::{SoeView, write_view};
+use soe_codec::{SoeView, write_view};
 
 /// The octets of a mail in front of an element's: its header, the message's word and its field.
 const HEADER: usize = 10;

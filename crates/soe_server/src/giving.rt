@@ -5,8 +5,8 @@ ghost use Rattle.soe_server.specs.Serving.{join_of, waiting_mails, is_message, G
 use crate::server::SoeServer;
 use crate::state::Pending;
 use arrayvec::ArrayVec;
-use idn_table::mailbox_mail::{Kind, Mail, error_mail};
-use soe_parts::soe_codec::{READ_ANSWER, WRITE_ANSWER};
+use mailbox_mail::{Kind, Mail, error_mail};
+use soe_codec::{READ_ANSWER, WRITE_ANSWER};
 use soe_parts::{Subject, write_message, write_part, write_refusal};
 
 impl SoeServer {

@@ -8,8 +8,5 @@ mod server;
 mod state;
 mod taking;
 
-pub use idn_table;
-pub use idn_table::mailbox_mail;
 pub use law::calls_are_the_exchange;
 pub use server::SoeServer;
-pub use soe_parts::soe_codec;

@@ -2,7 +2,7 @@ ghost use Rattle.std.specs.Prelude.{◌≡◌, ◌≤◌, [], true, IfOk, None};
 ghost use Rattle.soe_server.specs.Serving.{join_of, waiting_mails, told_of, is_told};
 
 use crate::state::{Common, Pending};
-use idn_table::ec_fields::{NoMemory, Transfer};
+use ec_fields::{NoMemory, Transfer};
 use soe_parts::MOST;
 use std::alloc::Global;
 use std::marker::Model;

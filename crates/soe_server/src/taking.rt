@@ -9,10 +9,10 @@ ghost use Rattle.soe_server.specs.Serving.{subject_of, join_of, goes_with, told_
 
 use crate::server::SoeServer;
 use crate::state::{Common, Pending};
+use ec_fields::{bits, u16_at};
 use idn_table::IdnTable;
-use idn_table::ec_fields::{bits, u16_at};
-use soe_parts::soe_codec::{READ, READ_ANSWER, SoeFault, SoeView, WRITE, WRITE_ANSWER};
-use soe_parts::{MOST, Subject, soe_codec};
+use soe_codec::{READ, READ_ANSWER, SoeFault, SoeView, WRITE, WRITE_ANSWER};
+use soe_parts::{MOST, Subject};
 
 // What a message without the incomplete bit is about.
 fn subject_of(message: SoeView<'_>) -> Subject

@@ -3,12 +3,12 @@ ghost use Rattle.ecmbx_words.specs.of_scenario_keys.Keys.{is_printed, is_name};
 ghost use Rattle.ecmbx_words.specs.Form.{number_in};
 ghost use Rattle.tool_call.specs.Asked.{is_ask, ranged_in, index_in, sub_in, fitting, octets_in, upload_of, download_of, read_in, write_in, one_in, two_in, three_in, act_in, asked_with, asked_in, file_in, IsAct, IsAsked};
 
+use ec_fields::{NoMemory, Octets, buffer_of};
 use ecmbx_words::number;
-use gateway_tool::file_store::Name;
-use gateway_tool::object_dictionary::SdoService;
-use gateway_tool::segment_plan::Service;
+use file_store::Name;
 use hex::FromHexError;
-use reply_text::ec_fields::{NoMemory, Octets, buffer_of};
+use object_dictionary::SdoService;
+use segment_plan::Service;
 use std::alloc::Global;
 
 /// The most octets that a download has.

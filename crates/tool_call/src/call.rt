@@ -12,13 +12,13 @@ ghost use Rattle.tool_call.specs.Causes.{UsageCause, AbsentCause, LongCause, NoA
 
 use crate::asked::{Act, Asked, Slave, asked_of, file_of};
 use crate::lines::{answer, no_answer, port_fault};
-use ecmbx_words::ec_outside::{Files, Peer, Port, Sink};
+use ec_fields::{NoMemory, Octets};
+use ec_outside::{Files, Peer, Port, Sink};
 use ecmbx_words::{Status, load, say, usage};
-use gateway_tool::file_store::Name;
-use gateway_tool::segment_plan::Service;
+use file_store::Name;
 use gateway_tool::{Reply, ToolEnd, ask};
-use reply_text::ec_fields::{NoMemory, Octets};
-use reply_text::mailbox_mail::ReplyKind;
+use mailbox_mail::ReplyKind;
+use segment_plan::Service;
 use std::alloc::Global;
 
 /// The gateway, at 127.0.0.1.

@@ -7,5 +7,3 @@ mod lines;
 
 pub use asked::{Act, Asked, Slave, asked_of, is_ask};
 pub use call::ask_call;
-pub use ecmbx_words;
-pub use gateway_tool::segment_plan;

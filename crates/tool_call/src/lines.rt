@@ -1,9 +1,8 @@
 ghost use Rattle.std.specs.Prelude.{◌≡◌, IfOk};
 ghost use Rattle.tool_call.specs.Lines.{answer_line, no_answer_line, port_fault_line};
 
+use ec_fields::{NoMemory, Octets};
 use gateway_tool::Reply;
-use reply_text::ec_fields::{NoMemory, Octets};
-use reply_text::reply_text;
 use std::alloc::Global;
 
 /// The line of a reply.
