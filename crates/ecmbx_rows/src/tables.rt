@@ -121,6 +121,24 @@ fn tell_mails(row: &mut Row<'_>, text: &str) {
     row.show(given);
 }
 
+// How many mails of a way, by the lines that begin with its sign and go on by their octets, stand among octets in that order.
+fn follow(row: &mut Row<'_>, octets: &[u8], lines: &str, sign: &str) {
+    let (mut from, mut count) = (0, 0_u64);
+    for line in lines.lines() {
+        let mut one = Row::of(row.alloc(), line);
+        if one.word() != sign {
+            continue;
+        }
+        let mail = one.octets();
+        let Some(at) = place_of(octets, mail.bytes(), from) else {
+            return row.fail();
+        };
+        from = at.saturating_add(1);
+        count = count.saturating_add(1);
+    }
+    row.show(count);
+}
+
 impl Stage<MemFiles> {
     // The octets of the file of the next word; where there is none, that is told.
     fn file(&self, row: &mut Row<'_>) -> &[u8] {
@@ -262,24 +280,6 @@ impl Stage<MemFiles> {
         row.say(common.text());
     }
 
-    // How many mails, by the lines of a file (a sign for the way, and the octets), stand in another file in that order.
-    fn follow(&self, row: &mut Row<'_>) {
-        let octets = self.file(row);
-        let lines = self.file(row);
-        let (mut from, mut count) = (0, 0_u64);
-        for line in row.text_in(lines).lines() {
-            let mut one = Row::of(row.alloc(), line);
-            let _sign = one.word();
-            let mail = one.octets();
-            let Some(at) = place_of(octets, mail.bytes(), from) else {
-                return row.fail();
-            };
-            from = at.saturating_add(1);
-            count = count.saturating_add(1);
-        }
-        row.show(count);
-    }
-
     // A datagram that was sent, by its peer.
     fn tell_gram(&self, row: &mut Row<'_>) {
         let at = row.count();
@@ -312,6 +312,12 @@ impl Stage<MemFiles> {
                 let text = row.text_in(octets);
                 tell_mails(row, text);
             }
+            "follow" => {
+                let lines = self.file(row);
+                let lines = row.text_in(lines);
+                follow(row, octets, lines, ">");
+                follow(row, octets, lines, "<");
+            }
             "whole" => tell_whole(row, octets),
             _ => row.fail(),
         }
@@ -330,7 +336,6 @@ impl Stage<MemFiles> {
             "put" => put(row, &mut self.out),
             "surely" => put_surely(row),
             "written" => row.digits(self.out.bytes()),
-            "follow" => self.follow(row),
             _ => self.tell_file(row, call),
         }
     }
