@@ -244,10 +244,14 @@ impl Stage<MemFiles> {
         let mut octets = Octets::new(row.alloc());
         let whole = self.file(row);
         row.check(octets.add(whole).is_ok());
+        let whole = octets.bytes();
         let (from, to) = (row.count(), row.count());
+        if to > whole.len() {
+            return row.fail();
+        }
         let mut common = Page::new(row.alloc());
-        for len in from..to.min(octets.len().saturating_add(1)) {
-            row.check(self.files.add("cut", &octets.bytes()[..len]).is_ok());
+        for len in from..to {
+            row.check(self.files.add("cut", &whole[..len]).is_ok());
             let mut one = Row::of(row.alloc(), "decode cut");
             self.tell_end(&mut one);
             if len == from {
