@@ -165,6 +165,7 @@ impl Ledger {
             Access::Other => Ok(None),
         }
     }
+
     /// The stations whose links opened, with their mails, in that order.
     pub fn into_stations(self) -> Rows<StationAudit>
         ensures { result ≡ self.stations }

@@ -8,6 +8,7 @@ ghost use Rattle.tool_call.specs.Asked.{is_ask, asked_in};
 ghost use Rattle.ecmbx_call.specs.First.{is_stream};
 
 use crate::by_stream::stream_call;
+use crate::top::ecmbx;
 use ec_links::Link;
 use ec_outside::{Files, Port, Sink};
 use ecmbx_words::Status;

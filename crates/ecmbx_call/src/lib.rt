@@ -15,3 +15,4 @@ pub use by_stream::stream_call;
 pub use by_word::program;
 pub use ecmbx_words::Status;
 pub use run_book::{Answer, Begun, Book, Ending, Epoch, Reply, SentFrame, SlaveBook};
+pub use top::ecmbx;

@@ -10,6 +10,7 @@ use ec_fields::{NoMemory, Octets, buffer_of};
 use foe_client::FoeClient;
 use mailbox_mail::{Kind, Mail, ReplyKind, Took};
 use object_dictionary::SdoService;
+use reply_text::reply_text;
 use row_table::{Bench, Row};
 use soe_client::SoeClient;
 use std::alloc::Global;

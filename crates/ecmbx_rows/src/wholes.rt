@@ -12,6 +12,7 @@ use ec_fields::{NoMemory, Octets, buffer_of};
 use eoe::Packet;
 use mailbox_mail::ReplyKind;
 use object_dictionary::{Objects, SdoService};
+use reply_text::reply_text;
 use row_table::{Bench, Page, Row};
 use scenario::read;
 use segment_plan::{Scenario, Service, SlaveSpec};

@@ -90,7 +90,7 @@ module _ {M P T : Type 0} (is : P → Bool) (y z : Speech M P T) (same : Alike i
       ap (λ (e : M → Bool). acknowledged r.service && (is_none r.answer || outnumbers (y.planned r.service (plain e r.heard)) (plain e r.heard))) same.emission
       ∙ ap (λ (ms : List M). acknowledged r.service && (is_none r.answer || outnumbers ms (plain z.emission r.heard))) (same.planned r.service (plain z.emission r.heard) row)
 
-  done_same : (acknowledged : P → Bool) (d : Side M P T) (now : Option (Row M P T)) → RowIs is now → is_acknowledged y acknowledged d now ≡ is_acknowledged z acknowledged d now
+  pub done_same : (acknowledged : P → Bool) (d : Side M P T) (now : Option (Row M P T)) → RowIs is now → is_acknowledged y acknowledged d now ≡ is_acknowledged z acknowledged d now
   done_same acknowledged d None row = refl
   done_same acknowledged d (Some r) row = ap (λ (b : Bool). if b then is_none d.halves.out.holding else true) (unheard_same acknowledged r row)
 

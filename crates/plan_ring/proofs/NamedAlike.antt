@@ -7,7 +7,7 @@ use Rattle.slave_server.specs.of_exchange_model.Rows.{Row, answer_after, left}
 use Rattle.slave_server.specs.of_segment_model.Seats.{Side}
 use Rattle.slave_server.specs.of_state_model.Accounts.{is_free}
 use Rattle.plan_ring.specs.Alike.{Alike, RowIs}
-use Rattle.plan_ring.proofs.Alike.{over_same}
+use Rattle.plan_ring.proofs.Alike.{over_same, done_same}
 
 module _ {M P T : Type 0} (is : P → Bool) (y z : Speech M P T) (same : Alike is y z) (d : Side M P T) where
   pub left_same : (r : Row M P T) → is r.service ≡ true → left y r ≡ left z r
@@ -25,10 +25,10 @@ module _ {M P T : Type 0} (is : P → Bool) (y z : Speech M P T) (same : Alike i
   free_same (Some r) row = over_same is y z same d.halves.out.holding d.fresh r row
 
   pub free_alike : (acknowledged : P → Bool) → RowIs is d.now → IsFree y acknowledged d → IsFree z acknowledged d
-  free_alike acknowledged row f = record { free = sym (free_same d.now row) ∙ f.free; done = f.done }
+  free_alike acknowledged row f = record { free = sym (free_same d.now row) ∙ f.free; done = sym (done_same is y z same acknowledged d d.now row) ∙ f.done }
 
   pub free_back : (acknowledged : P → Bool) → RowIs is d.now → IsFree z acknowledged d → IsFree y acknowledged d
-  free_back acknowledged row f = record { free = free_same d.now row ∙ f.free; done = f.done }
+  free_back acknowledged row f = record { free = free_same d.now row ∙ f.free; done = done_same is y z same acknowledged d d.now row ∙ f.done }
 
   pub left_alike : RowIs is d.now → NoneLeft y d → NoneLeft z d
   left_alike row none = λ r e. sym (left_same r (in_hand d.now row r e)) ∙ none r e

@@ -4,6 +4,7 @@ ghost use Rattle.run_report.specs.Report.{answer_text, answer_line, answer_lines
 use ec_fields::{NoMemory, Octets, Rows};
 use mailbox_mail::ReplyKind;
 use master_node::Origin;
+use reply_text::reply_text;
 use run_book::{Answer, Begun};
 use std::alloc::Global;
 

@@ -3,6 +3,7 @@ ghost use Rattle.tool_call.specs.Lines.{answer_line, no_answer_line, port_fault_
 
 use ec_fields::{NoMemory, Octets};
 use gateway_tool::Reply;
+use reply_text::reply_text;
 use std::alloc::Global;
 
 /// The line of a reply.
