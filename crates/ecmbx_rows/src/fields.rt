@@ -22,13 +22,13 @@ fn grow(row: &mut Row<'_>) {
 fn change(row: &mut Row<'_>) {
     let (first, second, other) = (row.number(), row.number(), row.number());
     let mut rows = Rows::new(row.alloc());
-    if rows.push(first).is_err() || rows.push(second).is_err() {
+    if rows.push(u64::from(first)).is_err() || rows.push(u64::from(second)).is_err() {
         return row.fail();
     }
-    *rows.at_mut(1) = other;
+    *rows.at_mut(1) = u64::from(other);
     row.show(rows.len() as u64);
-    row.show_some(rows.pop().map(u64::from));
-    row.show_some(rows.pop().map(u64::from));
+    row.show_some(rows.pop());
+    row.show_some(rows.pop());
 }
 
 // A transfer of three octets at most, to which three parts are added: whether each fits, and what stands there.

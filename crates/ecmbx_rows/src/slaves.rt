@@ -169,7 +169,10 @@ impl Bench for SlaveBench {
     fn carry(&mut self, row: &mut Row<'_>) {
         match row.word() {
             "pass" => self.pass(row),
-            "request" => row.show_some(self.esc.al_request().map(u64::from)),
+            "request" => match self.esc.al_request() {
+                Some(word) => row.show(u64::from(word)),
+                None => row.say("none"),
+            },
             "offered" => offered(row),
             "read_once" => read_once(row),
             "twice" => taken_once(row),

@@ -117,18 +117,13 @@ fn write(row: &mut Row<'_>, store: &mut Store, bytes: &[u8]) -> Result<(), PoolF
     Ok(())
 }
 
-// Tells what the file has at a place, one octet.
-fn tell_octet(row: &mut Row<'_>, store: &Store, at: usize) {
-    row.show_some(octet(store, at).map(u64::from));
-}
-
 // What the file has at a place, one octet.
-fn octet(store: &Store, at: usize) -> Option<u8> {
+fn octet(store: &Store, at: usize) -> Option<u64> {
     let mut into = [0; 1];
     if store.read_at(b"fw", at, &mut into) == 0 {
         return None;
     }
-    Some(into[0])
+    Some(u64::from(into[0]))
 }
 
 // A version begins with 128 octets: how often the file is busy, and behind them the free blocks and the first octet.
@@ -144,7 +139,7 @@ fn begin(row: &mut Row<'_>, store: &mut Store) -> Option<()>
         return None;
     }
     row.show(u64::from(store.free()));
-    tell_octet(row, store, 0);
+    row.show_some(octet(store, 0));
     Some(())
 }
 
@@ -155,8 +150,8 @@ fn end(row: &mut Row<'_>, store: &mut Store)
     row.answer(store.append(&[2]).is_ok());
     store.commit();
     row.show(u64::from(store.free()));
-    tell_octet(row, store, 127);
-    tell_octet(row, store, 128);
+    row.show_some(octet(store, 127));
+    row.show_some(octet(store, 128));
 }
 
 // A version of 129 octets over two blocks, of which the file has one: what is seen before, while it is appended and behind its end.
@@ -191,16 +186,19 @@ fn dropped(row: &mut Row<'_>) {
     let written = write(row, &mut store, &octets[..256]);
     row.answer(written.is_ok());
     row.show(u64::from(store.free()));
-    tell_octet(row, &store, at);
+    row.show_some(octet(&store, at));
 }
 
 // The code by which the file refuses, or another file.
 fn refused(row: &mut Row<'_>) {
     let (boot, name) = (row.flag(), row.word().as_bytes());
     let (pass, al) = (row.number(), row.small());
-    match store_with(row, 1, boot, &[]) {
-        Some(store) => row.show_some(store.allowed(name, pass, false, al).map(u64::from)),
-        None => row.fail(),
+    let Some(store) = store_with(row, 1, boot, &[]) else {
+        return row.fail();
+    };
+    match store.allowed(name, pass, false, al) {
+        Some(code) => row.show(u64::from(code)),
+        None => row.say("none"),
     }
 }
 
