@@ -2,3 +2,5 @@
 #![tactic(auto)]
 
 mod reply;
+
+pub use reply::reply_text;
