@@ -7,14 +7,14 @@
 //! gained; or neither, in a row of so many frames at most; or the frame was lost, or began to reopen a slave, and put off the end by so many at most.
 #![tactic(auto)]
 
+mod again;
 mod checksum;
 mod gram;
 mod measure;
 mod repair;
-mod replay;
 mod sending;
 mod tally;
 mod tracker;
 
+pub use again::{Replayed, replay};
 pub use measure::{Measured, Uncounted};
-pub use replay::{Replayed, replay};
