@@ -4,7 +4,7 @@ use Rattle.idle_slaves.specs.Eager.{Remembered, NoneLeft, MayBegin, IsEager, Rem
 use Rattle.idle_slaves.specs.EagerFrames.{One, TellsBy}
 use Rattle.idle_slaves.specs.Standing.{IsDone}
 use Rattle.plan_ring.specs.of_exchange_model.Exchange.{Exchange, Speech}
-use Rattle.plan_ring.specs.of_exchange_model.Rows.{Row, left}
+use Rattle.plan_ring.specs.of_exchange_model.Rows.{Row, left, ends_unheard}
 use Rattle.plan_ring.specs.of_frame_view.View.{Lens}
 use Rattle.plan_ring.specs.of_slave_model.Moments.{NowAnswered}
 use Rattle.idle_slaves.specs.Going.{IsCome}
@@ -48,10 +48,10 @@ exchange_at lens s = (asked (profile_of s) s.boot lens).exchange
 abbrev pub table_at : (ℕ → Lens) → SlaveSpec → Table
 table_at lens s = table_of (asked (profile_of s) s.boot lens) s.station
 
--- what has its answer was told whole, and each of its mails sent, but for one that ends with an acknowledgement
+-- what has its answer was told whole, and each of its mails sent, but for one that ends with an acknowledgement that no reply follows
 abbrev pub ToldWhole : Speech Body Asked Reply → (Asked → Bool) → Era Body Asked Reply → Type 0
 ToldWhole x ends e =
-    e.account.hand ≡ None → (r : Row Body Asked Reply) → e.side.now ≡ Some r → (answer : Reply × ℕ) → r.answer ≡ Some answer → ends r.service ≡ false → (left x r ≡ []) × (e.side.fresh ≡ false)
+    e.account.hand ≡ None → (r : Row Body Asked Reply) → e.side.now ≡ Some r → (answer : Reply × ℕ) → r.answer ≡ Some answer → ends_unheard x ends r ≡ false → (left x r ≡ []) × (e.side.fresh ≡ false)
 
 -- AN OPEN SLAVE: its mailboxes agree with its master's halves, its steps and its AL state are by its table; what was heard of its newest service is its answer,
 -- and that has it only when it was told whole; where nothing is left of it a service may begin, and each that does has a mail and no answer yet
