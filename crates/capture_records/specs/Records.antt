@@ -1,7 +1,7 @@
-use Rattle.std.specs.Prelude.{◌≡◌, ℕ, zero, suc, ◌+◌, ◌*◌, ◌-◌, ◌==◌, nat_lt, if◌then◌else◌, List, [], ◌∷◌, ◌++◌, length, drop, Option, None, Some, Result, Ok, Err}
+use Rattle.std.specs.Prelude.{ℕ, zero, suc, ◌+◌, ◌*◌, ◌-◌, ◌==◌, nat_lt, if◌then◌else◌, List, [], ◌∷◌, ◌++◌, length, drop, Option, None, Some, Result, Ok, Err}
 use Rattle.capture_blocks.specs.declared.order.Order.{Order}
 use Rattle.capture_blocks.specs.declared.order.Order.TheVariants.{LowFirst, HighFirst}
-use Rattle.capture_blocks.specs.Order.{number_in, octets_in}
+use Rattle.capture_blocks.specs.Order.{number_in}
 use Rattle.capture_records.specs.declared.packet.FileEnd.{FileEnd}
 use Rattle.capture_records.specs.declared.packet.FileEnd.TheVariants.{Whole, Cut, Damaged}
 use Rattle.capture_records.specs.declared.packet.PacketAt.{PacketAt}

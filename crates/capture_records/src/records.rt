@@ -1,4 +1,6 @@
-ghost use Rattle.std.specs.Prelude.{◌≡◌, ◌+◌, ◌<◌, ◌≤◌, length, drop, IfOk};
+ghost use Rattle.std.specs.Prelude.{◌≡◌, ◌+◌, ◌<◌, ◌≤◌, List, length, drop, IfOk};
+ghost use Rattle.capture_records.specs.Grammar.{Record, AreRead, AreRecords, packets_of, records_text};
+ghost use Rattle.capture_records.specs.declared.packet.FileEnd.TheVariants.{Whole};
 ghost use Rattle.capture_records.specs.Records.{form_by, form_in, record_read, records_read};
 
 use crate::packet::{FileEnd, PacketAt};
@@ -119,6 +121,8 @@ pub fn read_records(
 ) -> Result<Records, NoMemory>
     requires head { 16 ≤ form.head }
     requires inside { begin ≤ length bytes.now }
+    ensures found { IfOk result (AreRead form begin (drop begin bytes.now)) }
+    ensures only { (rs : List Record) → AreRecords form rs → drop begin bytes.now ≡ records_text form rs → IfOk result (λ found. found ≡ record { packets = packets_of form begin rs; end = Whole }) }
     ensures exact { IfOk result (λ records. records ≡ records_read form begin (drop begin bytes.now)) }
 {
     read_plain(alloc, form, bytes, begin)
