@@ -1,0 +1,3 @@
+pub use Rattle.capture_blocks.specs as of_capture_blocks
+pub mod Grammar
+pub mod Records
