@@ -160,8 +160,8 @@ impl<F: Files + Drop> Stage<F> {
         (status, heard)
     }
 
-    /// Makes the call whose words stand in NAME.words, one a line, to the slaves of the plan SCENARIO.toml. Tells what it put, how many datagrams went and came, and
-    /// its status.
+    /// Makes the call whose words stand in NAME.words, one a line, to the slaves of the plan SCENARIO.toml. Tells what it put, how many datagrams went and
+    /// came, and its status.
     pub fn tell_asking(&mut self, page: &mut Page, scenario: &str, name: &str) {
         let octets = octets_of(page, &mut self.files, name, ".words");
         let mut words = Page::new(page.alloc());

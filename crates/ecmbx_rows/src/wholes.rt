@@ -133,7 +133,8 @@ impl Model for CarriedBench {
 
     ghost view = { λ b. b.objects };
 
-    ghost invariant = { λ b. AreMailboxes (areas_of b.client b.server) × (lengths_of b.mailboxes ≡ areas_of b.client b.server) × (waiting_mails b.server ≡ []) };
+    ghost invariant = { λ b. AreMailboxes (areas_of b.client b.server) × (lengths_of b.mailboxes ≡ areas_of b.client b.server) ×
+        (waiting_mails b.server ≡ []) };
 }
 
 // How many octets a service brings.
