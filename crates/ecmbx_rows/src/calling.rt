@@ -1,17 +1,14 @@
 //! Calls of the program over ports and links in memory: what each leaves.
 
-ghost use Rattle.std.specs.Prelude.{◌≤◌, ◌≡◌, true};
-ghost use Rattle.std.specs.Bool.{OnTrue};
-ghost use Rattle.run_book.specs.Book.{IsShort};
-
 use crate::scripts::{Script, octets_of, script_of};
 use crate::stage::Stage;
 use ec_fields::{Octets, Rows};
 use ec_links::MemLink;
 use ec_outside::{Files, MemPort, Peer, PortItem, SentGram};
+use pcap_frames::{Stamp, write_head, write_packet};
 use row_table::Page;
 use run_book::SentFrame;
-use run_report::saved;
+use segment_ring::Fate;
 use sha2::{Digest, Sha256};
 
 /// Who asks, and the gateway.
@@ -40,19 +37,28 @@ pub fn tell_number(page: &mut Page, word: &str, number: u64) {
     page.show(number);
 }
 
-fn is_short(frame: &SentFrame) -> bool
-    ensures { OnTrue result (IsShort frame.now) }
-{
-    frame.sent.len() <= 1514 && frame.back.len() <= 1514
-}
-
-// The digest of the frames as a capture.
-fn tell_capture(page: &mut Page, frames: &[SentFrame]) {
-    let mut capture = Octets::new(page.alloc());
-    if frames.len() > 100_000_000 || !frames.iter().all(|frame| is_short(frame)) {
+// One more packet in a capture, at the time of a frame, which is its number in microseconds.
+fn add_packet(page: &mut Page, capture: &mut Octets, number: usize, packet: &[u8]) {
+    if number > 99_999_999 || packet.len() > 65_535 {
         return page.fail();
     }
-    page.check(saved(frames, &mut capture).is_ok());
+    let stamp = Stamp {
+        seconds: (number / 1_000_000) as u32,
+        part: (number % 1_000_000) as u32,
+    };
+    page.check(write_packet(capture, stamp, packet).is_ok());
+}
+
+// The digest of frames as a capture: each as it was sent and, where it returned, as it returned.
+fn tell_capture(page: &mut Page, frames: &[SentFrame]) {
+    let mut capture = Octets::new(page.alloc());
+    page.check(write_head(&mut capture).is_ok());
+    for (number, frame) in frames.iter().enumerate() {
+        add_packet(page, &mut capture, number, frame.sent.bytes());
+        if matches!(frame.fate, Fate::Pass) {
+            add_packet(page, &mut capture, number, frame.back.bytes());
+        }
+    }
     let digest = Sha256::digest(capture.bytes());
     page.line("capture", digest.as_slice());
 }

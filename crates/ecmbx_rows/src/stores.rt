@@ -57,9 +57,9 @@ fn two_chains(row: &mut Row<'_>) {
     let Some(second) = pool.begin() else {
         return row.fail();
     };
-    if pool.append(&second, &octets).is_ok() {
+    let Err(_full) = pool.append(&second, &octets) else {
         return row.fail();
-    }
+    };
     let (left, len) = (pool.free(), pool.len(&second));
     let Ok(()) = pool.append(&second, &octets[..128]) else {
         return row.fail();
@@ -147,7 +147,10 @@ fn begin(row: &mut Row<'_>, store: &mut Store) -> Option<()>
 fn end(row: &mut Row<'_>, store: &mut Store)
     requires { HasPart store.old }
 {
-    row.answer(store.append(&[2]).is_ok());
+    let Err(_full) = store.append(&[2]) else {
+        return row.fail();
+    };
+    row.answer(false);
     store.commit();
     row.show(u64::from(store.free()));
     row.show_some(octet(store, 127));

@@ -151,14 +151,6 @@ fn len_of(service: &SdoService) -> usize
     }
 }
 
-// The objects of the first slave of a plan.
-fn objects_for(alloc: Global, plan: &Scenario) -> Option<Objects>
-    requires { IsLaid plan.now }
-{
-    let spec = first(plan.slaves.as_slice())?;
-    objects_of(alloc, spec).ok()
-}
-
 // The service of a word, for an object, with octets that it brings or `value`.
 fn service_in(row: &mut Row<'_>) -> (SdoService, Octets) {
     let call = row.word();
@@ -205,11 +197,21 @@ impl CarriedBench {
         })
     }
 
+    // The same over the objects of the first slave of a plan.
+    fn of(alloc: Global, plan: &Scenario) -> Option<CarriedBench>
+        requires { IsLaid plan.now }
+    {
+        let spec = first(plan.slaves.as_slice())?;
+        let objects = objects_of(alloc, spec).ok()?;
+        CarriedBench::over(alloc, objects).ok()
+    }
+
     /// Mailboxes of 64 octets over the objects of the first slave of a scenario.
     pub fn new(alloc: Global, scenario: &[u8]) -> Option<CarriedBench> {
-        let plan = read(alloc, scenario).ok()?;
-        let objects = objects_for(alloc, &plan)?;
-        CarriedBench::over(alloc, objects).ok()
+        match read(alloc, scenario) {
+            Ok(plan) => CarriedBench::of(alloc, &plan),
+            Err(_) => None,
+        }
     }
 
     // Carries out a service in PreOp: its reply, and by how many mails.
