@@ -1,0 +1,3 @@
+pub use Rattle.ec_fields.specs as of_ec_fields
+pub mod Fitting
+pub mod Telling
