@@ -1,5 +1,5 @@
 -- What is left of a list of which some items were told.
-use Rattle.std.proofs.Common.{◌≡◌, ◌==◌, ℕ, ◌+◌, ◌-◌, ◌<◌, ◌≤◌, nat_lt, nat_le, Bool, true, false, List, [], ◌∷◌, ◌++◌, length, get_or, take, drop, refl, sym, ◌∙◌, ap, append_assoc}
+use Rattle.std.proofs.Common.{◌≡◌, ◌==◌, ℕ, ◌+◌, ◌-◌, ◌<◌, ◌≤◌, nat_lt, nat_le, Bool, true, false, List, [], ◌∷◌, ◌++◌, length, map, cond, get_or, take, drop, refl, sym, ◌∙◌, ap, append_assoc}
 use Rattle.std.proofs.lemmas.List.{drop_more, drop_all, append-nil}
 use Rattle.std.proofs.lemmas.Bool.{lt-ltb, le-leb}
 use Rattle.std.specs.List.{filter, flat_map, list_all}
@@ -61,3 +61,12 @@ padded code digits same some fits zeros is =
     let low : nat_lt 0 (length digits) ≡ true = lt-ltb 0 (length digits) some in
     let within : nat_le (length digits) (length code) ≡ true = le-leb (length digits) (length code) fits in
     rw (low, within, zeros) is
+
+through_one : {X Y : Type 0} (v : X → Y) (f : Y → List ℕ) (b : Bool) (x : X) (xs : List X) (ys : List Y) → flat_map (λ x. f (v x)) xs ≡ flat_map f ys → flat_map (λ x. f (v x)) (cond b (x ∷ xs) xs) ≡ flat_map f (cond b (v x ∷ ys) ys)
+through_one v f true x xs ys same = ap (λ t. f (v x) ++ t) same
+through_one v f false x xs ys same = same
+
+-- what is seen of items is told as of the items
+pub through : {X Y : Type 0} (v : X → Y) (p : Y → Bool) (f : Y → List ℕ) (xs : List X) → flat_map (λ x. f (v x)) (filter (λ x. p (v x)) xs) ≡ flat_map f (filter p (map v xs))
+through v p f [] = refl
+through v p f (x ∷ xs) = through_one v f (p (v x)) x (filter (λ x. p (v x)) xs) (filter p (map v xs)) (through v p f xs)

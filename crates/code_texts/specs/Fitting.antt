@@ -4,8 +4,9 @@ use Rattle.std.specs.List.{list_all, starts_with}
 use Rattle.std.specs.Str.{bytes_eq}
 use Rattle.std.specs.Char.{to_ascii_lowercase}
 use Rattle.code_texts.specs.declared.family.Family.{Family}
-use Rattle.code_texts.specs.declared.family.Row.{Row}
 use Rattle.code_texts.specs.declared.fitting.Reading.{Reading}
+use Rattle.code_texts.specs.Family.{word_of, report_of, is_of_services}
+use Rattle.code_texts.specs.Rows.{code_of}
 use Rattle.code_texts.specs.declared.fitting.Reading.TheVariants.{AsItStands, BehindZeros}
 
 -- the same word, but for capital and small letters
@@ -20,16 +21,16 @@ is_padded code digits =
 
 -- a word without the `0x` that may stand ahead of a code of services
 unfoldable pub digits_in : Family → List ℕ → List ℕ
-digits_in family word = if family.of_services && starts_with nat_eq word (codes "0x") then drop 2 word else word
+digits_in family word = if is_of_services family && starts_with nat_eq word (codes "0x") then drop 2 word else word
 
 -- a row whose code is the word, or the word behind zeros
-unfoldable pub fits : Reading → Family → List ℕ → Row → Bool
-fits AsItStands family word row = is_same row.code.now (digits_in family word)
-fits BehindZeros family word row = is_padded row.code.now (digits_in family word)
+unfoldable pub fits : Reading → Family → List ℕ → List ℕ → Bool
+fits AsItStands family word row = is_same (code_of row) (digits_in family word)
+fits BehindZeros family word row = is_padded (code_of row) (digits_in family word)
 
 -- a word by which a family is asked for, or with which a report's line begins that tells its codes
 unfoldable pub is_named : List ℕ → Family → Bool
-is_named head family = is_same head family.word.now || is_same head family.report.now
+is_named head family = is_same head (word_of family) || is_same head (report_of family)
 
 -- a family that is asked for: each, where no word names one
 unfoldable pub is_asked : Option (List ℕ) → Family → Bool

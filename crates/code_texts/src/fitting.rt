@@ -2,7 +2,7 @@ ghost use Rattle.std.specs.Prelude.{◌≡◌, ◌==◌, option_copied};
 ghost use Rattle.std.specs.List.{list_all};
 ghost use Rattle.code_texts.specs.Fitting.{is_same, is_padded, is_named, is_asked, digits_in, fits};
 
-use crate::family::{Family, Row};
+use crate::family::{Family, parts};
 
 /// How a word is compared with a code.
 #[derive(Clone, Copy)]
@@ -41,10 +41,10 @@ fn is_padded(code: &[u8], digits: &[u8]) -> bool
 
 // The digits of a word: codes of services may be asked for with `0x` ahead.
 #[tactic(auto, unfolding(crate::specs::Fitting::digits_in))]
-fn digits_in<'a>(family: &Family, word: &'a [u8]) -> &'a [u8]
-    ensures { result.now ≡ digits_in family.now word.now }
+fn digits_in<'a>(family: Family, word: &'a [u8]) -> &'a [u8]
+    ensures { result.now ≡ digits_in family word.now }
 {
-    if family.of_services && word.starts_with(b"0x") {
+    if family.is_of_services() && word.starts_with(b"0x") {
         &word[2..]
     } else {
         word
@@ -53,29 +53,30 @@ fn digits_in<'a>(family: &Family, word: &'a [u8]) -> &'a [u8]
 
 /// Whether a row of a family has the code that a word asks for.
 #[tactic(auto, unfolding(crate::specs::Fitting::fits))]
-pub(crate) fn fits(reading: Reading, family: &Family, word: &[u8], row: &Row) -> bool
-    ensures { result ≡ fits reading family.now word.now row.now }
+pub(crate) fn fits(reading: Reading, family: Family, word: &[u8], row: &str) -> bool
+    ensures { result ≡ fits reading family word.now row.now }
 {
+    let (code, _) = parts(row);
     let digits = digits_in(family, word);
     match reading {
-        Reading::AsItStands => is_same(row.code.as_bytes(), digits),
-        Reading::BehindZeros => is_padded(row.code.as_bytes(), digits),
+        Reading::AsItStands => is_same(code.as_bytes(), digits),
+        Reading::BehindZeros => is_padded(code.as_bytes(), digits),
     }
 }
 
 /// Whether a word is the one by which a family is asked for, or the one with which a report's line begins that tells its codes.
 #[tactic(auto, unfolding(crate::specs::Fitting::is_named))]
-pub(crate) fn is_named(head: &str, family: &Family) -> bool
-    ensures { result ≡ is_named head.now family.now }
+pub(crate) fn is_named(head: &str, family: Family) -> bool
+    ensures { result ≡ is_named head.now family }
 {
     let head = head.as_bytes();
-    is_same(head, family.word.as_bytes()) || is_same(head, family.report.as_bytes())
+    is_same(head, family.word().as_bytes()) || is_same(head, family.report().as_bytes())
 }
 
 /// Whether a family is asked for: each is, where no word names one.
 #[tactic(auto, unfolding(crate::specs::Fitting::is_asked))]
-pub(crate) fn is_asked(head: Option<&str>, family: &Family) -> bool
-    ensures { result ≡ is_asked (option_copied head.entry) family.now }
+pub(crate) fn is_asked(head: Option<&str>, family: Family) -> bool
+    ensures { result ≡ is_asked (option_copied head.entry) family }
 {
     match head {
         None => true,

@@ -8,7 +8,7 @@ mod services;
 mod telling;
 
 pub use ec_fields;
-pub use family::{FAMILIES, Family, Row};
+pub use family::{FAMILIES, Family};
 pub use fitting::is_same;
 pub use program::{AUDIT_RULES, FAULTS, RULES, STATUSES};
 pub use services::{ABORTS, AL_STATUS_CODES, EOE_RESULTS, FOE_ERRORS, MAILBOX_ERRORS, SOE_ERRORS};

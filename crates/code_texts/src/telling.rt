@@ -1,9 +1,10 @@
-ghost use Rattle.std.specs.Prelude.{◌≡◌, ◌++◌, filter, IfOk, OnOk, option_copied};
+ghost use Rattle.std.specs.Prelude.{◌≡◌, ◌++◌, filter, map, IfOk, OnOk, option_copied};
 ghost use Rattle.std.specs.List.{flat_map, list_any};
+ghost use Rattle.code_texts.specs.Rows.{rows_of};
 ghost use Rattle.code_texts.specs.Fitting.{is_named, is_asked, fits};
 ghost use Rattle.code_texts.specs.Telling.{row_line, row_entry, found_in, found, family_head, family_entry, listed, told};
 
-use crate::family::{Family, Row};
+use crate::family::{Family, parts, rows};
 use crate::fitting::{self, Reading, fits, is_asked};
 use ec_fields::{NoMemory, Octets};
 use std::alloc::Global;
@@ -13,27 +14,28 @@ const BLANKS: &[u8; 10] = b"          ";
 
 // The line that tells a code: `SDO abort code 06090031: the value is above the maximum`.
 #[tactic(auto, unfolding(crate::specs::Telling::row_line))]
-fn add_row(text: &mut Octets, family: &Family, row: &Row) -> Result<(), NoMemory>
-    ensures { OnOk result (text.new ≡ text.old ++ row_line family.now row.now) }
+fn add_row(text: &mut Octets, family: Family, row: &str) -> Result<(), NoMemory>
+    ensures { OnOk result (text.new ≡ text.old ++ row_line family row.now) }
 {
-    text.add(family.title.as_bytes())?;
+    let (code, says) = parts(row);
+    text.add(family.title().as_bytes())?;
     text.add(b" ")?;
-    text.add(row.code.as_bytes())?;
+    text.add(code.as_bytes())?;
     text.add(b": ")?;
-    text.add(row.text.as_bytes())?;
+    text.add(says.as_bytes())?;
     text.add(b"\n")
 }
 
-// The lines of the rows of a family that fit a word.
-fn add_fitting(
+// The lines of those of the rows that fit a word.
+fn add_matching(
     text: &mut Octets,
     reading: Reading,
-    family: &Family,
+    family: Family,
     word: &[u8],
+    rows: &[&str],
 ) -> Result<(), NoMemory>
-    ensures { OnOk result (text.new ≡ text.old ++ found_in reading word.now family.now) }
+    ensures { OnOk result (text.new ≡ text.old ++ flat_map (row_line family) (filter (fits reading family word.now) (map (λ row. row.now) rows.now))) }
 {
-    let rows = family.rows;
     for row in rows {
         if fits(reading, family, word, row) {
             add_row(text, family, row)?;
@@ -42,8 +44,24 @@ fn add_fitting(
     Ok(())
 }
 
+// The lines of the rows of a family that fit a word.
+#[tactic(auto, unfolding(crate::specs::Telling::found_in))]
+fn add_fitting(
+    alloc: Global,
+    text: &mut Octets,
+    reading: Reading,
+    family: Family,
+    word: &[u8],
+) -> Result<(), NoMemory>
+    ensures { OnOk result (text.new ≡ text.old ++ found_in reading word.now family) }
+{
+    let rows = rows(alloc, family)?;
+    add_matching(text, reading, family, word, rows.as_slice())
+}
+
 // The lines of all rows of the families asked for that fit a word.
 fn add_found(
+    alloc: Global,
     text: &mut Octets,
     reading: Reading,
     families: &[Family],
@@ -53,8 +71,8 @@ fn add_found(
     ensures { OnOk result (text.new ≡ text.old ++ found reading families.now (option_copied head.entry) word.now) }
 {
     for family in families {
-        if is_asked(head, family) {
-            add_fitting(text, reading, family, word)?;
+        if is_asked(head, *family) {
+            add_fitting(alloc, text, reading, *family, word)?;
         }
     }
     Ok(())
@@ -74,6 +92,7 @@ pub fn find(
 {
     let mut text = Octets::new(alloc);
     add_found(
+        alloc,
         &mut text,
         Reading::AsItStands,
         families,
@@ -84,6 +103,7 @@ pub fn find(
         return Ok(text);
     }
     add_found(
+        alloc,
         &mut text,
         Reading::BehindZeros,
         families,
@@ -95,30 +115,31 @@ pub fn find(
 
 // The line of a row in a list: `  06090031  the value is above the maximum`, the text from the thirteenth column on.
 #[tactic(auto, unfolding(crate::specs::Telling::row_entry))]
-fn add_entry(text: &mut Octets, row: &Row) -> Result<(), NoMemory>
+fn add_entry(text: &mut Octets, row: &str) -> Result<(), NoMemory>
     ensures { OnOk result (text.new ≡ text.old ++ row_entry row.now) }
 {
+    let (code, says) = parts(row);
     text.add(b"  ")?;
-    text.add(row.code.as_bytes())?;
-    text.add(&BLANKS[..10_usize.saturating_sub(row.code.len())])?;
-    text.add(row.text.as_bytes())?;
+    text.add(code.as_bytes())?;
+    text.add(&BLANKS[..10_usize.saturating_sub(code.len())])?;
+    text.add(says.as_bytes())?;
     text.add(b"\n")
 }
 
 // The line ahead of a family's rows: `SDO abort code (abort)`.
 #[tactic(auto, unfolding(crate::specs::Telling::family_head))]
-fn add_head(text: &mut Octets, family: &Family) -> Result<(), NoMemory>
-    ensures { OnOk result (text.new ≡ text.old ++ family_head family.now) }
+fn add_head(text: &mut Octets, family: Family) -> Result<(), NoMemory>
+    ensures { OnOk result (text.new ≡ text.old ++ family_head family) }
 {
-    text.add(family.title.as_bytes())?;
+    text.add(family.title().as_bytes())?;
     text.add(b" (")?;
-    text.add(family.word.as_bytes())?;
+    text.add(family.word().as_bytes())?;
     text.add(b")\n")
 }
 
 // The rows of a family.
-fn add_entries(text: &mut Octets, rows: &[Row]) -> Result<(), NoMemory>
-    ensures { OnOk result (text.new ≡ text.old ++ flat_map row_entry rows.now) }
+fn add_entries(text: &mut Octets, rows: &[&str]) -> Result<(), NoMemory>
+    ensures { OnOk result (text.new ≡ text.old ++ flat_map row_entry (map (λ row. row.now) rows.now)) }
 {
     for row in rows {
         add_entry(text, row)?;
@@ -128,11 +149,12 @@ fn add_entries(text: &mut Octets, rows: &[Row]) -> Result<(), NoMemory>
 
 // A family with its rows.
 #[tactic(auto, unfolding(crate::specs::Telling::family_entry))]
-fn add_family(text: &mut Octets, family: &Family) -> Result<(), NoMemory>
-    ensures { OnOk result (text.new ≡ text.old ++ family_entry family.now) }
+fn add_family(alloc: Global, text: &mut Octets, family: Family) -> Result<(), NoMemory>
+    ensures { OnOk result (text.new ≡ text.old ++ family_entry family) }
 {
+    let rows = rows(alloc, family)?;
     add_head(text, family)?;
-    add_entries(text, family.rows)
+    add_entries(text, rows.as_slice())
 }
 
 /// The families asked for with all their codes: a line `TITLE (WORD)`, and for each code a line `  CODE  TEXT`.
@@ -141,8 +163,8 @@ pub fn list(alloc: Global, families: &[Family], head: Option<&str>) -> Result<Oc
 {
     let mut text = Octets::new(alloc);
     for family in families {
-        if is_asked(head, family) {
-            add_family(&mut text, family)?;
+        if is_asked(head, *family) {
+            add_family(alloc, &mut text, *family)?;
         }
     }
     Ok(text)
@@ -154,5 +176,5 @@ pub fn is_named(families: &[Family], head: &str) -> bool
 {
     families
         .iter()
-        .any(|family| fitting::is_named(head, family))
+        .any(|family| fitting::is_named(head, *family))
 }

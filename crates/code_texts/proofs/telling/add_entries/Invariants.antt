@@ -4,4 +4,4 @@ use Rattle.code_texts.specs.Telling.{row_entry}
 use Rattle.code_texts.proofs.telling.add_entries.Given as goal
 
 abbrev pub invariant-loop-row : goal.invariant-loop-row
-invariant-loop-row l = l.text ++ flat_map row_entry (drop l.row-index l.rows) ≡ l.fn.text ++ flat_map row_entry l.rows
+invariant-loop-row l = l.text ++ flat_map (λ row. row_entry row.now) (drop l.row-index l.rows) ≡ l.fn.text ++ flat_map (λ row. row_entry row.now) l.rows
