@@ -1,4 +1,3 @@
-pub use Rattle.ec_fields.specs as of_ec_fields
 pub mod Family
 pub mod Rows
 pub mod Fitting

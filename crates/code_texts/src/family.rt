@@ -1,4 +1,4 @@
-ghost use Rattle.std.specs.Prelude.{◌≡◌, ◌==◌, map, IfOk};
+ghost use Rattle.std.specs.Prelude.{◌≡◌, map, IfOk};
 ghost use Rattle.code_texts.specs.Family.{word_of, report_of, title_of, is_of_services, codes_of};
 ghost use Rattle.code_texts.specs.Rows.{rows_of, code_of, text_of};
 

@@ -7,7 +7,6 @@ mod program;
 mod services;
 mod telling;
 
-pub use ec_fields;
 pub use family::{FAMILIES, Family};
 pub use fitting::is_same;
 pub use program::{AUDIT_RULES, FAULTS, RULES, STATUSES};

@@ -1,4 +1,4 @@
-use Rattle.std.proofs.Common.{lit<, rules, ap, sym, ◌∙◌, ◌+◌, take, drop, arith}
+use Rattle.std.proofs.Common.{lit<, rules}
 use Rattle.std.proofs.lemmas.List.{take_all, drop_all}
 use Rattle.std.proofs.lemmas.Str.Pattern.{split_once_first}
 use Rattle.code_texts.specs.Rows.{code_of, text_of}

@@ -1,7 +1,5 @@
-use Rattle.std.proofs.Common.{ap, sym}
 use Rattle.std.proofs.lemmas.Iterator.Consumers.{map_from_collect}
 use Rattle.std.proofs.lemmas.Iterator.Splits.{YieldsList-from_lines}
-use Rattle.std.specs.Str.Lines.{lines}
 use Rattle.code_texts.specs.Rows.{rows_of}
 use Rattle.code_texts.proofs.family.rows.Goals as goal
 
