@@ -1,6 +1,7 @@
 //! The mailbox half of EtherCAT as a program: `ecmbx run SCENARIO` runs the segment of a scenario
 //! frame by frame and prints the report, and `ecmbx serve SCENARIO COUNT` answers mailbox requests that
 //! come by UDP, `ecmbx stream SCENARIO COUNT` those that come on a TCP connection, and `ecmbx ask STATION OUT IN DO ARGS` sends some by UDP.
+//! `ecmbx explain [CODE]` tells people what a code means.
 #![tactic(auto)]
 
 mod output;
@@ -9,6 +10,7 @@ use crate::output::Output;
 use ec_links::TcpLink;
 use ec_outside::{DiskFiles, UdpPort};
 use ecmbx_call::{Book, Status, program};
+use people_call::people_call;
 use std::process::ExitCode;
 use std::rt::Env;
 use std::{env, io, mem};
@@ -48,15 +50,21 @@ fn main(rt: HostRuntime) -> ExitCode {
     let mut out = Output::new(alloc, &rt);
     let mut book = Book::new(alloc);
     let mut port = UdpPort::new(&rt, LOCALHOST, port_for(words.as_slice()));
-    let (status, _) = program(
-        alloc,
-        words.as_slice(),
-        &mut files,
-        &mut out,
-        &mut port,
-        TcpLink::new(&rt),
-        &mut book,
-    );
+    let status = match people_call(alloc, words.as_slice(), &mut out) {
+        Some(status) => status,
+        None => {
+            let (status, _) = program(
+                alloc,
+                words.as_slice(),
+                &mut files,
+                &mut out,
+                &mut port,
+                TcpLink::new(&rt),
+                &mut book,
+            );
+            status
+        }
+    };
     // The process ends: letting go frame by frame what it gives back whole would only cost time.
     mem::forget(book);
     match out.flush() {

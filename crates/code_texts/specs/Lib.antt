@@ -1,0 +1,4 @@
+pub mod Family
+pub mod Rows
+pub mod Fitting
+pub mod Telling

@@ -1,0 +1,8 @@
+//! The forms of the program that tell people something; scripts have the other forms.
+#![tactic(auto)]
+
+mod call;
+mod explain;
+mod near;
+
+pub use call::people_call;
