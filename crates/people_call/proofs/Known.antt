@@ -1,8 +1,8 @@
 -- Whether a text that was found has something.
-use Rattle.std.proofs.Common.{◌≡◌, ℕ, true, false, List, [], ◌∷◌, ◌++◌, Option, Some, None, option_copied, Bor, refl, sym, ap, ◌∙◌, append_assoc}
-use Rattle.std.proofs.lemmas.List.{append-nil}
-use Rattle.people_call.specs.declared.explain.Told.{Told}
-use Rattle.people_call.specs.Explain.{known_or, question, hint}
+use Rattle.std.proofs.Common.{◌≡◌, ℕ, ◌≤◌, true, false, List, [], ◌∷◌, ◌++◌, length, map, drop, refl, sym, ap, ◌∙◌, append_assoc}
+use Rattle.std.proofs.lemmas.List.{append-nil, drop_all}
+use Rattle.form_help.specs.declared.telling.Told.{Told}
+use Rattle.people_call.specs.Explain.{known_or}
 
 some_known : (found line : List ℕ) → (found ≡ [] → ⊥) → ◌≡◌ {A = Told} (record { is_known = true; text = found }) (known_or found line)
 some_known [] line some = absurd (some refl)
@@ -31,14 +31,8 @@ five old a word b d e f one two mid last new first second same third fourth fift
     ∙ append_assoc (old ++ (a ++ (b ++ d))) e f ∙ append_assoc old (a ++ (b ++ d)) (e ++ f)
     ∙ ap (λ t. old ++ t) (append_assoc a (b ++ d) (e ++ f) ∙ ap (λ t. a ++ t) (append_assoc b d (e ++ f)))
 
--- a word that was meant is asked for
-pub hinted : (found : Option (Bor (List ℕ))) (meant : Bor (List ℕ)) (near : Option (List ℕ)) (old new : List ℕ) → found ≡ Some meant → option_copied found ≡ near → new ≡ old ++ question meant.now → new ≡ old ++ hint near
-hinted found meant near old new is same put =
-    let some : Some meant.now ≡ near = sym (ap option_copied is) ∙ same in
-    put ∙ ap (λ n. old ++ hint n) some
-
--- and none isn't
-pub unhinted : (found : Option (Bor (List ℕ))) (near : Option (List ℕ)) (old : List ℕ) → found ≡ None → option_copied found ≡ near → old ≡ old ++ hint near
-unhinted found near old is same =
-    let none : None ≡ near = sym (ap option_copied is) ∙ same in
-    sym (append-nil old) ∙ ap (λ n. old ++ hint n) none
+-- what is seen of families of which none is left
+pub all_seen : {X Y : Type 0} (f : X → Y) (xs : List X) (i : ℕ) (so : List Y) → length xs ≤ i → so ++ map f (drop i xs) ≡ map f xs → so ≡ map f xs
+all_seen f xs i so le is =
+    let none : map f (drop i xs) ≡ [] = ap (map f) (drop_all i xs le) in
+    sym (append-nil so) ∙ ap (λ t. so ++ t) (sym none) ∙ is

@@ -1,11 +1,13 @@
 -- What the words behind `explain` ask for.
-use Rattle.std.specs.Prelude.{ℕ, ◌&&◌, ◌||◌, Bool, true, false, List, [], ◌∷◌, ◌++◌, codes, Option, Some, None, if◌then◌else◌}
+use Rattle.std.specs.Prelude.{ℕ, ◌&&◌, ◌||◌, Bool, true, false, List, [], ◌∷◌, ◌++◌, map, codes, Option, Some, None, if◌then◌else◌}
 use Rattle.std.specs.List.{list_any}
 use Rattle.code_texts.specs.declared.family.Family.{Family}
 use Rattle.code_texts.specs.Fitting.{is_same, is_named}
 use Rattle.code_texts.specs.Telling.{told, listed}
-use Rattle.people_call.specs.declared.explain.Told.{Told}
-use Rattle.people_call.specs.Near.{near}
+use Rattle.form_help.specs.declared.telling.Told.{Told}
+use Rattle.near_words.specs.Hint.{hint}
+use Rattle.near_words.specs.Near.{near}
+use Rattle.code_texts.specs.Family.{word_of}
 
 -- a word that stands in a report's line between the word of its family and the code
 unfoldable pub is_filler : List ℕ → List ℕ → Bool
@@ -16,18 +18,9 @@ unfoldable pub without_filler : List ℕ → List (List ℕ) → List (List ℕ)
 without_filler head [] = []
 without_filler head (word ∷ words) = if is_filler head word then words else word ∷ words
 
--- the question whether a word was meant
-unfoldable pub question : List ℕ → List ℕ
-question meant = codes "; did you mean `" ++ (meant ++ codes "`?")
-
--- the question of a word, where there is one
-abbrev pub hint : Option (List ℕ) → List ℕ
-hint None = []
-hint (Some meant) = question meant
-
 -- the line of a word that is no code
 unfoldable pub unknown_line : List Family → List ℕ → List ℕ
-unknown_line families word = codes "unknown code \"" ++ (word ++ (codes "\": explain alone lists all" ++ (hint (near word families) ++ codes "\n")))
+unknown_line families word = codes "unknown code \"" ++ (word ++ (codes "\": explain alone lists all" ++ (hint (near word (map word_of families)) ++ codes "\n")))
 
 -- the lines found, or where there are none the line of an unknown code
 abbrev pub known_or : List ℕ → List ℕ → Told

@@ -1,3 +1,2 @@
-pub mod Near
 pub mod Explain
 pub mod Call

@@ -1,20 +1,12 @@
 ghost use Rattle.std.specs.Prelude.{◌≡◌, ◌++◌, map, IfOk, OnOk, option_copied, string_bytes};
-ghost use Rattle.people_call.specs.Near.{near};
-ghost use Rattle.people_call.specs.Explain.{is_filler, without_filler, question, hint, unknown_line, finding, coded, explained};
+ghost use Rattle.code_texts.specs.Family.{word_of};
+ghost use Rattle.people_call.specs.Explain.{is_filler, without_filler, unknown_line, finding, coded, explained};
 
-use crate::near::near;
 use code_texts::{Family, find, is_named, is_same, list};
 use ec_fields::{NoMemory, Octets};
-use std::alloc::Global;
-
-/// What is told of a code.
-#[derive(Drop)]
-pub(crate) struct Told {
-    /// Whether it is known.
-    pub(crate) is_known: bool,
-    /// The lines.
-    pub(crate) text: Octets,
-}
+use form_help::Told;
+use near_words::{add_hint, near};
+use std::alloc::{AllocError, Global};
 
 // Whether a word stands in a report's line between the word of its family and the code: `AL status 0011`, `audit no A3 at 13`.
 #[tactic(auto, unfolding(crate::specs::Explain::is_filler))]
@@ -37,30 +29,15 @@ fn without_filler<'a>(head: &str, words: &'a [String]) -> &'a [String]
     }
 }
 
-// The question whether a word was meant.
-fn add_question(line: &mut Octets, meant: &str) -> Result<(), NoMemory>
-    ensures { OnOk result (line.new ≡ line.old ++ question meant.now) }
+// The words of the families.
+fn family_words(alloc: Global, families: &[Family]) -> Result<Vec<&'static str>, AllocError>
+    ensures { IfOk result (λ words. map (λ word. word.now) words.items ≡ map word_of families.now) }
 {
-    line.add(b"; did you mean `")?;
-    line.add(meant.as_bytes())?;
-    line.add(b"`?")?;
-    Ok(())
-}
-
-// The same of a family's word that is near, where there is one.
-#[tactic(auto, using(crate::proofs::Known::hinted, crate::proofs::Known::unhinted))]
-fn add_hint(
-    alloc: Global,
-    line: &mut Octets,
-    families: &[Family],
-    word: &str,
-) -> Result<(), NoMemory>
-    ensures { OnOk result (line.new ≡ line.old ++ hint (near word.now families.now)) }
-{
-    match near(alloc, families, word)? {
-        Some(meant) => add_question(line, meant),
-        None => Ok(()),
+    let mut words = Vec::new(alloc);
+    for family in families {
+        words.push(family.word())?;
     }
+    Ok(words)
 }
 
 // The line of a word that is no code.
@@ -72,10 +49,11 @@ fn add_unknown(
 ) -> Result<(), NoMemory>
     ensures { OnOk result (line.new ≡ line.old ++ unknown_line families.now word.now) }
 {
+    let words = family_words(alloc, families)?;
     line.add(b"unknown code \"")?;
     line.add(word.as_bytes())?;
     line.add(b"\": explain alone lists all")?;
-    add_hint(alloc, line, families, word)?;
+    add_hint(line, near(alloc, words.as_slice(), word)?)?;
     line.add(b"\n")?;
     Ok(())
 }

@@ -3,6 +3,5 @@
 
 mod call;
 mod explain;
-mod near;
 
 pub use call::people_call;

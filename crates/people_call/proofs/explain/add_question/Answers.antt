@@ -1,7 +1,0 @@
-use Rattle.people_call.specs.Explain.{question}
-use Rattle.people_call.proofs.Known.{three}
-use Rattle.people_call.proofs.explain.add_question.Goals as goal
-
-pub returns : goal.returns
-unfolding question
-returns c = three c.args.line.now _ c.as_bytes.result.now c.args.meant.now _ c.add.new.self c.add-2.new.self c.add-3.new.self c.in_ok-add.ensures.ok c.in_ok-add-2.ensures.ok c.as_bytes.ensures.value c.in_ok-add-3.ensures.ok
