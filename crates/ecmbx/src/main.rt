@@ -1,16 +1,20 @@
 //! The mailbox half of EtherCAT as a program: `ecmbx run SCENARIO` runs the segment of a scenario
 //! frame by frame and prints the report, and `ecmbx serve SCENARIO COUNT` answers mailbox requests that
 //! come by UDP, `ecmbx stream SCENARIO COUNT` those that come on a TCP connection, and `ecmbx ask STATION OUT IN DO ARGS` sends some by UDP.
-//! `ecmbx explain [CODE]` tells people what a code means.
+//! The forms for people stand beside these: `ecmbx help` lists all.
 #![tactic(auto)]
 
+mod notices;
 mod output;
 
+use crate::notices::{listening, say_hint};
 use crate::output::Output;
 use ec_links::TcpLink;
 use ec_outside::{DiskFiles, UdpPort};
 use ecmbx_call::{Book, Status, program};
-use people_call::people_call;
+use ecmbx_words::{Form, form_of, stream_of};
+use listening::{ListeningLink, ListeningPort};
+use people_call::{Ended, people_call};
 use std::process::ExitCode;
 use std::rt::Env;
 use std::{env, io, mem};
@@ -36,6 +40,33 @@ fn port_for(words: &[String]) -> u16 {
     if is_ask(words) { 0 } else { GATEWAY }
 }
 
+/// As many datagrams as the words of a serving say.
+fn datagrams(words: &[String]) -> Option<u32> {
+    match form_of(words) {
+        Form::Serve { count } => Some(count),
+        _ => None,
+    }
+}
+
+/// Does what the words of a form for scripts ask for.
+fn for_scripts(
+    rt: &HostRuntime,
+    words: &[String],
+    files: &mut DiskFiles<'_, HostRuntime>,
+    out: &mut Output<'_, HostRuntime>,
+    book: &mut Book,
+) -> Status {
+    let alloc = rt.alloc();
+    let socket = UdpPort::new(rt, LOCALHOST, port_for(words));
+    let mut port = ListeningPort::new(rt, listening(alloc, datagrams(words)), socket);
+    let link = ListeningLink::new(rt, listening(alloc, stream_of(words)), TcpLink::new(rt));
+    let (status, _) = program(alloc, words, files, out, &mut port, link, book);
+    if matches!(status, Status::Refused) {
+        say_hint(rt, words);
+    }
+    status
+}
+
 fn main(rt: HostRuntime) -> ExitCode {
     let alloc = rt.alloc();
     let words = match words(&rt) {
@@ -46,29 +77,20 @@ fn main(rt: HostRuntime) -> ExitCode {
         // Words that are no text are no form of the command line.
         Err(_) => Vec::new(alloc),
     };
+    let words = words.as_slice();
     let mut files = DiskFiles::new(&rt);
     let mut out = Output::new(alloc, &rt);
     let mut book = Book::new(alloc);
-    let mut port = UdpPort::new(&rt, LOCALHOST, port_for(words.as_slice()));
-    let status = match people_call(alloc, words.as_slice(), &mut out) {
-        Some(status) => status,
-        None => {
-            let (status, _) = program(
-                alloc,
-                words.as_slice(),
-                &mut files,
-                &mut out,
-                &mut port,
-                TcpLink::new(&rt),
-                &mut book,
-            );
-            status
-        }
+    let ended = match people_call(alloc, words, &mut out) {
+        Some(ended) => ended,
+        None => Ended::As(for_scripts(&rt, words, &mut files, &mut out, &mut book)),
     };
     // The process ends: letting go frame by frame what it gives back whole would only cost time.
     mem::forget(book);
     match out.flush() {
-        Err(_) if !matches!(status, Status::NoMemory) => ExitCode::from(Status::SinkFault.number()),
-        _ => ExitCode::from(status.number()),
+        Err(_) if !matches!(ended, Ended::As(Status::NoMemory)) => {
+            ExitCode::from(Status::SinkFault.number())
+        }
+        _ => ExitCode::from(ended.number()),
     }
 }

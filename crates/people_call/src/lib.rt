@@ -5,3 +5,4 @@ mod call;
 mod explain;
 
 pub use call::people_call;
+pub use people_words::Ended;
