@@ -1,0 +1,8 @@
+//! Places in a TOML text: paths into its document, the line on which a path begins, and what is wrong with a text that is no document.
+#![tactic(auto)]
+
+mod document;
+mod path;
+
+pub use document::document_in;
+pub use path::{Path, Step, add_item, add_key, value_at};
