@@ -29,8 +29,8 @@ pub struct Blocks {
     pub seen: usize,
 }
 
-// Whether octets are a document.
-fn is_document(alloc: Global, octets: &[u8]) -> Result<bool, NoMemory>
+/// Whether octets are a document.
+pub(crate) fn is_document(alloc: Global, octets: &[u8]) -> Result<bool, NoMemory>
     ensures { IfOk result (λ b. b ≡ is_document octets.now) }
 {
     Ok(document_in(alloc, octets)?.is_some())

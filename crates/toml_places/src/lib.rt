@@ -3,10 +3,14 @@
 
 mod cutting;
 mod document;
+mod items;
 mod lines;
 mod path;
+mod places;
+mod seeking;
 
 pub use cutting::{Blocks, blocks_of};
 pub use document::document_in;
 pub use lines::{line_end, line_number};
 pub use path::{Path, Step, add_item, add_key, value_at};
+pub use places::{Spot, Wrong, spot_of, wrong_in};

@@ -1,5 +1,4 @@
-use Rattle.std.proofs.Common.{rules, arith, sym, ◌++◌, ◌∷◌, [], List, ℕ, ◌≡◌}
-use Rattle.toml_places.specs.Cutting.{IsBlock, AreBlocks}
+use Rattle.toml_places.specs.Cutting.{IsBlock}
 use Rattle.toml_places.proofs.Cuts.{one_more}
 use Rattle.toml_places.proofs.cutting.blocks_of.Goals as goal
 

@@ -1,4 +1,4 @@
-use Rattle.std.proofs.Common.{◌≡◌, ◌-◌, ◌<◌, ◌≤◌, length}
+use Rattle.std.proofs.Common.{◌-◌, ◌≤◌, length}
 use Rattle.toml_places.specs.Cutting.{AreBlocks}
 use Rattle.toml_places.proofs.cutting.blocks_of.Given as goal
 

@@ -1,4 +1,4 @@
-use Rattle.std.proofs.Common.{◌≡◌, ◌-◌, ◌<◌, ◌≤◌, length}
+use Rattle.std.proofs.Common.{◌-◌, ◌≤◌, length}
 use Rattle.toml_places.specs.Cutting.{HasNone}
 use Rattle.toml_places.proofs.cutting.run_at.Given as goal
 
