@@ -8,9 +8,11 @@ mod lines;
 mod path;
 mod places;
 mod seeking;
+mod why;
 
 pub use cutting::{Blocks, blocks_of};
 pub use document::document_in;
 pub use lines::{line_end, line_number};
 pub use path::{Path, Step, add_item, add_key, value_at};
 pub use places::{Spot, Wrong, spot_of, wrong_in};
+pub use why::{is_control, why_of};
