@@ -1,0 +1,18 @@
+//! Places in a TOML text: paths into its document, the line on which a path begins, and what is wrong with a text that is no document.
+#![tactic(auto)]
+
+mod cutting;
+mod document;
+mod items;
+mod lines;
+mod path;
+mod places;
+mod seeking;
+mod why;
+
+pub use cutting::{Blocks, blocks_of};
+pub use document::document_in;
+pub use lines::{line_end, line_number};
+pub use path::{Path, Step, add_item, add_key, value_at};
+pub use places::{Spot, Wrong, spot_of, wrong_in};
+pub use why::{is_control, why_of};
