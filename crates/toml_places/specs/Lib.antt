@@ -1,0 +1,4 @@
+pub mod Document
+pub mod Path
+pub mod Lines
+pub mod Cutting
