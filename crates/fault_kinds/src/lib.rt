@@ -1,0 +1,12 @@
+//! Values of another kind than their key wants, and what to write in their place.
+#![tactic(auto)]
+
+mod kinds;
+mod numbers;
+mod tries;
+mod widths;
+mod wrong;
+
+pub use kinds::{header_of, pair_of, wrong_kind};
+pub use widths::{number_octets, width_at};
+pub use wrong::Wrong;

@@ -1,0 +1,13 @@
+//! What is wrong in a scenario that is refused: at which key, what is found there, what is wanted and why, and what to try.
+#![tactic(auto)]
+
+mod absent;
+mod bound;
+mod fault;
+mod judged;
+mod paths;
+mod present;
+mod ring;
+mod schedule;
+
+pub use fault::{Fault, find_fault};
