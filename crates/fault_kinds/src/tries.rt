@@ -75,7 +75,7 @@ fn words_try(alloc: Global, key: &str, value: &Value) -> Result<Option<String>, 
         return Ok(None);
     };
     let mut line = format!(in alloc; "{key} = [")?;
-    add_quoted(&mut line, word)?;
+    add_quoted(alloc, &mut line, word)?;
     line.push_str("]")?;
     Ok(Some(line))
 }

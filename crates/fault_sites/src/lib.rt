@@ -3,14 +3,16 @@
 
 mod below;
 mod missing;
+mod paths;
 mod rows;
 mod site;
 mod titles;
 mod unknown;
 
 pub use below::place_below;
-pub use missing::{missing_row, near_key};
-pub use rows::{is_asked, known_keys, rows_of};
+pub use missing::{is_served, missing_row, near_key};
+pub use paths::{key_path, path_of};
+pub use rows::{is_asked, known_keys};
 pub use site::{Site, item, items_at, number_at, text_at};
-pub use titles::{action_at, is_served, title};
+pub use titles::{action_at, title};
 pub use unknown::{spare_keys, unknown_key, why_unknown};

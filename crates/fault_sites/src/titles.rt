@@ -1,4 +1,4 @@
-use crate::site::{Site, item, items_at, number_at, text_at};
+use crate::site::{item, number_at, text_at};
 use fault_texts::{add_quoted, keys_of};
 use scenario_keys::Place;
 use std::alloc::{AllocError, Global};
@@ -14,13 +14,6 @@ pub fn action_at<'a>(service: &'a Table) -> Option<&'a str> {
     }
 }
 
-/// Whether a slave serves a protocol.
-pub fn is_served(slave: &Table, protocol: &str) -> bool {
-    items_at(slave, "serves")
-        .iter()
-        .any(|word| word.as_str() == Some(protocol))
-}
-
 // Adds the number of a table in its list, counted from 1.
 fn add_place(text: &mut String, number: u32) -> Result<(), AllocError> {
     let place = u64::from(number) + 1;
@@ -28,19 +21,29 @@ fn add_place(text: &mut String, number: u32) -> Result<(), AllocError> {
 }
 
 // Adds the name of a table, or where it has none its number.
-fn add_name(text: &mut String, table: Option<&Table>, number: u32) -> Result<(), AllocError> {
+fn add_name(
+    alloc: Global,
+    text: &mut String,
+    table: Option<&Table>,
+    number: u32,
+) -> Result<(), AllocError> {
     match table {
         Some(table) => match text_at(table, "name") {
-            Some(name) => add_quoted(text, name),
+            Some(name) => add_quoted(alloc, text, name),
             None => add_place(text, number),
         },
         None => add_place(text, number),
     }
 }
 
-fn add_slave(text: &mut String, document: &Table, slave: u32) -> Result<(), AllocError> {
+fn add_slave(
+    alloc: Global,
+    text: &mut String,
+    document: &Table,
+    slave: u32,
+) -> Result<(), AllocError> {
     text.push_str("slave ")?;
-    add_name(text, item(document, "slave", slave), slave)
+    add_name(alloc, text, item(document, "slave", slave), slave)
 }
 
 fn object_at<'a>(document: &'a Table, slave: u32, object: u32) -> Option<&'a Table> {
@@ -53,12 +56,13 @@ fn index_of(object: Option<&Table>) -> Option<u64> {
 }
 
 fn add_object(
+    alloc: Global,
     text: &mut String,
     document: &Table,
     slave: u32,
     object: u32,
 ) -> Result<(), AllocError> {
-    add_slave(text, document, slave)?;
+    add_slave(alloc, text, document, slave)?;
     text.push_str(" > object ")?;
     match index_of(object_at(document, slave, object)) {
         Some(index) => write!(text, "0x{index:04x}"),
@@ -75,13 +79,14 @@ fn subindex(object: Option<&Table>, entry: u32) -> u64 {
 }
 
 fn add_entry(
+    alloc: Global,
     text: &mut String,
     document: &Table,
     slave: u32,
     object: u32,
     entry: u32,
 ) -> Result<(), AllocError> {
-    add_object(text, document, slave, object)?;
+    add_object(alloc, text, document, slave, object)?;
     text.push_str(" > entry ")?;
     let object = object_at(document, slave, object);
     match index_of(object) {
@@ -93,18 +98,30 @@ fn add_entry(
     }
 }
 
-fn add_file(text: &mut String, document: &Table, slave: u32, file: u32) -> Result<(), AllocError> {
-    add_slave(text, document, slave)?;
+fn add_file(
+    alloc: Global,
+    text: &mut String,
+    document: &Table,
+    slave: u32,
+    file: u32,
+) -> Result<(), AllocError> {
+    add_slave(alloc, text, document, slave)?;
     text.push_str(" > file ")?;
     let table = match item(document, "slave", slave) {
         Some(slave) => item(slave, "file", file),
         None => None,
     };
-    add_name(text, table, file)
+    add_name(alloc, text, table, file)
 }
 
-fn add_idn(text: &mut String, document: &Table, slave: u32, idn: u32) -> Result<(), AllocError> {
-    add_slave(text, document, slave)?;
+fn add_idn(
+    alloc: Global,
+    text: &mut String,
+    document: &Table,
+    slave: u32,
+    idn: u32,
+) -> Result<(), AllocError> {
+    add_slave(alloc, text, document, slave)?;
     text.push_str(" > idn ")?;
     let number = match item(document, "slave", slave) {
         Some(slave) => match item(slave, "idn", idn) {
@@ -136,13 +153,13 @@ pub fn title(alloc: Global, document: &Table, place: Place) -> Result<String, Al
     let mut text = String::new(alloc);
     match place {
         Place::Top => {}
-        Place::Slave(slave) => add_slave(&mut text, document, slave)?,
-        Place::Object(slave, object) => add_object(&mut text, document, slave, object)?,
+        Place::Slave(slave) => add_slave(alloc, &mut text, document, slave)?,
+        Place::Object(slave, object) => add_object(alloc, &mut text, document, slave, object)?,
         Place::Entry(slave, object, entry) => {
-            add_entry(&mut text, document, slave, object, entry)?;
+            add_entry(alloc, &mut text, document, slave, object, entry)?;
         }
-        Place::File(slave, file) => add_file(&mut text, document, slave, file)?,
-        Place::Idn(slave, idn) => add_idn(&mut text, document, slave, idn)?,
+        Place::File(slave, file) => add_file(alloc, &mut text, document, slave, file)?,
+        Place::Idn(slave, idn) => add_idn(alloc, &mut text, document, slave, idn)?,
         Place::Service(service) => add_service(&mut text, document, service)?,
         Place::Host(packet) => {
             text.push_str("host packet ")?;

@@ -1,17 +1,29 @@
-use crate::rows::{is_asked, rows_of};
+ghost use Rattle.std.specs.Prelude.{◌≡◌, option_copied, map, IfOk};
+ghost use Rattle.toml.specs.View.{table_view};
+ghost use Rattle.fault_texts.specs.Rows.{asked};
+ghost use Rattle.fault_sites.specs.Keys.{is_known, unknown_key, is_spare, spare_keys};
+
+use crate::rows::is_asked;
 use crate::site::{Site, text_at};
-use fault_texts::{Kind, Row};
-use scenario_keys::Place;
+use fault_texts::{Kind, Row, rows_of};
+use scenario_keys::{Place, find};
 use std::alloc::{AllocError, Global};
 
-fn is_known(site: &Site, key: &str) -> bool {
+// Whether a table may have a key.
+#[tactic(auto, unfolding(crate::specs::Keys::is_known))]
+fn is_known(site: &Site, key: &str) -> bool
+    ensures { result ≡ is_known (table_view site.now.document.now) site.now.place (table_view site.now.table.now) key.now }
+{
     rows_of(site.kind())
         .iter()
-        .any(|row| row.key == key && is_asked(site, row))
+        .any(|row| row.key == key && is_asked(site, row.key))
 }
 
 /// The first key of a table that it may not have.
-pub fn unknown_key<'a>(site: &Site<'a>) -> Option<&'a str> {
+#[tactic(auto, unfolding(crate::specs::Keys::unknown_key))]
+pub fn unknown_key<'a>(site: &Site<'a>) -> Option<&'a str>
+    ensures { option_copied result ≡ unknown_key (table_view site.now.document.now) site.now.place (table_view site.now.table.now) }
+{
     for (key, _) in site.table.iter() {
         if !is_known(site, key.as_str()) {
             return Some(key.as_str());
@@ -20,11 +32,22 @@ pub fn unknown_key<'a>(site: &Site<'a>) -> Option<&'a str> {
     None
 }
 
+// Whether a table may have a key and doesn't.
+#[tactic(auto, unfolding(crate::specs::Keys::is_spare))]
+fn is_spare(site: &Site, row: &Row) -> bool
+    ensures { result ≡ is_spare (table_view site.now.document.now) site.now.place (table_view site.now.table.now) (asked row.now) }
+{
+    is_asked(site, row.key) && find(site.table, row.key).is_none()
+}
+
 /// The keys that a table may have and doesn't.
-pub fn spare_keys(alloc: Global, site: &Site) -> Result<Vec<&'static str>, AllocError> {
+#[tactic(auto, unfolding(crate::specs::Keys::spare_keys))]
+pub fn spare_keys(alloc: Global, site: &Site) -> Result<Vec<&'static str>, AllocError>
+    ensures { IfOk result (λ keys. map (λ key. key.now) keys.items ≡ spare_keys (table_view site.now.document.now) site.now.place (table_view site.now.table.now)) }
+{
     let mut keys = Vec::new(alloc);
     for row in rows_of(site.kind()) {
-        if is_asked(site, row) && !site.table.contains_key(row.key) {
+        if is_spare(site, row) {
             keys.push(row.key)?;
         }
     }

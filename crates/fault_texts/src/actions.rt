@@ -1,3 +1,6 @@
+ghost use Rattle.std.specs.Prelude.{◌≡◌, map, option_map};
+ghost use Rattle.fault_texts.specs.Actions.{keys_of, octets_of};
+
 /// The words of `do`.
 pub const ACTIONS: &[&str] = &[
     "download",
@@ -17,7 +20,10 @@ pub const ACTIONS: &[&str] = &[
 ];
 
 /// The keys of a service, by its word of `do`. None of another word.
-pub fn keys_of(action: &str) -> Option<&'static [&'static str]> {
+#[tactic(auto, unfolding(crate::specs::Actions::keys_of))]
+pub fn keys_of(action: &str) -> Option<&'static [&'static str]>
+    ensures { option_map (λ keys. map (λ key. key.now) keys.now) result ≡ keys_of action.now }
+{
     match action {
         "download" => Some(&["slave", "do", "index", "sub", "value"]),
         "upload" => Some(&["slave", "do", "index", "sub"]),
@@ -38,7 +44,10 @@ pub fn keys_of(action: &str) -> Option<&'static [&'static str]> {
 }
 
 /// The least and the greatest number of octets that a service writes, by its word of `do`.
-pub fn octets_of(action: &str) -> (u64, u64) {
+#[tactic(auto, unfolding(crate::specs::Actions::octets_of))]
+pub fn octets_of(action: &str) -> (u64, u64)
+    ensures { result ≡ octets_of action.now }
+{
     match action {
         "download" => (1, 8000),
         "download_all" => (1, 16_000),

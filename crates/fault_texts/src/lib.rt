@@ -3,6 +3,7 @@
 
 mod actions;
 mod characters;
+mod kinds;
 mod rows;
 mod services;
 mod shape;
@@ -10,9 +11,8 @@ mod types;
 mod values;
 
 pub use actions::{ACTIONS, keys_of, octets_of};
-pub use characters::{LONG, add_quoted, character, quoted};
-pub use rows::{ENTRY, FILE, IDN, OBJECT, SLAVE, TOP};
-pub use services::{HOST, SERVICE};
+pub use characters::{add_quoted, character, quoted};
+pub use kinds::rows_of;
 pub use shape::{Kind, Need, Row, Shape};
 pub use types::{DataType, type_named, type_of};
 pub use values::{found, pair, plain};

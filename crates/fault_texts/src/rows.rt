@@ -4,7 +4,7 @@ use crate::shape::{Need, Row, Shape};
 const PROTOCOLS: &[&str] = &["coe", "foe", "eoe", "soe"];
 
 /// The keys of the top, in the order in which they are read.
-pub const TOP: &[Row] = &[
+pub(crate) const TOP: &[Row] = &[
     Row {
         key: "version",
         need: Need::Always,
@@ -67,7 +67,7 @@ pub const TOP: &[Row] = &[
 ];
 
 /// The keys of a slave.
-pub const SLAVE: &[Row] = &[
+pub(crate) const SLAVE: &[Row] = &[
     Row {
         key: "name",
         need: Need::Always,
@@ -168,7 +168,7 @@ pub const SLAVE: &[Row] = &[
 ];
 
 /// The keys of an object.
-pub const OBJECT: &[Row] = &[
+pub(crate) const OBJECT: &[Row] = &[
     Row {
         key: "index",
         need: Need::Always,
@@ -203,7 +203,7 @@ pub const OBJECT: &[Row] = &[
 ];
 
 /// The keys of an entry.
-pub const ENTRY: &[Row] = &[
+pub(crate) const ENTRY: &[Row] = &[
     Row {
         key: "type",
         need: Need::Always,
@@ -262,7 +262,7 @@ pub const ENTRY: &[Row] = &[
 ];
 
 /// The keys of a file.
-pub const FILE: &[Row] = &[
+pub(crate) const FILE: &[Row] = &[
     Row {
         key: "name",
         need: Need::Always,
@@ -314,7 +314,7 @@ pub const FILE: &[Row] = &[
 ];
 
 /// The keys of an IDN.
-pub const IDN: &[Row] = &[
+pub(crate) const IDN: &[Row] = &[
     Row {
         key: "number",
         need: Need::Always,

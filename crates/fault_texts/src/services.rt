@@ -2,7 +2,7 @@ use crate::actions::ACTIONS;
 use crate::shape::{Need, Row, Shape};
 
 /// The keys of all services.
-pub const SERVICE: &[Row] = &[
+pub(crate) const SERVICE: &[Row] = &[
     Row {
         key: "slave",
         need: Need::Always,
@@ -122,7 +122,7 @@ pub const SERVICE: &[Row] = &[
 ];
 
 /// The keys of a packet of the host.
-pub const HOST: &[Row] = &[Row {
+pub(crate) const HOST: &[Row] = &[Row {
     key: "packet",
     need: Need::Always,
     shape: Shape::Octets {

@@ -1,10 +1,9 @@
 use crate::fault::Fault;
-use crate::paths::{key_path, path_of};
 use crate::present::{octets, some_octets, wanted_of};
 use ec_fields::NoMemory;
 use fault_sites::{
-    Site, known_keys, missing_row, near_key, place_below, spare_keys, title, unknown_key,
-    why_unknown,
+    Site, key_path, known_keys, missing_row, near_key, path_of, place_below, spare_keys, title,
+    unknown_key, why_unknown,
 };
 use fault_texts::Row;
 use near_words::near;
@@ -14,13 +13,13 @@ use toml_places::Path;
 
 /// Why a key is missing, and where it stands.
 #[derive(Drop)]
-struct Elsewhere {
+struct Stand {
     why: String,
     path: Path,
 }
 
 // A key of the top that stands in a later table.
-fn below(alloc: Global, site: &Site, key: &str) -> Result<Option<Elsewhere>, NoMemory> {
+fn below(alloc: Global, site: &Site, key: &str) -> Result<Option<Stand>, NoMemory> {
     if !matches!(site.place, Place::Top) {
         return Ok(None);
     }
@@ -32,20 +31,20 @@ fn below(alloc: Global, site: &Site, key: &str) -> Result<Option<Elsewhere>, NoM
         "it stands below a table in brackets, so it is a key of that table; put it ahead of the first one",
     )?;
     let path = key_path(alloc, place, key)?;
-    Ok(Some(Elsewhere { why, path }))
+    Ok(Some(Stand { why, path }))
 }
 
 // A key of the same table that may have been meant.
-fn beside(alloc: Global, site: &Site, key: &str) -> Result<Option<Elsewhere>, NoMemory> {
+fn beside(alloc: Global, site: &Site, key: &str) -> Result<Option<Stand>, NoMemory> {
     let Some(other) = near_key(alloc, site, key)? else {
         return Ok(None);
     };
     let why = format!(in alloc; "the key `{other}` stands there: is it meant?")?;
     let path = key_path(alloc, site.place, other)?;
-    Ok(Some(Elsewhere { why, path }))
+    Ok(Some(Stand { why, path }))
 }
 
-fn elsewhere(alloc: Global, site: &Site, key: &str) -> Result<Option<Elsewhere>, NoMemory> {
+fn elsewhere(alloc: Global, site: &Site, key: &str) -> Result<Option<Stand>, NoMemory> {
     match beside(alloc, site, key)? {
         Some(found) => Ok(Some(found)),
         None => below(alloc, site, key),
@@ -57,7 +56,7 @@ fn missing_key(
     alloc: Global,
     site: &Site,
     row: &Row,
-    found: Option<Elsewhere>,
+    found: Option<Stand>,
 ) -> Result<Fault, NoMemory> {
     let key = row.key;
     let head = format!(in alloc; "`{key}` is missing")?;

@@ -1,9 +1,8 @@
 use crate::absent::{missing, unknown};
 use crate::bound::over_bound;
-use crate::paths::path_of;
 use crate::present::wrong_value;
 use ec_fields::{NoMemory, Octets};
-use fault_sites::{Site, title};
+use fault_sites::{Site, path_of, title};
 use scenario_keys::Place;
 use std::alloc::Global;
 use toml::Table;
@@ -72,7 +71,7 @@ pub fn find_fault(
     rule: u8,
     place: Place,
 ) -> Result<Fault, NoMemory> {
-    if let Some(site) = Site::at(document, place)
+    if let Some(site) = Site::at(alloc, document, place)?
         && let Some(fault) = found(alloc, &site, rule)?
     {
         return Ok(fault);

@@ -5,7 +5,6 @@ mod absent;
 mod bound;
 mod fault;
 mod judged;
-mod paths;
 mod present;
 mod ring;
 mod schedule;

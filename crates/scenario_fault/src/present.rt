@@ -1,10 +1,9 @@
 use crate::fault::Fault;
 use crate::judged::judged;
-use crate::paths::key_path;
 use ec_fields::{NoMemory, Octets};
 use fault_kinds::Wrong;
-use fault_sites::{Site, is_asked, rows_of, text_at, title};
-use fault_texts::{Row, found, octets_of};
+use fault_sites::{Site, is_asked, key_path, text_at, title};
+use fault_texts::{Row, found, octets_of, rows_of};
 use scenario_keys::Place;
 use std::alloc::{AllocError, Global};
 use toml::Value;
@@ -95,7 +94,7 @@ fn of_row(alloc: Global, site: &Site, rule: u8, row: &Row) -> Result<Option<Faul
 /// The first key whose value the rule refuses.
 pub(crate) fn wrong_value(alloc: Global, site: &Site, rule: u8) -> Result<Option<Fault>, NoMemory> {
     for row in rows_of(site.kind()) {
-        if is_asked(site, row)
+        if is_asked(site, row.key)
             && let Some(fault) = of_row(alloc, site, rule, row)?
         {
             return Ok(Some(fault));

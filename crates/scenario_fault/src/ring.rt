@@ -103,7 +103,7 @@ fn listed(alloc: Global, names: &[&str]) -> Result<String, AllocError> {
             let is_last = number.saturating_add(1) == many;
             line.push_str(if is_last { " or " } else { ", " })?;
         }
-        add_quoted(&mut line, name)?;
+        add_quoted(alloc, &mut line, name)?;
     }
     Ok(line)
 }
