@@ -1,19 +1,40 @@
+ghost use Rattle.std.specs.Prelude.{◌≡◌, [], not, is_some, IfOk};
+ghost use Rattle.std.specs.List.{list_all};
+ghost use Rattle.toml.specs.Data.{as_str, as_table};
+ghost use Rattle.toml.specs.View.{items_view, view};
+ghost use Rattle.scenario_keys.specs.Keys.{two_numbers, as_pair};
+ghost use Rattle.fault_texts.specs.declared.shape.Shape.TheVariants as shapes;
+ghost use Rattle.fault_kinds.specs.Shapes.{is_of};
+
+use crate::told::Found;
 use crate::tries::{kind_try, losses_try};
 use crate::wrong::Wrong;
 use fault_sites::Site;
-use fault_texts::{Row, Shape, plain};
+use fault_texts::{Row, Shape};
 use std::alloc::{AllocError, Global};
 use toml::Value;
 
-/// The two numbers of a list of just two.
-pub fn pair_of(value: &Value) -> Option<(i64, i64)> {
-    match value.as_array()?.as_slice() {
+// The two numbers of items that are just these.
+fn two_of(items: &[Value]) -> Option<(i64, i64)>
+    ensures { result ≡ two_numbers (items_view items.now) }
+{
+    match items {
         [first, second] => {
             let x = first.as_integer()?;
             let y = second.as_integer()?;
             Some((x, y))
         }
         _ => None,
+    }
+}
+
+/// The two numbers of a list of just two.
+pub fn pair_of(value: &Value) -> Option<(i64, i64)>
+    ensures { result ≡ as_pair (view value.now) }
+{
+    match value.as_array() {
+        Some(items) => two_of(items.as_slice()),
+        None => None,
     }
 }
 
@@ -68,39 +89,78 @@ fn kind_wanted(shape: Shape) -> &'static str {
     }
 }
 
-// Whether each item of a list is one of those wanted; other values have no items.
-fn are_items(shape: Shape, items: &[Value]) -> bool {
-    match shape {
-        Shape::Words(_) => items.iter().all(|item| item.is_str()),
-        Shape::Losses => items.iter().all(|item| pair_of(item).is_some()),
-        Shape::Tables { .. } => items.iter().all(|item| item.is_table()),
-        _ => true,
+// Whether all items are texts.
+fn are_texts(items: &[Value]) -> bool
+    ensures { result ≡ list_all (λ v. is_some (as_str (view v))) items.now }
+{
+    items.iter().all(|item| item.as_str().is_some())
+}
+
+// Whether all items are pairs of numbers.
+fn are_pairs(items: &[Value]) -> bool
+    ensures { result ≡ list_all (λ v. is_some (as_pair (view v))) items.now }
+{
+    items.iter().all(|item| pair_of(item).is_some())
+}
+
+// Whether all items are tables.
+fn are_tables(items: &[Value]) -> bool
+    ensures { result ≡ list_all (λ v. is_some (as_table (view v))) items.now }
+{
+    items.iter().all(|item| item.as_table().is_some())
+}
+
+// Whether a value is a list of texts.
+#[tactic(auto, using(crate::proofs::Lists::texts))]
+fn is_texts(value: &Value) -> bool
+    ensures { result ≡ is_of (shapes.Words []) (view value.now) }
+{
+    match value.as_array() {
+        Some(items) => are_texts(items.as_slice()),
+        None => false,
     }
 }
 
-fn is_list_of(shape: Shape, value: &Value) -> bool {
+// Whether a value is a list of pairs.
+#[tactic(auto, using(crate::proofs::Lists::pairs))]
+fn is_losses(value: &Value) -> bool
+    ensures { result ≡ is_of shapes.Losses (view value.now) }
+{
     match value.as_array() {
-        Some(items) => are_items(shape, items.as_slice()),
+        Some(items) => are_pairs(items.as_slice()),
+        None => false,
+    }
+}
+
+// Whether a value is a list of tables.
+#[tactic(auto, using(crate::proofs::Lists::tables))]
+fn is_tables(value: &Value) -> bool
+    ensures { result ≡ is_of (shapes.Tables 0) (view value.now) }
+{
+    match value.as_array() {
+        Some(items) => are_tables(items.as_slice()),
         None => false,
     }
 }
 
 // Whether a value is of the kind that is wanted.
-fn is_of(shape: Shape, value: &Value) -> bool {
+fn is_of(shape: Shape, value: &Value) -> bool
+    ensures { result ≡ is_of shape (view value.now) }
+{
     match shape {
-        Shape::Number { .. } => value.is_integer(),
-        Shape::Bound => value.is_integer(),
-        Shape::Name => value.is_str(),
-        Shape::Label => value.is_str(),
-        Shape::Word(_) => value.is_str(),
-        Shape::Reference => value.is_str(),
-        Shape::Truth => value.is_bool(),
+        Shape::Number { .. } => value.as_integer().is_some(),
+        Shape::Bound => value.as_integer().is_some(),
+        Shape::Name => value.as_str().is_some(),
+        Shape::Label => value.as_str().is_some(),
+        Shape::Word(_) => value.as_str().is_some(),
+        Shape::Reference => value.as_str().is_some(),
+        Shape::Truth => value.as_bool().is_some(),
         Shape::Pair { .. } => pair_of(value).is_some(),
         Shape::Sizes { .. } => pair_of(value).is_some(),
-        Shape::Octets { .. } => value.is_str(),
-        Shape::Words(_) => is_list_of(shape, value),
-        Shape::Losses => is_list_of(shape, value),
-        Shape::Tables { .. } => is_list_of(shape, value),
+        Shape::Octets { .. } => value.as_str().is_some(),
+        Shape::Words(_) => is_texts(value),
+        Shape::Losses => is_losses(value),
+        Shape::Tables { .. } => is_tables(value),
     }
 }
 
@@ -129,25 +189,35 @@ fn wrong_loss(
     key: &str,
     items: &[Value],
     number: usize,
-    item: &Value,
 ) -> Result<Wrong, AllocError> {
     let place = number.saturating_add(1);
     let mut wrong = Wrong::told(format!(in alloc;
         "item {place} of `{key}` isn't a pair of whole numbers"
     )?);
-    wrong.item = u32::try_from(number).ok();
-    wrong.found = Some(plain(alloc, item)?);
+    wrong.found = Found::Item(u32::try_from(number).unwrap_or(0));
     wrong.remedy = losses_try(alloc, items)?;
     Ok(wrong)
 }
 
-fn wrong_losses(alloc: Global, key: &str, items: &[Value]) -> Result<Option<Wrong>, AllocError> {
+// The first lost frame that is no pair of numbers.
+fn wrong_losses(alloc: Global, row: &Row, value: &Value) -> Result<Option<Wrong>, AllocError> {
+    let (Shape::Losses, Some(items)) = (row.shape, value.as_array()) else {
+        return Ok(None);
+    };
     for (number, item) in items.iter().enumerate() {
         if pair_of(item).is_none() {
-            return Ok(Some(wrong_loss(alloc, key, items, number, item)?));
+            let wrong = wrong_loss(alloc, row.key, items.as_slice(), number)?;
+            return Ok(Some(wrong));
         }
     }
     Ok(None)
+}
+
+// A value of another kind, as a whole.
+fn wrong_whole(alloc: Global, site: &Site, row: &Row, value: &Value) -> Result<Wrong, AllocError> {
+    let mut wrong = Wrong::told(kind_head(alloc, row, value)?);
+    wrong.remedy = kind_try(alloc, site, row, value)?;
+    Ok(wrong)
 }
 
 /// What is wrong with a value of another kind than its key wants; none where it is of that kind.
@@ -156,14 +226,14 @@ pub fn wrong_kind(
     site: &Site,
     row: &Row,
     value: &Value,
-) -> Result<Option<Wrong>, AllocError> {
+) -> Result<Option<Wrong>, AllocError>
+    ensures { IfOk result (λ o. is_some o ≡ not (is_of row.now.shape (view value.now))) }
+{
     if is_of(row.shape, value) {
         return Ok(None);
     }
-    if let (Shape::Losses, Some(items)) = (row.shape, value.as_array()) {
-        return wrong_losses(alloc, row.key, items.as_slice());
+    match wrong_losses(alloc, row, value)? {
+        Some(wrong) => Ok(Some(wrong)),
+        None => Ok(Some(wrong_whole(alloc, site, row, value)?)),
     }
-    let mut wrong = Wrong::told(kind_head(alloc, row, value)?);
-    wrong.remedy = kind_try(alloc, site, row, value)?;
-    Ok(Some(wrong))
 }

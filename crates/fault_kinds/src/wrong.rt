@@ -1,3 +1,4 @@
+use crate::told::Found;
 use scenario_keys::Place;
 
 /// What is wrong with the value of a key.
@@ -5,10 +6,8 @@ use scenario_keys::Place;
 pub struct Wrong {
     /// What is wrong, in a line.
     pub head: String,
-    /// The item of its list that is wrong, counted from 0.
-    pub item: Option<u32>,
-    /// What is found, where it isn't just the value.
-    pub found: Option<String>,
+    /// What is told of the value.
+    pub found: Found,
     /// What is wanted, where it isn't what the key wants in general.
     pub wanted: Option<String>,
     /// What to write in its place.
@@ -24,8 +23,7 @@ impl Wrong {
     pub fn told(head: String) -> Wrong {
         Wrong {
             head,
-            item: None,
-            found: None,
+            found: Found::Value,
             wanted: None,
             remedy: None,
             meant: None,

@@ -1,6 +1,5 @@
-use crate::octets::octets;
 use ec_fields::NoMemory;
-use fault_kinds::Wrong;
+use fault_kinds::{Wrong, octets_text};
 use fault_sites::{Site, number_at};
 use fault_texts::DataType;
 use std::alloc::{AllocError, Global};
@@ -98,7 +97,7 @@ fn spared(alloc: Global, kept: &[u8], spare: &[u8]) -> Result<Option<String>, Al
 }
 
 fn wrong_width(alloc: Global, data: &DataType, digits: &str) -> Result<Wrong, AllocError> {
-    let told = octets(alloc, digits.len() / 2)?;
+    let told = octets_text(alloc, (digits.len() / 2) as u64)?;
     let (name, size) = (data.name, data.size);
     let mut wrong = Wrong::told(format!(in alloc; "`value` has {told}, and {name} has {size}")?);
     let wanted = usize::try_from(data.size).unwrap_or(8).min(8) * 2;

@@ -1,9 +1,9 @@
 use crate::names::meant_word;
 use crate::numbers::is_within;
 use ec_fields::NoMemory;
-use fault_kinds::{Wrong, header_of, pair_of};
+use fault_kinds::{Found, Wrong, header_of, pair_of};
 use fault_sites::{Site, text_at};
-use fault_texts::{pair, quoted};
+use fault_texts::quoted;
 use scenario_keys::Place;
 use std::alloc::{AllocError, Global};
 use toml::Value;
@@ -51,17 +51,10 @@ pub(crate) fn wrong_words(
 }
 
 // A lost frame whose numbers are out of range.
-fn wrong_loss(
-    alloc: Global,
-    key: &str,
-    number: usize,
-    first: i64,
-    second: i64,
-) -> Result<Wrong, AllocError> {
+fn wrong_loss(alloc: Global, key: &str, number: usize) -> Result<Wrong, AllocError> {
     let place = number.saturating_add(1);
     let mut wrong = Wrong::told(format!(in alloc; "pair {place} of `{key}` is out of range")?);
-    wrong.item = u32::try_from(number).ok();
-    wrong.found = Some(pair(alloc, first, second)?);
+    wrong.found = Found::Item(u32::try_from(number).unwrap_or(0));
     Ok(wrong)
 }
 
@@ -76,7 +69,7 @@ pub(crate) fn wrong_losses(
             return Ok(None);
         };
         if !is_within(first, 0, 0xFFFF_FFFF) || !is_within(second, 0, 0xFFFF_FFFF) {
-            return Ok(Some(wrong_loss(alloc, key, number, first, second)?));
+            return Ok(Some(wrong_loss(alloc, key, number)?));
         }
     }
     Ok(None)

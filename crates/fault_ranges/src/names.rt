@@ -1,3 +1,6 @@
+ghost use Rattle.std.specs.Prelude.{◌≡◌, IfOk, string_bytes, option_map, map};
+ghost use Rattle.near_words.specs.Near.{near};
+
 use crate::numbers::has_bootstrap;
 use ec_fields::NoMemory;
 use fault_kinds::Wrong;
@@ -83,7 +86,9 @@ pub(crate) fn meant_word(
     alloc: Global,
     words: &[&'static str],
     word: &str,
-) -> Result<Option<String>, NoMemory> {
+) -> Result<Option<String>, NoMemory>
+    ensures { IfOk result (λ o. option_map string_bytes o ≡ near word.now (map (λ w. w.now) words.now)) }
+{
     match near(alloc, words, word)? {
         Some(meant) => Ok(Some(String::from_str(alloc, meant)?)),
         None => Ok(None),

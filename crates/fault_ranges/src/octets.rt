@@ -3,24 +3,15 @@ use crate::contents::{wrong_bounds, wrong_number_of};
 use crate::numbers::slave_asked;
 use ec_fields::NoMemory;
 use eoe::is_block;
-use fault_kinds::Wrong;
+use fault_kinds::{Found, Wrong, octets_text, pair_of};
 use fault_sites::{Site, is_served, items_at, number_at, text_at};
 use fault_texts::{octets_of, type_of};
 use scenario_keys::Place;
 use std::alloc::{AllocError, Global};
 use toml::{Table, Value};
 
-/// So many octets in words.
-pub(crate) fn octets(alloc: Global, count: usize) -> Result<String, AllocError> {
-    if count == 1 {
-        String::from_str(alloc, "1 octet")
-    } else {
-        format!(in alloc; "{count} octets")
-    }
-}
-
 fn has_octets(alloc: Global, key: &str, count: usize) -> Result<Option<Wrong>, NoMemory> {
-    let told = octets(alloc, count)?;
+    let told = octets_text(alloc, count as u64)?;
     Ok(Some(Wrong::told(format!(in alloc; "`{key}` has {told}")?)))
 }
 
@@ -66,7 +57,7 @@ fn wrong_length(alloc: Global, table: &Table, count: usize) -> Result<Option<Wro
     if least <= many && many <= most {
         return Ok(None);
     }
-    let told = octets(alloc, count)?;
+    let told = octets_text(alloc, count as u64)?;
     Ok(Some(Wrong::told(format!(in alloc;
         "`value` has {told}, and its size is {least} to {most}"
     )?)))
@@ -133,7 +124,7 @@ fn too_many_blocks(
     let mut wrong = Wrong::told(format!(in alloc;
         "`value` has {blocks} {word} of 128 octets, and {left} {are} left"
     )?);
-    wrong.found = Some(octets(alloc, count)?);
+    wrong.found = Found::Octets(count as u64);
     wrong.remedy = Some(String::from_str(alloc, "more blocks, up to 1024, in the slave")?);
     Ok(wrong)
 }
@@ -154,7 +145,7 @@ fn wrong_file(alloc: Global, site: &Site, digits: &str) -> Result<Option<Wrong>,
 
 // The lengths of the mailboxes of the slave that a service names.
 fn mail_of(site: &Site) -> Option<(i64, i64)> {
-    fault_kinds::pair_of(slave_asked(site)?.get("mail")?)
+    pair_of(slave_asked(site)?.get("mail")?)
 }
 
 // Whether hexadecimal digits are an address block.
@@ -169,7 +160,7 @@ fn writes_block(alloc: Global, digits: &str) -> Result<bool, NoMemory> {
 // An address block that is none, or that the mailboxes don't hold.
 fn wrong_block(alloc: Global, site: &Site, digits: &str) -> Result<Option<Wrong>, NoMemory> {
     let count = digits.len() / 2;
-    let told = octets(alloc, count)?;
+    let told = octets_text(alloc, count as u64)?;
     let (outward, inward) = mail_of(site).unwrap_or((0, 0));
     let most = outward.min(inward).saturating_sub(10);
     if i64::try_from(count).unwrap_or(i64::MAX) > most {

@@ -15,4 +15,4 @@ pub use characters::{add_quoted, character, quoted};
 pub use kinds::rows_of;
 pub use shape::{Kind, Need, Row, Shape};
 pub use types::{DataType, type_named, type_of};
-pub use values::{found, pair, plain};
+pub use values::{found, plain};

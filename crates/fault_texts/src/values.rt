@@ -94,11 +94,6 @@ fn add_list(alloc: Global, text: &mut String, values: &[Value]) -> Result<(), Al
     }
 }
 
-/// A pair of numbers as a scenario writes it.
-pub fn pair(alloc: Global, first: i64, second: i64) -> Result<String, AllocError> {
-    format!(in alloc; "[{first}, {second}]")
-}
-
 // Adds a value.
 #[tactic(auto, using(crate::proofs::Lists::list_of_items_view))]
 fn add_value(alloc: Global, text: &mut String, value: &Value) -> Result<(), AllocError>

@@ -1,6 +1,13 @@
-use crate::fault::Fault;
-use crate::present::{octets, some_octets, wanted_of};
-use ec_fields::NoMemory;
+ghost use Rattle.std.specs.Prelude.{◌≡◌, IfOk, string_bytes, option_map};
+ghost use Rattle.toml.specs.View.{table_view};
+ghost use Rattle.near_words.specs.Near.{near};
+ghost use Rattle.fault_sites.specs.Places.{path_of, key_path};
+ghost use Rattle.fault_sites.specs.Keys.{spare_keys};
+ghost use Rattle.scenario_fault.specs.Fault.{IsMissing, IsMeant, IsUnknown};
+
+use crate::plain::{Fault, plain};
+use crate::texts::{octets, some_octets, wanted_of};
+use ec_fields::{NoMemory, Octets};
 use fault_sites::{
     Site, key_path, known_keys, missing_row, near_key, path_of, place_below, spare_keys, title,
     unknown_key, why_unknown,
@@ -57,7 +64,10 @@ fn missing_key(
     site: &Site,
     row: &Row,
     found: Option<Stand>,
-) -> Result<Fault, NoMemory> {
+) -> Result<Fault, NoMemory>
+    ensures key { IfOk result (λ f. f.key ≡ row.now.key.now) }
+    ensures path { IfOk result (λ f. f.path ≡ path_of site.now.place) }
+{
     let key = row.key;
     let head = format!(in alloc; "`{key}` is missing")?;
     let title = title(alloc, site.document, site.place)?;
@@ -81,12 +91,17 @@ fn missing_key(
 }
 
 /// The first key that the table needs and doesn't have.
-pub(crate) fn missing(alloc: Global, site: &Site) -> Result<Option<Fault>, NoMemory> {
-    let Some(row) = missing_row(site) else {
-        return Ok(None);
-    };
-    let found = elsewhere(alloc, site, row.key)?;
-    Ok(Some(missing_key(alloc, site, row, found)?))
+#[tactic(auto, unfolding(crate::specs::Fault::IsMissing))]
+pub(crate) fn missing(alloc: Global, site: &Site) -> Result<Fault, NoMemory>
+    ensures { IfOk result (IsMissing (table_view site.now.document.now) site.now.place (table_view site.now.table.now)) }
+{
+    match missing_row(site) {
+        Some(row) => {
+            let found = elsewhere(alloc, site, row.key)?;
+            missing_key(alloc, site, row, found)
+        }
+        None => plain(alloc, site.document, 3, site.place),
+    }
 }
 
 // Words as they are listed: `a, b and c`.
@@ -111,7 +126,9 @@ fn keys_wanted(alloc: Global, site: &Site) -> Result<String, AllocError> {
 }
 
 // The key that may have been meant, of those that a table may have and doesn't.
-fn key_meant(alloc: Global, site: &Site, key: &str) -> Result<Option<String>, NoMemory> {
+fn key_meant(alloc: Global, site: &Site, key: &str) -> Result<Option<String>, NoMemory>
+    ensures { IfOk result (λ o. option_map string_bytes o ≡ near key.now (spare_keys (table_view site.now.document.now) site.now.place (table_view site.now.table.now))) }
+{
     let keys = spare_keys(alloc, site)?;
     match near(alloc, keys.as_slice(), key)? {
         Some(meant) => Ok(Some(String::from_str(alloc, meant)?)),
@@ -119,19 +136,33 @@ fn key_meant(alloc: Global, site: &Site, key: &str) -> Result<Option<String>, No
     }
 }
 
-/// The first key that the table may not have.
-pub(crate) fn unknown(alloc: Global, site: &Site) -> Result<Option<Fault>, NoMemory> {
-    let Some(key) = unknown_key(site) else {
+// The key that may have been meant, unless it is known why the other stands wrong.
+fn meant_unless(
+    alloc: Global,
+    site: &Site,
+    key: &str,
+    is_known: bool,
+) -> Result<Option<Octets>, NoMemory>
+    ensures { IfOk result (IsMeant (table_view site.now.document.now) site.now.place (table_view site.now.table.now) key.now) }
+{
+    if is_known {
         return Ok(None);
-    };
+    }
+    let meant = key_meant(alloc, site, key)?;
+    some_octets(alloc, meant)
+}
+
+// The fault of an unknown key.
+fn unknown_fault(alloc: Global, site: &Site, key: &str) -> Result<Fault, NoMemory>
+    ensures key { IfOk result (λ f. f.key ≡ key.now) }
+    ensures path { IfOk result (λ f. f.path ≡ key_path site.now.place key.now) }
+    ensures meant { IfOk result (λ f. IsMeant (table_view site.now.document.now) site.now.place (table_view site.now.table.now) key.now f.meant) }
+{
     let head = format!(in alloc; "unknown key `{key}`")?;
     let title = title(alloc, site.document, site.place)?;
     let why = why_unknown(alloc, site, key)?;
-    let meant = match why {
-        Some(_) => None,
-        None => key_meant(alloc, site, key)?,
-    };
-    Ok(Some(Fault {
+    let meant = meant_unless(alloc, site, key, why.is_some())?;
+    Ok(Fault {
         head: octets(alloc, head.as_str())?,
         title: octets(alloc, title.as_str())?,
         key: octets(alloc, key)?,
@@ -141,6 +172,17 @@ pub(crate) fn unknown(alloc: Global, site: &Site) -> Result<Option<Fault>, NoMem
         wanted: Some(octets(alloc, keys_wanted(alloc, site)?.as_str())?),
         why: some_octets(alloc, why)?,
         remedy: None,
-        meant: some_octets(alloc, meant)?,
-    }))
+        meant,
+    })
+}
+
+/// The first key that the table may not have.
+#[tactic(auto, unfolding(crate::specs::Fault::IsUnknown))]
+pub(crate) fn unknown(alloc: Global, site: &Site) -> Result<Fault, NoMemory>
+    ensures { IfOk result (IsUnknown (table_view site.now.document.now) site.now.place (table_view site.now.table.now)) }
+{
+    match unknown_key(site) {
+        Some(key) => unknown_fault(alloc, site, key),
+        None => plain(alloc, site.document, 4, site.place),
+    }
 }

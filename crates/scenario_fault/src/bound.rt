@@ -1,5 +1,7 @@
-use crate::fault::Fault;
-use crate::present::octets;
+ghost use Rattle.std.specs.Prelude.{◌≡◌, [], IfOk, IfSome};
+
+use crate::plain::Fault;
+use crate::texts::octets;
 use ec_fields::{NoMemory, Octets, Rows};
 use fault_sites::Site;
 use scenario_document::tables;
@@ -18,7 +20,9 @@ fn frames(alloc: Global, document: &Table) -> Result<Option<u64>, NoMemory> {
 }
 
 /// A run of too many frames, where no budget is given.
-pub(crate) fn over_bound(alloc: Global, site: &Site, rule: u8) -> Result<Option<Fault>, NoMemory> {
+pub(crate) fn over_bound(alloc: Global, site: &Site, rule: u8) -> Result<Option<Fault>, NoMemory>
+    ensures { IfOk result (λ o. IfSome o (λ f. f.key ≡ [])) }
+{
     if rule != 12 || !matches!(site.place, Place::Top) {
         return Ok(None);
     }

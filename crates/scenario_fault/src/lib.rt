@@ -5,8 +5,11 @@ mod absent;
 mod bound;
 mod fault;
 mod judged;
+mod plain;
 mod present;
 mod ring;
 mod schedule;
+mod texts;
 
-pub use fault::{Fault, find_fault};
+pub use fault::find_fault;
+pub use plain::Fault;

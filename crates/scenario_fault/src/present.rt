@@ -1,44 +1,39 @@
-use crate::fault::Fault;
+ghost use Rattle.std.specs.Prelude.{◌≡◌, ◌++◌, Some, IfOk, IfSome, OnOk};
+ghost use Rattle.toml.specs.View.{view, table_view};
+ghost use Rattle.fault_sites.specs.Places.{key_path};
+ghost use Rattle.fault_kinds.specs.Told.{told_text};
+ghost use Rattle.scenario_fault.specs.Fault.{steps_to, IsValue, IsWrong};
+
+use crate::bound::over_bound;
 use crate::judged::judged;
-use ec_fields::{NoMemory, Octets};
-use fault_kinds::Wrong;
-use fault_sites::{Site, is_asked, key_path, text_at, title};
-use fault_texts::{Row, found, octets_of, rows_of};
-use scenario_keys::Place;
-use std::alloc::{AllocError, Global};
+use crate::plain::{Fault, plain};
+use crate::texts::{octets, some_octets, wanted_of};
+use ec_fields::NoMemory;
+use fault_kinds::{Found, Wrong, told_text};
+use fault_sites::{Site, is_asked, key_path, title};
+use fault_texts::{Row, rows_of};
+use scenario_keys::find;
+use std::alloc::Global;
 use toml::Value;
-use toml_places::add_item;
-
-/// A text as octets.
-pub(crate) fn octets(alloc: Global, text: &str) -> Result<Octets, NoMemory> {
-    Octets::copy_of(alloc, text.as_bytes())
-}
-
-/// A text as octets, where there is one.
-pub(crate) fn some_octets(alloc: Global, text: Option<String>) -> Result<Option<Octets>, NoMemory> {
-    match text {
-        Some(text) => Ok(Some(octets(alloc, text.as_str())?)),
-        None => Ok(None),
-    }
-}
-
-/// What is wanted of a key's value; of a service's octets how many.
-pub(crate) fn wanted_of(alloc: Global, site: &Site, row: &Row) -> Result<String, AllocError> {
-    let wanted = row.wanted;
-    match site.place {
-        Place::Service(_) if row.key == "value" => {
-            let (least, most) = octets_of(text_at(site.table, "do").unwrap_or(""));
-            format!(in alloc; "{wanted} of {least} to {most} octets")
-        }
-        _ => String::from_str(alloc, wanted),
-    }
-}
+use toml_places::{Path, add_item};
 
 // The first text, where there is one, else the other.
 fn text_or(text: Option<String>, other: String) -> String {
     match text {
         Some(text) => text,
         None => other,
+    }
+}
+
+// Goes on to the item that is wrong.
+fn add_found(path: &mut Path, found: Found) -> Result<(), NoMemory>
+    ensures { OnOk result (path.new ≡ path.old ++ steps_to found) }
+{
+    match found {
+        Found::Value => Ok(()),
+        Found::Item(number) => add_item(path, number),
+        Found::Pair(number) => add_item(path, number),
+        Found::Octets(_) => Ok(()),
     }
 }
 
@@ -49,14 +44,16 @@ fn of_value(
     row: &Row,
     value: &Value,
     wrong: Wrong,
-) -> Result<Fault, NoMemory> {
+) -> Result<Fault, NoMemory>
+    ensures key { IfOk result (λ f. f.key ≡ row.now.key.now) }
+    ensures found { IfOk result (λ f. f.found ≡ Some (told_text wrong.found row.now.key.now (view value.now))) }
+    ensures path { IfOk result (λ f. f.path ≡ key_path site.now.place row.now.key.now ++ steps_to wrong.found) }
+{
     let title = title(alloc, site.document, site.place)?;
-    let found = text_or(wrong.found, found(alloc, row.key, value)?);
+    let found = told_text(alloc, wrong.found, row.key, value)?;
     let wanted = text_or(wrong.wanted, wanted_of(alloc, site, row)?);
     let mut path = key_path(alloc, site.place, row.key)?;
-    if let Some(item) = wrong.item {
-        add_item(&mut path, item)?;
-    }
+    add_found(&mut path, wrong.found)?;
     let also = match wrong.also {
         Some(place) => Some(key_path(alloc, place, row.key)?),
         None => None,
@@ -81,8 +78,11 @@ fn of_value(
 }
 
 // What the rule refuses of a key, where it stands there.
-fn of_row(alloc: Global, site: &Site, rule: u8, row: &Row) -> Result<Option<Fault>, NoMemory> {
-    let Some(value) = site.table.get(row.key) else {
+#[tactic(auto, using(crate::proofs::Told::is_value))]
+fn of_row(alloc: Global, site: &Site, rule: u8, row: &Row) -> Result<Option<Fault>, NoMemory>
+    ensures { IfOk result (λ o. IfSome o (IsValue site.now.place (table_view site.now.table.now))) }
+{
+    let Some(value) = find(site.table, row.key) else {
         return Ok(None);
     };
     match judged(alloc, site, rule, row, value)? {
@@ -91,8 +91,10 @@ fn of_row(alloc: Global, site: &Site, rule: u8, row: &Row) -> Result<Option<Faul
     }
 }
 
-/// The first key whose value the rule refuses.
-pub(crate) fn wrong_value(alloc: Global, site: &Site, rule: u8) -> Result<Option<Fault>, NoMemory> {
+// The first key whose value the rule refuses.
+fn wrong_value(alloc: Global, site: &Site, rule: u8) -> Result<Option<Fault>, NoMemory>
+    ensures { IfOk result (λ o. IfSome o (IsValue site.now.place (table_view site.now.table.now))) }
+{
     for row in rows_of(site.kind()) {
         if is_asked(site, row.key)
             && let Some(fault) = of_row(alloc, site, rule, row)?
@@ -101,4 +103,18 @@ pub(crate) fn wrong_value(alloc: Global, site: &Site, rule: u8) -> Result<Option
         }
     }
     Ok(None)
+}
+
+/// What the rule refuses: the first key whose value is wrong, or a run of too many frames.
+#[tactic(auto, unfolding(crate::specs::Fault::IsWrong))]
+pub(crate) fn wrong(alloc: Global, site: &Site, rule: u8) -> Result<Fault, NoMemory>
+    ensures { IfOk result (IsWrong site.now.place (table_view site.now.table.now)) }
+{
+    if let Some(fault) = wrong_value(alloc, site, rule)? {
+        return Ok(fault);
+    }
+    match over_bound(alloc, site, rule)? {
+        Some(fault) => Ok(fault),
+        None => plain(alloc, site.document, rule, site.place),
+    }
 }

@@ -1,51 +1,29 @@
-use fault_kinds::{Wrong, header_of, pair_of};
+use fault_kinds::{Found, Wrong, header_of, pair_of};
 use fault_sites::{Site, items_at, number_at};
-use fault_texts::{Row, Shape, pair, type_of};
+use fault_texts::{Row, Shape, type_of};
 use std::alloc::{AllocError, Global};
 use toml::{Table, Value};
 
 // A lost frame that the schedule may not have.
-fn wrong_frame(
-    alloc: Global,
-    head: String,
-    wanted: String,
-    number: usize,
-    frame: i64,
-    after: i64,
-) -> Result<Wrong, AllocError> {
-    let told = pair(alloc, frame, after)?;
-    let place = number.saturating_add(1);
+fn wrong_frame(head: String, wanted: String, number: usize) -> Wrong {
     let mut wrong = Wrong::told(head);
-    wrong.item = u32::try_from(number).ok();
-    wrong.found = Some(format!(in alloc; "{told}, pair {place}")?);
+    wrong.found = Found::Pair(u32::try_from(number).unwrap_or(0));
     wrong.wanted = Some(wanted);
-    Ok(wrong)
+    wrong
 }
 
-fn not_rising(
-    alloc: Global,
-    number: usize,
-    before: i64,
-    frame: i64,
-    after: i64,
-) -> Result<Wrong, AllocError> {
+fn not_rising(alloc: Global, number: usize, before: i64, frame: i64) -> Result<Wrong, AllocError> {
     let head = format!(in alloc;
         "the frames of `lose` don't rise: frame {frame} stands behind frame {before}"
     )?;
     let wanted = String::from_str(alloc, "frames that rise, each once")?;
-    wrong_frame(alloc, head, wanted, number, frame, after)
+    Ok(wrong_frame(head, wanted, number))
 }
 
-fn too_far(
-    alloc: Global,
-    slaves: usize,
-    number: usize,
-    frame: i64,
-    after: i64,
-) -> Result<Wrong, AllocError> {
+fn too_far(alloc: Global, slaves: usize, number: usize) -> Result<Wrong, AllocError> {
     let head = String::from_str(alloc, "a frame of `lose` meets more slaves than there are")?;
     let wanted = format!(in alloc; "an `after` from 0 to {slaves}, the number of slaves")?;
-    wrong_frame(alloc, head, wanted, number, frame, after)
+    Ok(wrong_frame(head, wanted, number))
 }
 
 fn wrong_in(alloc: Global, slaves: usize, items: &[Value]) -> Result<Option<Wrong>, AllocError> {
@@ -56,10 +34,10 @@ fn wrong_in(alloc: Global, slaves: usize, items: &[Value]) -> Result<Option<Wron
             return Ok(None);
         };
         if frame <= before {
-            return Ok(Some(not_rising(alloc, number, before, frame, after)?));
+            return Ok(Some(not_rising(alloc, number, before, frame)?));
         }
         if after > most {
-            return Ok(Some(too_far(alloc, slaves, number, frame, after)?));
+            return Ok(Some(too_far(alloc, slaves, number)?));
         }
         before = frame;
     }
@@ -118,7 +96,7 @@ fn too_large(alloc: Global, key: &str, items: &[Value]) -> Result<Option<Wrong>,
     let mut wrong = Wrong::told(format!(in alloc;
         "too many: the entries have {octets} octets in greatest sizes"
     )?);
-    wrong.found = Some(format!(in alloc; "{octets} octets")?);
+    wrong.found = Found::Octets(octets);
     Ok(Some(wrong))
 }
 
