@@ -1,0 +1,3 @@
+pub use Rattle.fault_texts.specs as of_fault_texts
+pub mod Shapes
+pub mod Told

@@ -1,0 +1,4 @@
+pub mod Actions
+pub mod Rows
+pub mod Characters
+pub mod Values
