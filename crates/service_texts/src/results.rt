@@ -1,5 +1,5 @@
 ghost use Rattle.std.specs.Prelude.{◌≡◌, ◌++◌, OnOk};
-ghost use Rattle.service_texts.specs.Results.{meaning_text, refusal_text, coded_text, abort_text, sdo_value, brought, result_text};
+ghost use Rattle.service_texts.specs.Results.{meaning_text, refusal_text, coded_text, abort_text, sdo_value, brought, ended_text, result_text};
 
 use code_texts::{Family, meaning};
 use ec_fields::{NoMemory, Octets};
@@ -128,21 +128,13 @@ fn add_brought(
     }
 }
 
-/// What a service of a slave came to: `done`, `handed over`, the value that it brought by its type, or `refused` with the code and what it says.
-#[tactic(auto, unfolding(crate::specs::Results::result_text))]
-pub fn add_result(
-    alloc: Global,
-    line: &mut Octets,
-    slave: &SlaveSpec,
-    service: &Service,
-    kind: ReplyKind,
-    value: &[u8],
-) -> Result<(), NoMemory>
-    ensures { OnOk result (line.new ≡ line.old ++ result_text slave.now service.now kind value.now) }
+/// How a service ended that brought no value: `done`, `handed over`, or `refused` with the code and what it says.
+#[tactic(auto, unfolding(crate::specs::Results::ended_text))]
+pub fn add_ended(alloc: Global, line: &mut Octets, kind: ReplyKind) -> Result<(), NoMemory>
+    ensures { OnOk result (line.new ≡ line.old ++ ended_text kind) }
 {
     match kind {
-        ReplyKind::Done => line.add(b"done"),
-        ReplyKind::Value => add_brought(alloc, line, slave, service, value),
+        ReplyKind::Done | ReplyKind::Value => line.add(b"done"),
         ReplyKind::Abort(code) => add_abort(alloc, line, code),
         ReplyKind::FoeError(code) => add_coded(alloc, line, "foe ", Family::FoeError, code),
         ReplyKind::SoeError(code) => {
@@ -158,5 +150,23 @@ pub fn add_result(
             add_coded(alloc, line, "AL status ", Family::AlStatus, u32::from(code))
         }
         ReplyKind::Handed => line.add(b"handed over"),
+    }
+}
+
+/// What a service of a slave came to: the value that it brought, by its type, or how it ended.
+#[tactic(auto, unfolding(crate::specs::Results::result_text))]
+pub fn add_result(
+    alloc: Global,
+    line: &mut Octets,
+    slave: &SlaveSpec,
+    service: &Service,
+    kind: ReplyKind,
+    value: &[u8],
+) -> Result<(), NoMemory>
+    ensures { OnOk result (line.new ≡ line.old ++ result_text slave.now service.now kind value.now) }
+{
+    match kind {
+        ReplyKind::Value => add_brought(alloc, line, slave, service, value),
+        _ => add_ended(alloc, line, kind),
     }
 }
