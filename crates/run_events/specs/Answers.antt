@@ -44,10 +44,10 @@ abbrev pub doubted : ℕ → List ℕ → ℕ → When
 doubted first gave last = doubt_from first last (given_behind first gave)
 
 -- the frames that a service took, and its rank
-abbrev pub when : Answer → Option Begun → List ℕ → ℕ → When
-when (Replied reply frame) begun gave last = spanned (first_of begun frame) frame 4
-when InDoubt begun gave last = doubted (first_of begun last) gave last
-when NotSent begun gave last = record { span = None; rank = 10 }
+abbrev pub time_of : Answer → Option Begun → List ℕ → ℕ → When
+time_of (Replied reply frame) begun gave last = spanned (first_of begun frame) frame 4
+time_of InDoubt begun gave last = doubted (first_of begun last) gave last
+time_of NotSent begun gave last = record { span = None; rank = 10 }
 
 -- what is known of a service in doubt
 abbrev pub doubt_text : ℕ → List ℕ
@@ -146,7 +146,7 @@ begun_events s None number answer w = service_events s (number_at s.numbers numb
 
 -- what became of it, the slave's scripted service of that number or no scripted one
 unfoldable pub answer_events : Seen → Option Begun → ℕ → Answer → List Event
-answer_events s begun number answer = begun_events s begun number answer (when answer begun s.row.gave s.last)
+answer_events s begun number answer = begun_events s begun number answer (time_of answer begun s.row.gave s.last)
 
 -- the answers from a place on, of which those of scripted services are numbered from `number` on
 abbrev pub answers_from : Seen → ℕ → ℕ → List Answer → List Event

@@ -1,7 +1,7 @@
 ghost use Rattle.std.specs.Prelude.{◌≡◌, [], ◌∷◌, ◌++◌, OnOk, IfOk, slice_get};
 ghost use Rattle.std.specs.Option.{option_copied};
 ghost use Rattle.run_report.specs.Report.{is_scripted_row};
-ghost use Rattle.run_events.specs.Answers.{given_behind, first_of, doubted, when, doubt_text, outcome, service_line, packet_outcome, packet_line, number_at, service_of, place_at, seen, service_events, packet_event, answer_events, answers_events};
+ghost use Rattle.run_events.specs.Answers.{given_behind, first_of, doubted, time_of, doubt_text, outcome, service_line, packet_outcome, packet_line, number_at, service_of, place_at, seen, service_events, packet_event, answer_events, answers_events};
 
 use crate::arrivals::packet_at;
 use crate::event::{Event, Span, push};
@@ -30,6 +30,7 @@ pub(crate) struct When {
 }
 
 /// What is told of one slave.
+#[derive(Clone, Copy)]
 pub(crate) struct Scene<'a> {
     /// The slave, in ring order.
     pub(crate) slave: u32,
@@ -81,8 +82,8 @@ fn doubted(first: u32, gave: &[u32], last: u32) -> When
     }
 }
 
-fn when(answer: &Answer, begun: Option<Begun>, gave: &[u32], last: u32) -> When
-    ensures { result ≡ when answer.now begun gave.now last }
+fn time_of(answer: &Answer, begun: Option<Begun>, gave: &[u32], last: u32) -> When
+    ensures { result ≡ time_of answer.now begun gave.now last }
 {
     match answer {
         Answer::Replied { frame, .. } => When {
@@ -272,7 +273,7 @@ fn push_answer(
 ) -> Result<(), NoMemory>
     ensures { OnOk result (events.new.items ≡ events.old.items ++ answer_events (seen scene.now) begun number answer.now) }
 {
-    let when = when(answer, begun, scene.row.gave.as_slice(), scene.last);
+    let when = time_of(answer, begun, scene.row.gave.as_slice(), scene.last);
     match begun {
         None
         | Some(Begun {

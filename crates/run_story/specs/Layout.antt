@@ -20,8 +20,8 @@ abbrev pub wider : Widths → Event → Widths
 wider w e = record { frames = max w.frames (length (frames_cell e.span)); name = max w.name (length e.name) }
 
 -- as wide as the widest cells
-unfoldable pub widths : List Event → Widths
-widths events = fold wider (record { frames = 6; name = 5 }) events
+unfoldable pub widths_of : List Event → Widths
+widths_of events = fold wider (record { frames = 6; name = 5 }) events
 
 -- a row: the first cell stands at the right of its column, the second at the left
 unfoldable pub row_text : Widths → List ℕ → List ℕ → List ℕ → List ℕ
@@ -35,4 +35,4 @@ event_row w e = row_text w (frames_cell e.span) e.name e.text
 -- EVENTS IN THREE COLUMNS with their heads
 unfoldable pub table_text : List Event → List ℕ
 table_text events =
-    row_text (widths events) (codes "frames") (codes "slave") (codes "what") ++ flat_map (event_row (widths events)) events
+    row_text (widths_of events) (codes "frames") (codes "slave") (codes "what") ++ flat_map (event_row (widths_of events)) events

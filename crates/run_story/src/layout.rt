@@ -1,6 +1,6 @@
 ghost use Rattle.std.specs.Prelude.{◌≡◌, ◌++◌, OnOk, IfOk};
 ghost use Rattle.std.specs.List.{flat_map};
-ghost use Rattle.run_story.specs.Layout.{blanks, frames_cell, wider, widths, row_text, event_row, table_text};
+ghost use Rattle.run_story.specs.Layout.{blanks, frames_cell, wider, widths_of, row_text, event_row, table_text};
 
 use ec_fields::{NoMemory, Octets};
 use run_events::{Event, Span};
@@ -57,9 +57,9 @@ fn wider(alloc: Global, widths: Widths, event: &Event) -> Result<Widths, NoMemor
 }
 
 // The widths of the widest cells.
-#[tactic(auto, unfolding(crate::specs::Layout::widths))]
-fn widths(alloc: Global, events: &[Event]) -> Result<Widths, NoMemory>
-    ensures { IfOk result (λ w. w ≡ widths events.now) }
+#[tactic(auto, unfolding(crate::specs::Layout::widths_of))]
+fn widths_of(alloc: Global, events: &[Event]) -> Result<Widths, NoMemory>
+    ensures { IfOk result (λ w. w ≡ widths_of events.now) }
 {
     let mut widths = Widths {
         frames: FRAMES.len(),
@@ -135,7 +135,7 @@ pub(crate) fn add_table(
 ) -> Result<(), NoMemory>
     ensures { OnOk result (text.new ≡ text.old ++ table_text events.now) }
 {
-    let widths = widths(alloc, events)?;
+    let widths = widths_of(alloc, events)?;
     add_row(text, widths, FRAMES, SLAVE, WHAT)?;
     add_events(alloc, text, widths, events)?;
     Ok(())

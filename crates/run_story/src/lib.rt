@@ -7,4 +7,4 @@ mod outcomes;
 mod stories;
 mod summary;
 
-pub use stories::{Story, story};
+pub use stories::{StoryText, story};

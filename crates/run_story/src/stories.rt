@@ -14,7 +14,7 @@ use std::alloc::Global;
 
 /// The story of a run.
 #[derive(Drop)]
-pub struct Story {
+pub struct StoryText {
     /// Its lines.
     pub text: Octets,
     /// Whether a service was refused.
@@ -49,7 +49,7 @@ fn told(
     book: &Book,
     events: &[Event],
     drops: u128,
-) -> Result<Story, NoMemory>
+) -> Result<StoryText, NoMemory>
     requires { length book.now.slaves ≡ length plan.now.slaves }
     ensures text { IfOk result (λ story. story.text ≡ story_text plan.now book.now events.now drops) }
     ensures refused { IfOk result (λ story. story.has_refused ≡ was_refused book.now) }
@@ -59,11 +59,11 @@ fn told(
     let mut text = Octets::new(alloc);
     add_table(alloc, &mut text, events)?;
     add_ending(alloc, &mut text, plan, book, outcomes.as_slice(), drops)?;
-    Ok(Story { text, has_refused })
+    Ok(StoryText { text, has_refused })
 }
 
 /// The story of a run that ended: a line for each event in the order of time, then what the services of each slave and of all came to, and the status.
-pub fn story(alloc: Global, plan: &Scenario, book: &Book) -> Result<Story, NoMemory>
+pub fn story(alloc: Global, plan: &Scenario, book: &Book) -> Result<StoryText, NoMemory>
     requires few { length plan.now.slaves ≤ 16 }
     requires rows { length book.now.slaves ≡ length plan.now.slaves }
     requires short { length book.now.frames ≤ 100000000 }
