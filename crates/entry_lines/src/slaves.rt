@@ -21,11 +21,7 @@ fn add_station(alloc: Global, line: &mut Octets, station: u16) -> Result<(), NoM
 
 // A slave with its station, behind a comma.
 #[tactic(auto, unfolding(crate::specs::Slaves::station_item))]
-fn add_station_item(
-    alloc: Global,
-    items: &mut Octets,
-    slave: &SlaveSpec,
-) -> Result<(), NoMemory>
+fn add_station_item(alloc: Global, items: &mut Octets, slave: &SlaveSpec) -> Result<(), NoMemory>
     ensures { OnOk result (items.new ≡ items.old ++ station_item slave.now) }
 {
     items.add(b", ")?;

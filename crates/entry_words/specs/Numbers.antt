@@ -1,5 +1,5 @@
 -- Numbers in words.
-use Rattle.std.specs.Prelude.{ℕ, ◌+◌, ◌-◌, ◌*◌, ◌^◌, ◌&&◌, nat_eq, nat_le, nat_lt, Bool, List, [], ◌∷◌, codes, drop, fold, Option, Some, None, if◌then◌else◌}
+use Rattle.std.specs.Prelude.{ℕ, ◌+◌, ◌-◌, ◌*◌, ◌^◌, ◌==◌, ◌&&◌, nat_eq, nat_le, nat_lt, Bool, List, codes, length, drop, fold, Option, Some, None, if◌then◌else◌}
 use Rattle.std.specs.List.{starts_with}
 
 -- the value of a hexadecimal digit
@@ -25,8 +25,7 @@ with_digit radix before octet = grown_by radix before (digit_in octet)
 
 -- the number that digits of a radix write, where they are some and it is below 2 to the power 64
 unfoldable pub number_in : ℕ → List ℕ → Option ℕ
-number_in radix [] = None
-number_in radix (octet ∷ octets) = fold (with_digit radix) (Some 0) (octet ∷ octets)
+number_in radix digits = if length digits == 0 then None else fold (with_digit radix) (Some 0) digits
 
 -- a word begins as a hexadecimal number
 abbrev pub is_hexadecimal : List ℕ → Bool

@@ -41,10 +41,9 @@ negated None = None
 
 -- the number of a data type that a word writes, in two's complement of 64 bits
 unfoldable pub number_of : ℕ → List ℕ → Option ℕ
-number_of kind [] = None
-number_of kind (octet ∷ octets) =
-    if octet == 45 then negated (limited (number_in 10 octets) (below_of kind))
-    else limited (number_word (octet ∷ octets)) (most_of kind)
+number_of kind word =
+    if starts_with nat_eq word (codes "-") then negated (limited (number_in 10 (drop 1 word)) (below_of kind))
+    else limited (number_word word) (most_of kind)
 
 -- the lowest octets of a number, the lowest one ahead
 abbrev pub octets_of : ℕ → ℕ → List ℕ

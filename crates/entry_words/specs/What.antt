@@ -1,6 +1,6 @@
 -- What of a slave a word asks for.
-use Rattle.std.specs.Prelude.{◌≤◌, ℕ, ◌&&◌, ◌==◌, nat_eq, nat_le, Bool, List, codes, drop, length, Option, Some, None, if◌then◌else◌}
-use Rattle.std.specs.List.{starts_with, list_any, before_first, after_first}
+use Rattle.std.specs.Prelude.{◌≤◌, ℕ, ◌&&◌, ◌==◌, nat_eq, nat_le, nat_lt, Bool, List, codes, drop, length, Option, Some, None, if◌then◌else◌}
+use Rattle.std.specs.List.{starts_with, position_or_len, before_first, after_first}
 use Rattle.scenario_keys.specs.Keys.{is_name}
 use Rattle.segment_plan.specs.Sound.{IsName}
 use Rattle.entry_words.specs.Numbers.{is_hexadecimal, number_in}
@@ -23,9 +23,9 @@ entry_in index sub = entry_of (number_in 16 (without_prefix index)) (number_in 1
 abbrev pub is_colon : ℕ → Bool
 is_colon octet = octet == 58
 
--- INDEX:SUB, or INDEX for subindex 0
+-- INDEX:SUB, or INDEX for subindex 0, where no colon stands in it
 unfoldable pub parted_in : List ℕ → Option What
-parted_in word = if list_any is_colon word then entry_in (before_first is_colon word) (after_first is_colon word) else entry_in word (codes "0")
+parted_in word = if nat_lt (position_or_len is_colon word) (length word) then entry_in (before_first is_colon word) (after_first is_colon word) else entry_in word (codes "0")
 
 -- the file of a name
 abbrev pub named_in : List ℕ → Option What

@@ -1,5 +1,5 @@
 ghost use Rattle.std.specs.Prelude.{◌≡◌, ◌≤◌, ◌<◌, IfSome};
-ghost use Rattle.entry_words.specs.Numbers.{digit_in, with_digit, number_in, is_hexadecimal, number_word};
+ghost use Rattle.entry_words.specs.Numbers.{digit_in, grown, with_digit, number_in, is_hexadecimal, number_word};
 
 // The value of a hexadecimal digit.
 fn digit(octet: u8) -> Option<u8>
@@ -15,7 +15,9 @@ fn digit(octet: u8) -> Option<u8>
 }
 
 // A number with one more digit behind it, where it stays below 2 to the power 64.
-fn grown(radix: u64, before: u64, digit: u8) -> Option<u64> {
+fn grown(radix: u64, before: u64, digit: u8) -> Option<u64>
+    ensures { result ≡ grown radix before digit }
+{
     before.checked_mul(radix)?.checked_add(u64::from(digit))
 }
 
@@ -30,6 +32,7 @@ fn with_digit(radix: u64, before: Option<u64>, octet: u8) -> Option<u64>
 }
 
 /// The number that digits of a radix up to 16 write, where they are some and it is below 2 to the power 64.
+#[tactic(auto, unfolding(crate::specs::Numbers::number_in))]
 pub(crate) fn number(radix: u64, digits: &[u8]) -> Option<u64>
     ensures { result ≡ number_in radix digits.now }
 {

@@ -6,6 +6,7 @@ use crate::numbers::number_word;
 use segment_plan::SlaveSpec;
 
 /// The station that a word writes, 1 to 65,535, in decimal digits or in hexadecimal ones behind `0x`; none of another word.
+#[tactic(auto, unfolding(crate::specs::Slaves::station_in))]
 pub fn station_of(word: &str) -> Option<u16>
     ensures { result ≡ station_in word.now }
 {
@@ -16,6 +17,7 @@ pub fn station_of(word: &str) -> Option<u16>
 }
 
 // The slave of this name.
+#[tactic(auto, unfolding(crate::specs::Slaves::named_in))]
 fn named<'a>(slaves: &'a [SlaveSpec], name: &[u8]) -> Option<&'a SlaveSpec>
     requires { All IsSlave slaves.now }
     ensures value { option_copied result ≡ named_in slaves.now name.now }
@@ -25,6 +27,7 @@ fn named<'a>(slaves: &'a [SlaveSpec], name: &[u8]) -> Option<&'a SlaveSpec>
 }
 
 // The slave of this station.
+#[tactic(auto, unfolding(crate::specs::Slaves::stationed_in))]
 fn stationed(slaves: &[SlaveSpec], station: u16) -> Option<&SlaveSpec>
     requires { All IsSlave slaves.now }
     ensures value { option_copied result ≡ stationed_in slaves.now station }
@@ -34,6 +37,7 @@ fn stationed(slaves: &[SlaveSpec], station: u16) -> Option<&SlaveSpec>
 }
 
 /// The slave that a word names, or else the one whose station it writes.
+#[tactic(auto, unfolding(crate::specs::Slaves::slave_in))]
 pub fn slave_of<'a>(slaves: &'a [SlaveSpec], word: &str) -> Option<&'a SlaveSpec>
     requires { All IsSlave slaves.now }
     ensures value { option_copied result ≡ slave_in slaves.now word.now }

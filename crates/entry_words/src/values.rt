@@ -62,12 +62,14 @@ fn negated(number: Option<u64>) -> Option<u64>
 }
 
 // The number of a data type that a word writes, in two's complement of 64 bits.
+#[tactic(auto, unfolding(crate::specs::Values::number_of))]
 fn number_of(kind: u16, word: &[u8]) -> Option<u64>
     ensures { result ≡ number_of kind word.now }
 {
-    match word {
-        [b'-', digits @ ..] => negated(limited(number(10, digits), below(kind))),
-        _ => limited(number_word(word), most(kind)),
+    if word.starts_with(b"-") {
+        negated(limited(number(10, &word[1..]), below(kind)))
+    } else {
+        limited(number_word(word), most(kind))
     }
 }
 
@@ -82,6 +84,7 @@ fn octets_of(alloc: Global, size: u32, number: u64) -> Result<Octets, NoMemory>
 }
 
 // The octets of a number of a data type.
+#[tactic(auto, unfolding(crate::specs::Values::numeric_in))]
 fn numeric(alloc: Global, kind: u16, word: &[u8]) -> Result<Option<Octets>, NoMemory>
     ensures { IfOk result (λ o. o ≡ numeric_in kind word.now) }
 {
@@ -92,6 +95,7 @@ fn numeric(alloc: Global, kind: u16, word: &[u8]) -> Result<Option<Octets>, NoMe
 }
 
 // The octet of a BOOLEAN.
+#[tactic(auto, unfolding(crate::specs::Values::boolean_in))]
 fn boolean(alloc: Global, word: &[u8]) -> Result<Option<Octets>, NoMemory>
     ensures { IfOk result (λ o. o ≡ boolean_in word.now) }
 {
@@ -127,6 +131,7 @@ fn fitting(octets: Option<Octets>) -> Option<Octets>
 }
 
 // The octets of a value of a data type.
+#[tactic(auto, unfolding(crate::specs::Values::typed_in))]
 fn typed(alloc: Global, kind: u16, word: &[u8]) -> Result<Option<Octets>, NoMemory>
     ensures { IfOk result (λ o. o ≡ typed_in kind word.now) }
 {
@@ -139,6 +144,7 @@ fn typed(alloc: Global, kind: u16, word: &[u8]) -> Result<Option<Octets>, NoMemo
 }
 
 // The octets that a word writes, however many.
+#[tactic(auto, unfolding(crate::specs::Values::untested_in))]
 fn untested(alloc: Global, kind: Option<u16>, word: &[u8]) -> Result<Option<Octets>, NoMemory>
     ensures { IfOk result (λ o. o ≡ untested_in kind word.now) }
 {
@@ -154,11 +160,8 @@ fn untested(alloc: Global, kind: Option<u16>, word: &[u8]) -> Result<Option<Octe
 /// The octets that a word writes for an entry of this data type, 1 to 8,000: a number in decimal digits or in hexadecimal ones behind `0x`, within
 /// the type's range, the lowest octet ahead; `true` or `false` of BOOLEAN; the text itself of VISIBLE_STRING; pairs of hexadecimal digits of
 /// OCTET_STRING, and behind `hex:` of each type, and alone of an entry that the plan doesn't have. None of another word.
-pub fn value_of(
-    alloc: Global,
-    kind: Option<u16>,
-    word: &str,
-) -> Result<Option<Octets>, NoMemory>
+#[tactic(auto, unfolding(crate::specs::Values::value_in))]
+pub fn value_of(alloc: Global, kind: Option<u16>, word: &str) -> Result<Option<Octets>, NoMemory>
     ensures value { IfOk result (λ o. o ≡ value_in kind word.now) }
     ensures within { IfOk result (λ o. IfSome o (λ octets. (1 ≤ length octets) × (length octets ≤ 8000))) }
 {

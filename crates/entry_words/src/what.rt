@@ -10,10 +10,7 @@ use file_store::Name;
 #[derive(Drop)]
 pub enum What {
     /// The entry of an object.
-    Entry {
-        index: u16,
-        sub: u8,
-    },
+    Entry { index: u16, sub: u8 },
     /// The file of this name, 1 to 32 characters from 0x21 to 0x7E.
     File(Name),
 }
@@ -43,6 +40,7 @@ fn entry(index: &[u8], sub: &[u8]) -> Option<What>
 }
 
 // `INDEX:SUB`, or `INDEX` for subindex 0.
+#[tactic(auto, unfolding(crate::specs::What::parted_in))]
 fn parted(word: &str) -> Option<What>
     ensures value { result ≡ parted_in word.now }
     ensures what { IfSome result IsWhat }
@@ -78,6 +76,7 @@ fn named(name: &[u8]) -> Option<What>
 }
 
 /// What a word asks for: `2100:01`, `0x2100:1`, or `2100` for subindex 0, all in hexadecimal digits, or `file:NAME`. None of another word.
+#[tactic(auto, unfolding(crate::specs::What::what_in))]
 pub fn what_of(word: &str) -> Option<What>
     ensures value { result ≡ what_in word.now }
     ensures what { IfSome result IsWhat }
