@@ -1,6 +1,6 @@
-ghost use Rattle.std.specs.Prelude.{◌≡◌, ◌++◌, map, IfOk, OnOk};
+ghost use Rattle.std.specs.Prelude.{◌≡◌, ◌++◌, map, option_copied, IfOk, OnOk};
 ghost use Rattle.std.specs.List.{flat_map};
-ghost use Rattle.entry_lines.specs.Slaves.{names_in, station_text, station_item, name_item, there, no_station_line, no_name_line, no_slave_line};
+ghost use Rattle.entry_lines.specs.Slaves.{text_in, name_list, names_in, station_text, station_item, name_item, there, stations_text, no_station_line, no_name_line, no_slave_line};
 
 use ec_fields::{NoMemory, Octets};
 use entry_words::station_of;
@@ -11,6 +11,7 @@ use std::str;
 use value_texts::{add_quoted, behind_comma};
 
 // A station address.
+#[tactic(auto, unfolding(crate::specs::Slaves::station_text))]
 fn add_station(alloc: Global, line: &mut Octets, station: u16) -> Result<(), NoMemory>
     ensures { OnOk result (line.new ≡ line.old ++ station_text station) }
 {
@@ -72,17 +73,46 @@ fn there(slaves: &[SlaveSpec]) -> &'static [u8]
     }
 }
 
+// Octets as a text, where they are one of UTF-8.
+fn text_of(octets: &[u8]) -> Option<&str>
+    ensures { option_copied result ≡ text_in octets.now }
+{
+    match str::from_utf8(octets) {
+        Ok(text) => Some(text),
+        Err(_) => None,
+    }
+}
+
+// Puts a slave's name behind others, where it is a text.
+fn add_name<'a>(names: &mut Vec<&'a str>, slave: &'a SlaveSpec) -> Result<(), NoMemory>
+    ensures { OnOk result (map (λ name. name.now) names.new.items ≡ map (λ name. name.now) names.old.items ++ name_list slave.now) }
+{
+    if let Some(name) = text_of(slave.name.bytes()) {
+        names.push(name)?;
+    }
+    Ok(())
+}
+
 // The slaves' names as texts.
 fn names<'a>(alloc: Global, slaves: &'a [SlaveSpec]) -> Result<Vec<&'a str>, NoMemory>
     ensures { IfOk result (λ names. map (λ name. name.now) names.items ≡ names_in slaves.now) }
 {
     let mut names = Vec::new(alloc);
     for slave in slaves {
-        if let Ok(name) = str::from_utf8(slave.name.bytes()) {
-            names.push(name)?;
-        }
+        add_name(&mut names, slave)?;
     }
     Ok(names)
+}
+
+// The slaves that there are, with their stations.
+#[tactic(auto, unfolding(crate::specs::Slaves::stations_text))]
+fn add_stations(alloc: Global, line: &mut Octets, slaves: &[SlaveSpec]) -> Result<(), NoMemory>
+    ensures { OnOk result (line.new ≡ line.old ++ stations_text slaves.now) }
+{
+    let items = station_items(alloc, slaves)?;
+    line.add(b"; there are ")?;
+    line.add(behind_comma(items.bytes()))?;
+    Ok(())
 }
 
 // No slave has a station.
@@ -90,11 +120,9 @@ fn names<'a>(alloc: Global, slaves: &'a [SlaveSpec]) -> Result<Vec<&'a str>, NoM
 fn no_station(alloc: Global, slaves: &[SlaveSpec], station: u16) -> Result<Octets, NoMemory>
     ensures { IfOk result (λ line. line ≡ no_station_line slaves.now station) }
 {
-    let items = station_items(alloc, slaves)?;
     let mut line = Octets::copy_of(alloc, b"no slave has the station ")?;
     add_station(alloc, &mut line, station)?;
-    line.add(b"; there are ")?;
-    line.add(behind_comma(items.bytes()))?;
+    add_stations(alloc, &mut line, slaves)?;
     line.add(b"\n")?;
     Ok(line)
 }
