@@ -1,19 +1,13 @@
--- Which words ask for something that people are told, and how it is put.
-use Rattle.std.specs.Prelude.{ℕ, ◌||◌, Bool, true, false, is_some, List, [], ◌∷◌, codes, Option, Some, None, if◌then◌else◌}
+-- Which words are those of a form for people, and what is told of some.
+use Rattle.std.specs.Prelude.{ℕ, ◌||◌, Bool, true, false, List, [], ◌∷◌, codes, if◌then◌else◌}
 use Rattle.std.specs.Str.{bytes_eq}
 use Rattle.code_texts.specs.declared.family.TheConstants.{FAMILIES}
-use Rattle.ecmbx_words.specs.declared.status.Status.TheVariants as statuses
 use Rattle.form_help.specs.declared.forms.TheConstants.{FORMS, VERSION}
 use Rattle.form_help.specs.declared.telling.Told.{Told}
 use Rattle.form_help.specs.Help.{help_of, usage_of}
-use Rattle.people_words.specs.declared.ended.Ended.{Ended}
-use Rattle.people_words.specs.declared.ended.Ended.TheVariants as ends
-use Rattle.people_words.specs.Ended.{Told as Puts}
+use Rattle.people_call.specs.declared.forms.Form.{Form}
+use Rattle.people_call.specs.declared.forms.Form.TheVariants as forms
 use Rattle.people_call.specs.Explain.{explained}
-
--- a word that asks what a code means
-unfoldable pub is_explain : List ℕ → Bool
-is_explain word = bytes_eq word (codes "explain")
 
 -- a word that asks for the forms
 unfoldable pub is_help : List ℕ → Bool
@@ -23,27 +17,50 @@ is_help word = bytes_eq word (codes "help") || (bytes_eq word (codes "--help") |
 unfoldable pub is_version : List ℕ → Bool
 is_version word = bytes_eq word (codes "version") || (bytes_eq word (codes "--version") || bytes_eq word (codes "-V"))
 
+-- a word of which something is told, whatever stands behind it
+unfoldable pub is_told : List ℕ → Bool
+is_told word = bytes_eq word (codes "explain") || (is_help word || is_version word)
+
+-- a form that takes one file; with other words its own are told
+abbrev pub alone : Form → List (List ℕ) → Form
+alone form [] = forms.Told
+alone form (file ∷ []) = form
+alone form (file ∷ word ∷ words) = forms.Told
+
+-- the form of a word and those behind it
+unfoldable pub form_by : List ℕ → List (List ℕ) → Form
+form_by word behind =
+    if is_told word then forms.Told
+    else if bytes_eq word (codes "check") then alone forms.Check behind
+    else if bytes_eq word (codes "show") then alone forms.Show behind
+    else if bytes_eq word (codes "get") || bytes_eq word (codes "put") then forms.Entry
+    else forms.Other
+
+-- THE FORM OF THE WORDS
+unfoldable pub form_in : List (List ℕ) → Form
+form_in [] = forms.Other
+form_in (word ∷ behind) = form_by word behind
+
+-- the file of a form that takes one
+abbrev pub file_in : List (List ℕ) → List ℕ
+file_in (word ∷ file ∷ words) = file
+file_in (word ∷ []) = []
+file_in [] = []
+
 -- what the words behind `version` ask for
 unfoldable pub version_of : List (List ℕ) → Told
 version_of [] = record { is_known = true; text = VERSION.now }
 version_of (word ∷ words) = record { is_known = false; text = usage_of FORMS.now (codes "version") }
 
--- a word of which something is told and nothing else done
-unfoldable pub is_told : List ℕ → Bool
-is_told word = is_explain word || (is_help word || is_version word)
-
--- what is told of such a word and those behind it
+-- what is told of a word and those behind it
 unfoldable pub told_of : List ℕ → List (List ℕ) → Told
 told_of word behind =
-    if is_explain word then explained FAMILIES behind
+    if bytes_eq word (codes "explain") then explained FAMILIES behind
     else if is_help word then help_of FORMS.now behind
-    else version_of behind
+    else if is_version word then version_of behind
+    else record { is_known = false; text = usage_of FORMS.now word }
 
--- the same of all words, where the first is such a word
-unfoldable pub told_first : List (List ℕ) → Option Told
-told_first [] = None
-told_first (word ∷ behind) = if is_told word then Some (told_of word behind) else None
-
--- the lines of what is known were put and the status is Done, or those of what isn't and it is Usage
-abbrev pub Tells : Told → Option (List ℕ) → Option (List ℕ) → Ended → Type 0
-Tells t old new end = Puts (ends.As (if t.is_known then statuses.Done else statuses.Usage)) t.text old new end
+-- WHAT IS TOLD OF THE WORDS
+unfoldable pub told_in : List (List ℕ) → Told
+told_in [] = record { is_known = false; text = [] }
+told_in (word ∷ behind) = told_of word behind

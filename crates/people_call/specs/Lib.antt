@@ -1,2 +1,3 @@
 pub mod Explain
 pub mod Call
+pub mod Course

@@ -3,6 +3,8 @@
 
 mod call;
 mod explain;
+mod forms;
+mod telling;
 
 pub use call::people_call;
 pub use people_words::Ended;

@@ -1,0 +1,89 @@
+ghost use Rattle.std.specs.Prelude.{◌≡◌, map, string_bytes};
+ghost use Rattle.people_call.specs.declared.forms.Form.TheVariants as forms;
+ghost use Rattle.people_call.specs.Call.{is_help, is_version, is_told, alone, form_by, form_in, file_in};
+
+/// The forms for people.
+#[derive(Clone, Copy)]
+pub(crate) enum Form {
+    /// Something is told, and nothing else is done.
+    Told,
+    /// `check SCENARIO`
+    Check,
+    /// `show SCENARIO`
+    Show,
+    /// `get ..` and `put ..`
+    Entry,
+    /// Any other words.
+    Other,
+}
+
+#[tactic(auto, unfolding(crate::specs::Call::is_help))]
+pub(crate) fn is_help(word: &str) -> bool
+    ensures { result ≡ is_help word.now }
+{
+    word == "help" || word == "--help" || word == "-h"
+}
+
+#[tactic(auto, unfolding(crate::specs::Call::is_version))]
+pub(crate) fn is_version(word: &str) -> bool
+    ensures { result ≡ is_version word.now }
+{
+    word == "version" || word == "--version" || word == "-V"
+}
+
+// Whether something is told of a word, whatever stands behind it.
+#[tactic(auto, unfolding(crate::specs::Call::is_told))]
+fn is_told(word: &str) -> bool
+    ensures { result ≡ is_told word.now }
+{
+    word == "explain" || is_help(word) || is_version(word)
+}
+
+// A form that takes one file; with other words its own are told.
+fn alone(form: Form, behind: &[String]) -> Form
+    ensures { result ≡ alone form (map string_bytes behind.now) }
+{
+    match behind {
+        [_] => form,
+        _ => Form::Told,
+    }
+}
+
+// The form of a word and those behind it.
+#[tactic(auto, unfolding(crate::specs::Call::form_by))]
+fn form_by(word: &str, behind: &[String]) -> Form
+    ensures { result ≡ form_by word.now (map string_bytes behind.now) }
+{
+    if is_told(word) {
+        Form::Told
+    } else if word == "check" {
+        alone(Form::Check, behind)
+    } else if word == "show" {
+        alone(Form::Show, behind)
+    } else if word == "get" || word == "put" {
+        Form::Entry
+    } else {
+        Form::Other
+    }
+}
+
+/// The form of the words.
+#[tactic(auto, unfolding(crate::specs::Call::form_in))]
+pub(crate) fn form_of(words: &[String]) -> Form
+    ensures { result ≡ form_in (map string_bytes words.now) }
+{
+    match words {
+        [word, behind @ ..] => form_by(word.as_str(), behind),
+        [] => Form::Other,
+    }
+}
+
+/// The file of a form that takes one.
+pub(crate) fn file_of(words: &[String]) -> &str
+    ensures { result.now ≡ file_in (map string_bytes words.now) }
+{
+    match words {
+        [_, file, ..] => file.as_str(),
+        _ => "",
+    }
+}
