@@ -10,10 +10,11 @@ mod output;
 use crate::notices::{listening, say_hint};
 use crate::output::Output;
 use ec_links::TcpLink;
-use ec_outside::{DiskFiles, UdpPort};
+use ec_outside::{DiskFiles, Peer, UdpPort};
 use ecmbx_call::{Book, Status, program};
 use ecmbx_words::{Form, form_of, stream_of};
 use listening::{ListeningLink, ListeningPort};
+use patient_port::PatientPort;
 use people_call::{Ended, people_call};
 use std::process::ExitCode;
 use std::rt::Env;
@@ -81,7 +82,14 @@ fn main(rt: HostRuntime) -> ExitCode {
     let mut files = DiskFiles::new(&rt);
     let mut out = Output::new(alloc, &rt);
     let mut book = Book::new(alloc);
-    let ended = match people_call(alloc, words, &mut out) {
+    let gateway = Peer {
+        ip: LOCALHOST,
+        port: GATEWAY,
+    };
+    let mut port = PatientPort::new(&rt, gateway);
+    let ended = match people_call(
+        alloc, words, &mut files, &mut out, &mut port, &mut book,
+    ) {
         Some(ended) => ended,
         None => Ended::As(for_scripts(&rt, words, &mut files, &mut out, &mut book)),
     };
