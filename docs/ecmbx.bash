@@ -11,14 +11,14 @@ _ecmbx_words() { mapfile -t COMPREPLY < <(compgen -W "$1" -- "$2"); }
 _ecmbx_slaves() { ecmbx check "$1" 2>/dev/null | sed -n 's/^slave \([^ ]*\): .*/\1/p'; }
 
 _ecmbx() {
-  local forms="run show check explain decode audit serve stream get put ask make help version"
+  local forms="run check explain decode audit serve stream get put ask make help version"
   local word=${COMP_WORDS[COMP_CWORD]}
   COMPREPLY=()
   case "$COMP_CWORD ${COMP_WORDS[1]-}" in
     "1 "*) _ecmbx_words "$forms" "$word" ;;
     "2 help") _ecmbx_words "$forms" "$word" ;;
     "2 explain") _ecmbx_words "rule fault audit status abort foe soe eoe mailbox refused" "$word" ;;
-    "2 run" | "2 show" | "2 check" | "2 serve" | "2 stream" | "2 get" | "2 put") _ecmbx_files toml "$word" ;;
+    "2 run" | "2 check" | "2 serve" | "2 stream" | "2 get" | "2 put") _ecmbx_files toml "$word" ;;
     "3 run" | "2 decode" | "2 audit") _ecmbx_files pcap "$word" ;;
     "3 get" | "3 put") _ecmbx_words "$(_ecmbx_slaves "${COMP_WORDS[2]}")" "$word" ;;
     "5 get" | "5 put")

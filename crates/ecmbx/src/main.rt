@@ -87,9 +87,7 @@ fn main(rt: HostRuntime) -> ExitCode {
         port: GATEWAY,
     };
     let mut port = PatientPort::new(&rt, gateway);
-    let ended = match people_call(
-        alloc, words, &mut files, &mut out, &mut port, &mut book,
-    ) {
+    let ended = match people_call(alloc, words, &mut files, &mut out, &mut port) {
         Some(ended) => ended,
         None => Ended::As(for_scripts(&rt, words, &mut files, &mut out, &mut book)),
     };

@@ -32,7 +32,6 @@ unfoldable pub form_by : List ℕ → List (List ℕ) → Form
 form_by word behind =
     if is_told word then forms.Told
     else if bytes_eq word (codes "check") then alone forms.Check behind
-    else if bytes_eq word (codes "show") then alone forms.Show behind
     else if bytes_eq word (codes "get") || bytes_eq word (codes "put") then forms.Entry
     else forms.Other
 

@@ -9,9 +9,7 @@ use Rattle.form_help.specs.declared.telling.Told.{Told}
 use Rattle.people_words.specs.declared.ended.Ended.{Ended}
 use Rattle.people_words.specs.declared.ended.Ended.TheVariants as ends
 use Rattle.people_words.specs.Ended.{Told as Puts}
-use Rattle.run_book.specs.declared.book.Book.{Book}
 use Rattle.check_call.specs.Call.{ChecksFile}
-use Rattle.show_call.specs.Call.{ShowsFile}
 use Rattle.entry_call.specs.Course.{EntryCourse}
 use Rattle.entry_call.specs.Objects.{Does}
 use Rattle.people_call.specs.declared.forms.Form.TheVariants as forms
@@ -26,19 +24,15 @@ abbrev pub Checks : {F O : Type 0} → FilesTell F → SinkTells O → List ℕ 
 Checks files_tell sink_tells name files files' out out' end = (status : Status) × (end ≡ ends.As status) × ChecksFile files_tell.table files_tell.file_faults sink_tells.written name files files' out out' status
 
 -- WHAT A CALL COMES TO, by the form of its words, and its end where it is one for people
-pub data Comes {F O P : Type 0} (files_tell : FilesTell F) (sink_tells : SinkTells O) (port_tells : PortTells P) (words : List (List ℕ)) (files files' : F) (out out' : O) (port port' : P) (book book' : Book) : Option Ended → Type 0 where
+pub data Comes {F O P : Type 0} (files_tell : FilesTell F) (sink_tells : SinkTells O) (port_tells : PortTells P) (words : List (List ℕ)) (files files' : F) (out out' : O) (port port' : P) : Option Ended → Type 0 where
   told : (end : Ended) → form_in words ≡ forms.Told → Tells (told_in words) (sink_tells.written out) (sink_tells.written out') end
-      → files' ≡ files → port' ≡ port → book' ≡ book
-      → Comes files_tell sink_tells port_tells words files files' out out' port port' book book' (Some end)
+      → files' ≡ files → port' ≡ port
+      → Comes files_tell sink_tells port_tells words files files' out out' port port' (Some end)
   checked : (end : Ended) → form_in words ≡ forms.Check → Checks files_tell sink_tells (file_in words) files files' out out' end
-      → files_tell.table files' ≡ files_tell.table files → port' ≡ port → book' ≡ book
-      → Comes files_tell sink_tells port_tells words files files' out out' port port' book book' (Some end)
-  shown : (end : Ended) → form_in words ≡ forms.Show
-      → ShowsFile files_tell.table files_tell.file_faults sink_tells.written (file_in words) book' files files' out out' end
       → files_tell.table files' ≡ files_tell.table files → port' ≡ port
-      → Comes files_tell sink_tells port_tells words files files' out out' port port' book book' (Some end)
+      → Comes files_tell sink_tells port_tells words files files' out out' port port' (Some end)
   entered : (end : Ended) → form_in words ≡ forms.Entry → Does files_tell sink_tells port_tells (EntryCourse words) files files' out out' port port' end
-      → book' ≡ book
-      → Comes files_tell sink_tells port_tells words files files' out out' port port' book book' (Some end)
-  other : form_in words ≡ forms.Other → files' ≡ files → out' ≡ out → port' ≡ port → book' ≡ book
-      → Comes files_tell sink_tells port_tells words files files' out out' port port' book book' None
+     
+      → Comes files_tell sink_tells port_tells words files files' out out' port port' (Some end)
+  other : form_in words ≡ forms.Other → files' ≡ files → out' ≡ out → port' ≡ port
+      → Comes files_tell sink_tells port_tells words files files' out out' port port' None

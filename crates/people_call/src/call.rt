@@ -2,7 +2,6 @@ ghost use Rattle.std.specs.Prelude.{◌≡◌, ◌≤◌, map, IfSome, string_by
 ghost use Rattle.ec_outside.specs.Faults.{Rose};
 ghost use Rattle.ecmbx_words.specs.declared.status.Status.TheVariants as statuses;
 ghost use Rattle.people_words.specs.declared.ended.Ended.TheVariants as ends;
-ghost use Rattle.run_book.specs.Book.{IsNew};
 ghost use Rattle.people_call.specs.Course.{Comes};
 
 use crate::forms::{Form, file_of, form_of};
@@ -11,11 +10,9 @@ use check_call::check;
 use ec_outside::{Files, Port, Sink};
 use entry_call::get_or_put;
 use people_words::Ended;
-use run_book::Book;
-use show_call::show;
 use std::alloc::Global;
 
-/// Does what the words ask for, where the first is that of a form for people: `explain`, `help`, `version`, `check`, `show`, `get` or `put`.
+/// Does what the words ask for, where the first is that of a form for people: `explain`, `help`, `version`, `check`, `get` or `put`.
 /// None of any other words, for which nothing is done.
 pub fn people_call<F: Files, O: Sink, P: Port>(
     alloc: Global,
@@ -23,17 +20,14 @@ pub fn people_call<F: Files, O: Sink, P: Port>(
     files: &mut F,
     out: &mut O,
     port: &mut P,
-    book: &mut Book,
 ) -> Option<Ended>
-    requires { IsNew book.old }
-    ensures course { Comes F.Files O.Sink P.Port (map string_bytes words.now) files.old files.new out.old out.new port.old port.new book.old book.new result }
+    ensures course { Comes F.Files O.Sink P.Port (map string_bytes words.now) files.old files.new out.old out.new port.old port.new result }
     ensures cause { IfSome result (λ end. end ≡ ends.As statuses.SinkFault → Rose (O.sink_faults out.old) (O.sink_faults out.new)) }
     ensures later { F.file_faults files.old ≤ F.file_faults files.new }
 {
     match form_of(words) {
         Form::Told => Some(tell_words(alloc, words, out)),
         Form::Check => Some(Ended::As(check(alloc, file_of(words), files, out))),
-        Form::Show => Some(show(alloc, file_of(words), files, out, book)),
         Form::Entry => Some(get_or_put(alloc, words, files, out, port)),
         Form::Other => None,
     }

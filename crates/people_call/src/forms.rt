@@ -9,8 +9,6 @@ pub(crate) enum Form {
     Told,
     /// `check SCENARIO`
     Check,
-    /// `show SCENARIO`
-    Show,
     /// `get ..` and `put ..`
     Entry,
     /// Any other words.
@@ -58,8 +56,6 @@ fn form_by(word: &str, behind: &[String]) -> Form
         Form::Told
     } else if word == "check" {
         alone(Form::Check, behind)
-    } else if word == "show" {
-        alone(Form::Show, behind)
     } else if word == "get" || word == "put" {
         Form::Entry
     } else {
