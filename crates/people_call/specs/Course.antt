@@ -32,7 +32,6 @@ pub data Comes {F O P : Type 0} (files_tell : FilesTell F) (sink_tells : SinkTel
       → files_tell.table files' ≡ files_tell.table files → port' ≡ port
       → Comes files_tell sink_tells port_tells words files files' out out' port port' (Some end)
   entered : (end : Ended) → form_in words ≡ forms.Entry → Does files_tell sink_tells port_tells (EntryCourse words) files files' out out' port port' end
-     
       → Comes files_tell sink_tells port_tells words files files' out out' port port' (Some end)
   other : form_in words ≡ forms.Other → files' ≡ files → out' ≡ out → port' ≡ port
       → Comes files_tell sink_tells port_tells words files files' out out' port port' None
