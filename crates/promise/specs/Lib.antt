@@ -1,0 +1,13 @@
+pub mod Application
+pub mod First
+pub mod Meaning
+pub mod Rows
+pub mod Fits
+pub mod Frames
+pub mod Visits
+pub mod Ports
+pub mod Replay
+pub mod Headline
+pub mod Plain
+pub mod Served
+pub mod Same
