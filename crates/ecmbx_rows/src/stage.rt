@@ -64,13 +64,7 @@ impl<F: Files + Drop> Stage<F> {
     /// Makes the call for people of these words: the number of its status, or none where they are no form for people.
     pub fn call_for_people(&mut self, alloc: Global, words: &[String]) -> Option<u64> {
         self.out = MemSink::new(alloc, numbers(alloc, self.failing));
-        let ended = people_call(
-            alloc,
-            words,
-            &mut self.files,
-            &mut self.out,
-            &mut self.port,
-        )?;
+        let ended = people_call(alloc, words, &mut self.files, &mut self.out, &mut self.port)?;
         Some(u64::from(ended.number()))
     }
 

@@ -38,11 +38,7 @@ fn nearer<'a>(
 
 // The nearest of the words, the first of several.
 #[tactic(auto, unfolding(crate::specs::Near::nearest))]
-fn nearest<'a>(
-    alloc: Global,
-    words: &[&'a str],
-    word: &str,
-) -> Result<Option<&'a str>, NoMemory>
+fn nearest<'a>(alloc: Global, words: &[&'a str], word: &str) -> Result<Option<&'a str>, NoMemory>
     ensures { IfOk result (λ o. option_copied o ≡ nearest word.now (map (λ w. w.now) words.now)) }
 {
     let mut best = None;
@@ -71,11 +67,7 @@ fn is_near(alloc: Global, word: &str, other: &str) -> Result<bool, NoMemory>
 /// The word of a list that may have been meant: the nearest by its Levenshtein distance, both in small letters, the first of several,
 /// where twice the distance is at most the number of the word's characters. `NoMemory` is want of memory.
 #[tactic(auto, unfolding(crate::specs::Near::near))]
-pub fn near<'a>(
-    alloc: Global,
-    words: &[&'a str],
-    word: &str,
-) -> Result<Option<&'a str>, NoMemory>
+pub fn near<'a>(alloc: Global, words: &[&'a str], word: &str) -> Result<Option<&'a str>, NoMemory>
     ensures { IfOk result (λ o. option_copied o ≡ near word.now (map (λ w. w.now) words.now)) }
 {
     let Some(best) = nearest(alloc, words, word)? else {
