@@ -1,0 +1,6 @@
+//! Stand-in.
+#![tactic(auto)]
+
+mod fault;
+
+pub use fault::{Fault, find_fault};
