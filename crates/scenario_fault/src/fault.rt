@@ -1,47 +1,51 @@
-ghost use Rattle.std.specs.Prelude.{◌≡◌, [], ◌≢◌, IfOk, IfSome};
-ghost use Rattle.toml.specs.View.{table_view};
-ghost use Rattle.fault_sites.specs.Places.{path_of, members_at};
-ghost use Rattle.scenario_fault.specs.Fault.{IsMissing, IsUnknown, IsWrong};
-
-use crate::absent::{missing, unknown};
-use crate::plain::{Fault, plain};
-use crate::present::wrong;
-use ec_fields::NoMemory;
-use fault_sites::Site;
+use ec_fields::{NoMemory, Octets, Rows};
 use scenario_keys::Place;
 use std::alloc::Global;
 use toml::Table;
+use toml_places::Path;
 
-// What the rule refuses in the table at the place.
-fn fault_at(alloc: Global, site: &Site, rule: u8) -> Result<Fault, NoMemory>
-    ensures missing { rule ≡ 3 → IfOk result (IsMissing (table_view site.now.document.now) site.now.place (table_view site.now.table.now)) }
-    ensures unknown { rule ≡ 4 → IfOk result (IsUnknown (table_view site.now.document.now) site.now.place (table_view site.now.table.now)) }
-    ensures wrong { rule ≢ 3 → rule ≢ 4 → IfOk result (IsWrong site.now.place (table_view site.now.table.now)) }
-{
-    match rule {
-        3 => missing(alloc, site),
-        4 => unknown(alloc, site),
-        _ => wrong(alloc, site, rule),
-    }
+/// What is wrong in a scenario that is refused.
+#[derive(Drop)]
+pub struct Fault {
+    /// What is wrong, in a line.
+    pub head: Octets,
+    /// What the table is called in which it is; empty of the top.
+    pub title: Octets,
+    /// The key; empty where it is none.
+    pub key: Octets,
+    /// Where it stands: at the key, or at the table in which a key is missing.
+    pub path: Path,
+    /// Where the key stands too.
+    pub also: Option<Path>,
+    /// What is found.
+    pub found: Option<Octets>,
+    /// What is wanted.
+    pub wanted: Option<Octets>,
+    /// Why.
+    pub why: Option<Octets>,
+    /// What to write in its place.
+    pub remedy: Option<Octets>,
+    /// The word that may have been meant.
+    pub meant: Option<Octets>,
 }
 
-/// What is wrong in a scenario that is refused by this rule (2 to 12) at this place: the first key of the table there that the rule refuses.
-/// `NoMemory` is want of memory.
+/// Stand-in.
 pub fn find_fault(
     alloc: Global,
-    document: &Table,
-    rule: u8,
-    place: Place,
-) -> Result<Fault, NoMemory>
-    // A missing key is the first that the table needs and doesn't have.
-    ensures missing { rule ≡ 3 → IfOk result (λ f. IfSome (members_at (table_view document.now) (path_of place)) (λ ms. IsMissing (table_view document.now) place ms f)) }
-    // An unknown key is the first of the table that it may not have, and the word meant is the nearest of those that it may have and doesn't.
-    ensures unknown { rule ≡ 4 → IfOk result (λ f. IfSome (members_at (table_view document.now) (path_of place)) (λ ms. IsUnknown (table_view document.now) place ms f)) }
-    // Any other key stands in the table, and what is found is told of its value.
-    ensures wrong { rule ≢ 3 → rule ≢ 4 → IfOk result (λ f. IfSome (members_at (table_view document.now) (path_of place)) (λ ms. IsWrong place ms f)) }
-{
-    match Site::at(alloc, document, place)? {
-        Some(site) => fault_at(alloc, &site, rule),
-        None => plain(alloc, document, rule, place),
-    }
+    _document: &Table,
+    _rule: u8,
+    _place: Place,
+) -> Result<Fault, NoMemory> {
+    Ok(Fault {
+        head: Octets::copy_of(alloc, b"stand-in")?,
+        title: Octets::new(alloc),
+        key: Octets::new(alloc),
+        path: Rows::new(alloc),
+        also: None,
+        found: None,
+        wanted: None,
+        why: None,
+        remedy: None,
+        meant: None,
+    })
 }

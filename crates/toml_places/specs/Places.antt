@@ -1,5 +1,5 @@
 -- Where a path stands in a text, and what is wrong with one that is no document.
-use Rattle.std.specs.Prelude.{◌≡◌, ℕ, ◌-◌, ◌≤◌, true, false, List, take, slice_range, Some, None}
+use Rattle.std.specs.Prelude.{◌≡◌, ℕ, ◌-◌, ◌<◌, ◌≤◌, true, false, List, length, take, slice_range, Some, None}
 use Rattle.std.specs.Str.Lossy.{utf8_valid_len}
 use Rattle.toml_places.specs.declared.path.Step.{Step}
 use Rattle.toml_places.specs.declared.places.Spot.{Spot}
@@ -23,15 +23,18 @@ pub record IsSpot (text : List ℕ) (path : List Step) (spot : Spot) : Type 0 wh
   pub before : has path (take spot.from text) ≡ Some false
   pub behind : has path (take spot.to text) ≡ Some true
   pub not_before : spot.from ≤ spot.line
+  pub not_behind : spot.line ≤ spot.to
   pub line : IsLineIn (slice_range text spot.from spot.to) path (spot.line - spot.from)
 
 -- no text of UTF-8 from an octet on
 pub record IsWrongOctet (octets : List ℕ) (at : ℕ) : Type 0 where
   pub no_text : text_in octets ≡ None
+  pub within : at < length octets
   pub first : at ≡ utf8_valid_len octets
 
 -- the lines before are a document, and the line begins no block up to a place
 pub record IsWrongLine (text : List ℕ) (from seen : ℕ) : Type 0 where
+  pub within : from ≤ length text
   pub before : is_document (take from text) ≡ true
   pub none : HasNone text from seen
 

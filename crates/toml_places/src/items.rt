@@ -1,4 +1,4 @@
-ghost use Rattle.std.specs.Prelude.{◌≡◌, ◌⊎◌, IfOk, IfSome, IfNone, option_copied};
+ghost use Rattle.std.specs.Prelude.{◌≡◌, ◌≤◌, length, IfOk, IfSome, IfNone, option_copied};
 ghost use Rattle.toml_places.specs.Items.{is_listed, own_path, is_closed, IsItemLine, HasNoItem, IsLineIn};
 
 use crate::document::document_in;
@@ -65,7 +65,8 @@ fn item_line(alloc: Global, block: &[u8], path: &[Step]) -> Result<Option<usize>
 /// Where the line of a path begins in its block: the block's first one, or the one of an item where the path leads through a list over
 /// several lines.
 pub(crate) fn line_in(alloc: Global, block: &[u8], path: &[Step]) -> Result<usize, NoMemory>
-    ensures { IfOk result (IsLineIn block.now path.now) }
+    ensures line { IfOk result (IsLineIn block.now path.now) }
+    ensures within { IfOk result (λ line. line ≤ length block.now) }
 {
     match own_path(alloc, block, path)? {
         Some(own) if is_listed(own) => Ok(item_line(alloc, block, own)?.unwrap_or(0)),

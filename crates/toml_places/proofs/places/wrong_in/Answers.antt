@@ -9,4 +9,4 @@ pub returns-in-Err : goal.returns-in-Err
 unfolding text_in
 returns-in-Err c =
     let other : is_utf8 c.args.octets.now ≡ false = false_from_ne_true (is_utf8 c.args.octets.now) (λ text. c.in-Err.ensures.cases.0 (IsUtf8-from_is_utf8 c.args.octets.now text)) in
-    record { no_text = rw other; first = c.valid_up_to.ensures ∙ c.in-Err.ensures.valid_len }
+    record { no_text = rw other; within = rw c.valid_up_to.ensures c.in-Err.ensures.cases.1.short; first = c.valid_up_to.ensures ∙ c.in-Err.ensures.valid_len }

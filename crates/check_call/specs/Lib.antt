@@ -1,0 +1,3 @@
+pub mod Diagnosis
+pub mod Places
+pub mod Call
