@@ -1,10 +1,9 @@
-ghost use Rattle.std.specs.Prelude.{◌≡◌, [], not, is_some, IfOk};
+ghost use Rattle.std.specs.Prelude.{◌≡◌, not, is_some, IfOk};
 ghost use Rattle.std.specs.List.{list_all};
-ghost use Rattle.toml.specs.Data.{as_str, as_table};
+ghost use Rattle.toml.specs.Data.{as_str, as_array, as_table};
 ghost use Rattle.toml.specs.View.{items_view, view};
 ghost use Rattle.scenario_keys.specs.Keys.{two_numbers, as_pair};
-ghost use Rattle.fault_texts.specs.declared.shape.Shape.TheVariants as shapes;
-ghost use Rattle.fault_kinds.specs.Shapes.{is_of};
+ghost use Rattle.fault_kinds.specs.Shapes.{is_list_of, is_of};
 
 use crate::told::Found;
 use crate::tries::{kind_try, losses_try};
@@ -113,7 +112,7 @@ fn are_tables(items: &[Value]) -> bool
 // Whether a value is a list of texts.
 #[tactic(auto, using(crate::proofs::Lists::texts))]
 fn is_texts(value: &Value) -> bool
-    ensures { result ≡ is_of (shapes.Words []) (view value.now) }
+    ensures { result ≡ is_list_of (λ item. is_some (as_str item)) (as_array (view value.now)) }
 {
     match value.as_array() {
         Some(items) => are_texts(items.as_slice()),
@@ -124,7 +123,7 @@ fn is_texts(value: &Value) -> bool
 // Whether a value is a list of pairs.
 #[tactic(auto, using(crate::proofs::Lists::pairs))]
 fn is_losses(value: &Value) -> bool
-    ensures { result ≡ is_of shapes.Losses (view value.now) }
+    ensures { result ≡ is_list_of (λ item. is_some (as_pair item)) (as_array (view value.now)) }
 {
     match value.as_array() {
         Some(items) => are_pairs(items.as_slice()),
@@ -135,7 +134,7 @@ fn is_losses(value: &Value) -> bool
 // Whether a value is a list of tables.
 #[tactic(auto, using(crate::proofs::Lists::tables))]
 fn is_tables(value: &Value) -> bool
-    ensures { result ≡ is_of (shapes.Tables 0) (view value.now) }
+    ensures { result ≡ is_list_of (λ item. is_some (as_table item)) (as_array (view value.now)) }
 {
     match value.as_array() {
         Some(items) => are_tables(items.as_slice()),

@@ -49,10 +49,13 @@ fn is_named(table: &Value, name: &str) -> bool {
 
 // A file whose name one ahead of it has.
 fn same_file(alloc: Global, site: &Site, name: &str) -> Result<Option<Wrong>, AllocError> {
-    let (Place::File(_, number), Some(slave)) = (site.place, site.slave()) else {
+    if !matches!(site.place, Place::File(_, _)) {
+        return Ok(None);
+    }
+    let Some(slave) = site.slave() else {
         return Ok(None);
     };
-    let mut before = items_at(slave, "file").iter().take(number as usize);
+    let mut before = items_at(slave, "file").iter().take(site.number() as usize);
     if !before.any(|file| is_named(file, name)) {
         return Ok(None);
     }

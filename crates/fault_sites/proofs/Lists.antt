@@ -2,9 +2,11 @@
 use Rattle.std.proofs.Common.{◌≡◌, ℕ, ◌+◌, ◌<◌, ◌≤◌, ◌||◌, Bool, true, false, List, [], ◌∷◌, ◌++◌, length, map, find, filter, Option, Some, None, get_or, drop, refl, sym, ap, ◌∙◌, append_assoc, arith}
 use Rattle.std.proofs.lemmas.List.{drop_more, drop_all, append-nil}
 use Rattle.std.specs.List.{list_any}
+use Rattle.toml.specs.Data.{as_str}
 use Rattle.toml.specs.View.{items_view, view}
 use Rattle.toml.specs.declared.value.Value.{Value}
 use Rattle.scenario_keys.specs.Keys.{list_of}
+use Rattle.fault_sites.specs.Values.{is_text}
 
 -- the items of a list of values
 pub list_of_items_view : (vs : List Value) → list_of (items_view vs) ≡ map view vs
@@ -15,6 +17,11 @@ list_of_items_view (v ∷ vs) = ap (λ ds. view v ∷ ds) (list_of_items_view vs
 pub list_any_map : {A B : Type 0} (p : B → Bool) (f : A → B) (xs : List A) → list_any p (map f xs) ≡ list_any (λ x. p (f x)) xs
 list_any_map p f [] = refl
 list_any_map p f (x ∷ xs) = ap (λ b. p (f x) || b) (list_any_map p f xs)
+
+-- whether a word stands among values
+pub words : (word : List ℕ) (vs : List Value) → list_any (λ d. is_text (as_str d) word) (list_of (items_view vs)) ≡ list_any (λ v. is_text (as_str (view v)) word) vs
+words word vs =
+    ap (list_any (λ d. is_text (as_str d) word)) (list_of_items_view vs) ∙ list_any_map (λ d. is_text (as_str d) word) view vs
 
 -- the items from a place on
 pub here : {X : Type 0} (xs : List X) (i : ℕ) (x : X) → i < length xs → x ≡ get_or xs i x → drop i xs ≡ x ∷ drop (i + 1) xs

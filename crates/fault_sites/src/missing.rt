@@ -1,4 +1,5 @@
 ghost use Rattle.std.specs.Prelude.{◌≡◌, option_copied, option_map};
+ghost use Rattle.std.specs.List.{list_any};
 ghost use Rattle.toml.specs.View.{table_view, view};
 ghost use Rattle.toml.specs.Data.{as_str};
 ghost use Rattle.fault_texts.specs.Rows.{asked};
@@ -21,14 +22,18 @@ fn is_word(value: &Value, word: &str) -> bool
     is_text(value.as_str(), word)
 }
 
+// Whether a word stands among values.
+fn has_word(values: &[Value], word: &str) -> bool
+    ensures { result ≡ list_any (λ v. is_text (as_str (view v)) word.now) values.now }
+{
+    values.iter().any(|value| is_word(value, word))
+}
+
 /// Whether a slave serves a protocol.
-#[tactic(auto, unfolding(crate::specs::Values::is_served))]
 pub fn is_served(slave: &Table, protocol: &str) -> bool
     ensures { result ≡ is_served protocol.now (table_view slave.now) }
 {
-    items_at(slave, "serves")
-        .iter()
-        .any(|word| is_word(word, protocol))
+    has_word(items_at(slave, "serves"), protocol)
 }
 
 // Whether an entry is of texts or octets, which have sizes of their own.

@@ -1,4 +1,6 @@
 ghost use Rattle.std.specs.Prelude.{◌≡◌, option_map, map};
+ghost use Rattle.std.specs.List.{list_any};
+ghost use Rattle.std.specs.Str.{bytes_eq};
 ghost use Rattle.toml.specs.View.{table_view};
 ghost use Rattle.fault_sites.specs.Keys.{is_second, is_of_keys, service_keys, is_asked};
 
@@ -15,12 +17,19 @@ fn is_second(document: &Table) -> bool
     is_number(number_at(document, "version"), 2)
 }
 
+// Whether a key is one of these.
+fn is_one_of(keys: &[&str], key: &str) -> bool
+    ensures { result ≡ list_any (λ k. bytes_eq k key.now) (map (λ k. k.now) keys.now) }
+{
+    keys.contains(&key)
+}
+
 // Whether a key is one of a service of these keys; of one whose word isn't known, whether each service has it.
 fn is_of_keys(keys: Option<&[&str]>, key: &str) -> bool
     ensures { result ≡ is_of_keys (option_map (λ ks. map (λ k. k.now) ks.now) keys.entry) key.now }
 {
     match keys {
-        Some(keys) => keys.contains(&key),
+        Some(keys) => is_one_of(keys, key),
         None => key == "slave" || key == "do",
     }
 }

@@ -1,7 +1,8 @@
 ghost use Rattle.std.specs.Prelude.{◌≡◌, option_copied, map, IfOk};
+ghost use Rattle.std.specs.List.{list_any};
 ghost use Rattle.toml.specs.View.{table_view};
 ghost use Rattle.fault_texts.specs.Rows.{asked};
-ghost use Rattle.fault_sites.specs.Keys.{is_known, unknown_key, is_spare, spare_keys};
+ghost use Rattle.fault_sites.specs.Keys.{is_this, is_known, unknown_key, is_spare, spare_keys};
 
 use crate::rows::is_asked;
 use crate::site::{Site, text_at};
@@ -9,14 +10,19 @@ use fault_texts::{Kind, Row, rows_of};
 use scenario_keys::{Place, find};
 use std::alloc::{AllocError, Global};
 
+// Whether a table may have a key of these.
+fn is_among(site: &Site, rows: &[Row], key: &str) -> bool
+    ensures { result ≡ list_any (λ row. is_this (table_view site.now.document.now) site.now.place (table_view site.now.table.now) key.now (asked row)) rows.now }
+{
+    rows.iter()
+        .any(|row| row.key == key && is_asked(site, row.key))
+}
+
 // Whether a table may have a key.
-#[tactic(auto, unfolding(crate::specs::Keys::is_known))]
 fn is_known(site: &Site, key: &str) -> bool
     ensures { result ≡ is_known (table_view site.now.document.now) site.now.place (table_view site.now.table.now) key.now }
 {
-    rows_of(site.kind())
-        .iter()
-        .any(|row| row.key == key && is_asked(site, row.key))
+    is_among(site, rows_of(site.kind()), key)
 }
 
 /// The first key of a table that it may not have.

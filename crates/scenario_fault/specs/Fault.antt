@@ -4,7 +4,7 @@ use Rattle.toml.specs.Data.{Data, Members, get_member}
 use Rattle.toml_places.specs.declared.path.Step.{Step}
 use Rattle.toml_places.specs.declared.path.Step.TheVariants as steps
 use Rattle.near_words.specs.Near.{near}
-use Rattle.fault_sites.specs.of_scenario_keys.declared.place.Place.{Place}
+use Rattle.scenario_keys.specs.declared.place.Place.{Place}
 use Rattle.fault_sites.specs.Places.{path_of, key_path}
 use Rattle.fault_sites.specs.Keys.{missing_key, unknown_key, spare_keys}
 use Rattle.fault_kinds.specs.declared.told.Found.{Found}

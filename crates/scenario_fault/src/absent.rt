@@ -91,7 +91,7 @@ fn missing_key(
 }
 
 /// The first key that the table needs and doesn't have.
-#[tactic(auto, unfolding(crate::specs::Fault::IsMissing))]
+#[tactic(auto, using(crate::proofs::Told::missing_told, crate::proofs::Told::none_missing))]
 pub(crate) fn missing(alloc: Global, site: &Site) -> Result<Fault, NoMemory>
     ensures { IfOk result (IsMissing (table_view site.now.document.now) site.now.place (table_view site.now.table.now)) }
 {
@@ -177,7 +177,7 @@ fn unknown_fault(alloc: Global, site: &Site, key: &str) -> Result<Fault, NoMemor
 }
 
 /// The first key that the table may not have.
-#[tactic(auto, unfolding(crate::specs::Fault::IsUnknown))]
+#[tactic(auto, using(crate::proofs::Told::unknown_told, crate::proofs::Told::none_unknown))]
 pub(crate) fn unknown(alloc: Global, site: &Site) -> Result<Fault, NoMemory>
     ensures { IfOk result (IsUnknown (table_view site.now.document.now) site.now.place (table_view site.now.table.now)) }
 {
