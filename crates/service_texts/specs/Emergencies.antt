@@ -11,9 +11,13 @@ abbrev pub said : Option (ℕ × Bor (List ℕ)) → List ℕ
 said (Some row) = row.1.now
 said None = []
 
+-- the row of a high octet
+abbrev pub row_of : ℕ → List (ℕ × Bor (List ℕ)) → Option (ℕ × Bor (List ℕ))
+row_of octet rows = find (λ (row : ℕ × Bor (List ℕ)). row.0 == octet) rows
+
 -- the class of a high octet, empty where it has none
 abbrev pub class_at : ℕ → List ℕ
-class_at octet = said (find (λ (row : ℕ × Bor (List ℕ)). row.0 == octet) CLASSES)
+class_at octet = said (row_of octet CLASSES)
 
 -- the class of a code by its high octet, or else by that one's high digit
 unfoldable pub class_of : ℕ → List ℕ

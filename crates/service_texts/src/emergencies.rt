@@ -1,5 +1,6 @@
 ghost use Rattle.std.specs.Prelude.{◌≡◌, ◌≤◌, ◌<◌, ◌++◌, OnOk, length};
-ghost use Rattle.service_texts.specs.Emergencies.{class_at, class_of, has_bit, bit_item, bits_below, register_text, head_text, whole_text, emergency_text};
+ghost use Rattle.std.specs.Option.{option_copied};
+ghost use Rattle.service_texts.specs.Emergencies.{row_of, class_at, class_of, has_bit, bit_item, bits_below, register_text, head_text, whole_text, emergency_text};
 
 use ec_fields::{NoMemory, Octets, u16_at};
 use std::alloc::Global;
@@ -51,12 +52,19 @@ pub const BITS: [&str; 8] = [
 /// The octets of an emergency: code, error register and five of the device's own.
 const SIZE: usize = 8;
 
+// The row of a high octet.
+fn row_of(rows: &'static [(u8, &'static str)], octet: u8) -> Option<&'static (u8, &'static str)>
+    ensures { option_copied result ≡ row_of octet rows.now }
+{
+    rows.iter().find(|row| row.0 == octet)
+}
+
 // The class of a high octet, empty where it has none.
 fn class_at(octet: u8) -> &'static str
     ensures { result.now ≡ class_at octet }
 {
-    match CLASSES.iter().find(|class| class.0 == octet) {
-        Some(class) => class.1,
+    match row_of(&CLASSES, octet) {
+        Some(row) => row.1,
         None => "",
     }
 }
@@ -99,6 +107,7 @@ fn add_bit(line: &mut Octets, register: u8, bit: usize) -> Result<(), NoMemory>
     Ok(())
 }
 
+#[tactic(auto, unfolding(crate::specs::Emergencies::bits_below))]
 fn add_bits(line: &mut Octets, register: u8) -> Result<(), NoMemory>
     ensures { OnOk result (line.new ≡ line.old ++ bits_below register 8) }
 {
