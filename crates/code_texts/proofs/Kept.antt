@@ -5,7 +5,7 @@ use Rattle.std.proofs.lemmas.Bool.{lt-ltb, le-leb}
 use Rattle.std.specs.List.{filter, flat_map, list_all, find}
 use Rattle.code_texts.specs.Fitting.{is_same, is_padded}
 use Rattle.code_texts.specs.Rows.{text_of}
-use Rattle.code_texts.specs.Meaning.{has_code, said}
+use Rattle.code_texts.specs.Meaning.{has_code, said, said_in}
 use Rattle.code_texts.specs.Telling.{or_else}
 
 -- a text so far, behind which the items that pass from a place on are still to be told, gives what the whole list gives behind the old text
@@ -83,11 +83,11 @@ find_through v p [] = refl
 find_through v p (x ∷ xs) = first_or v (p (v x)) x (find (λ x. p (v x)) xs) (find p (map v xs)) (find_through v p xs)
 
 -- a row that was found says its text
-pub said_found : (rows : List (Bor (List ℕ))) (own : List (List ℕ)) (code text : List ℕ) (row : Bor (Bor (List ℕ))) (found : Option (Bor (Bor (List ℕ)))) → map (λ row. row.now) rows ≡ own → option_copied found ≡ find (λ row. has_code code row.now) rows → found ≡ Some row → text ≡ text_of row.now.now → text ≡ said (find (has_code code) own)
-said_found rows own code text row found seen same is says =
-    says ∙ ap said (sym (ap (option_map (λ row. row.now)) (sym same ∙ ap option_copied is)) ∙ sym (find_through (λ row. row.now) (has_code code) rows) ∙ ap (find (has_code code)) seen)
+pub said_found : (rows : List (Bor (List ℕ))) (code text : List ℕ) (row : Bor (Bor (List ℕ))) (found : Option (Bor (Bor (List ℕ)))) → option_copied found ≡ find (λ row. has_code code row.now) rows → found ≡ Some row → text ≡ text_of row.now.now → text ≡ said_in code (map (λ row. row.now) rows)
+said_found rows code text row found same is says =
+    says ∙ ap said (sym (ap (option_map (λ row. row.now)) (sym same ∙ ap option_copied is)) ∙ sym (find_through (λ row. row.now) (has_code code) rows))
 
 -- and where none was found nothing is said
-pub said_none : (rows : List (Bor (List ℕ))) (own : List (List ℕ)) (code text : List ℕ) (found : Option (Bor (Bor (List ℕ)))) → map (λ row. row.now) rows ≡ own → option_copied found ≡ find (λ row. has_code code row.now) rows → found ≡ None → text ≡ [] → text ≡ said (find (has_code code) own)
-said_none rows own code text found seen same is says =
-    says ∙ ap said (sym (ap (option_map (λ row. row.now)) (sym same ∙ ap option_copied is)) ∙ sym (find_through (λ row. row.now) (has_code code) rows) ∙ ap (find (has_code code)) seen)
+pub said_none : (rows : List (Bor (List ℕ))) (code text : List ℕ) (found : Option (Bor (Bor (List ℕ)))) → option_copied found ≡ find (λ row. has_code code row.now) rows → found ≡ None → text ≡ [] → text ≡ said_in code (map (λ row. row.now) rows)
+said_none rows code text found same is says =
+    says ∙ ap said (sym (ap (option_map (λ row. row.now)) (sym same ∙ ap option_copied is)) ∙ sym (find_through (λ row. row.now) (has_code code) rows))

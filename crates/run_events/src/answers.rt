@@ -168,12 +168,7 @@ fn add_packet_outcome(
 }
 
 #[tactic(auto, unfolding(crate::specs::Answers::packet_line))]
-fn packet_line(
-    alloc: Global,
-    packet: &[u8],
-    answer: &Answer,
-    rank: u8,
-) -> Result<Octets, NoMemory>
+fn packet_line(alloc: Global, packet: &[u8], answer: &Answer, rank: u8) -> Result<Octets, NoMemory>
     ensures { IfOk result (λ line. line ≡ packet_line packet.now rank answer.now) }
 {
     let mut line = Octets::new(alloc);
@@ -276,21 +271,27 @@ fn push_answer(
     let when = time_of(answer, begun, scene.row.gave.as_slice(), scene.last);
     match begun {
         None
-        | Some(Begun {
-            origin: Origin::Script(_),
-            ..
-        }) => {
+        | Some(
+            Begun {
+                origin: Origin::Script(_),
+                ..
+            },
+        ) => {
             let number = number_at(scene.numbers, number);
             push_service(alloc, events, scene, number, answer, when)
         }
-        Some(Begun {
-            origin: Origin::Forward(number),
-            ..
-        }) => push_packet(alloc, events, scene, number, answer, when),
-        Some(Begun {
-            origin: Origin::Gateway(_),
-            ..
-        }) => Ok(()),
+        Some(
+            Begun {
+                origin: Origin::Forward(number),
+                ..
+            },
+        ) => push_packet(alloc, events, scene, number, answer, when),
+        Some(
+            Begun {
+                origin: Origin::Gateway(_),
+                ..
+            },
+        ) => Ok(()),
     }
 }
 
@@ -305,6 +306,7 @@ pub(crate) fn is_scripted(begun: Option<Begun>) -> bool
 }
 
 /// Appends an event for each scripted service of a slave, and for each packet that came into hand.
+#[tactic(auto, unfolding(crate::specs::Answers::answers_events))]
 pub(crate) fn push_answers(
     alloc: Global,
     events: &mut Vec<Event>,

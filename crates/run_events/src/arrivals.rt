@@ -86,6 +86,7 @@ fn push_arrival(arrivals: &mut Vec<Arrival>, arrival: Option<Arrival>) -> Result
 }
 
 /// The packets that came in at a switch at which all this happened, in order.
+#[tactic(auto, unfolding(crate::specs::Arrivals::arrivals))]
 pub fn arrivals(
     alloc: Global,
     slaves: &[SlaveSpec],

@@ -73,6 +73,7 @@ fn push_changes(
 }
 
 // Appends all that happened to a slave.
+#[tactic(auto, unfolding(crate::specs::Events::slave_events))]
 fn push_slave(
     alloc: Global,
     events: &mut Vec<Event>,
@@ -95,6 +96,7 @@ fn push_slave(
 }
 
 // Appends all that happened to the slaves.
+#[tactic(auto, unfolding(crate::specs::Events::slaves_below))]
 fn push_slaves(
     alloc: Global,
     events: &mut Vec<Event>,

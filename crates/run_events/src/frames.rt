@@ -38,7 +38,11 @@ fn add_before(line: &mut Octets, slaves: &[SlaveSpec], after: usize) -> Result<(
     if after >= slaves.len() {
         return Ok(());
     }
-    line.add(if after == 0 { b" before " } else { b", before " })?;
+    line.add(if after == 0 {
+        b" before "
+    } else {
+        b", before "
+    })?;
     line.add(name_of(slaves, after))?;
     Ok(())
 }

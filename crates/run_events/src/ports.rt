@@ -20,6 +20,7 @@ pub(crate) fn name_of(slaves: &[SlaveSpec], at: usize) -> &[u8]
 }
 
 /// The slave at a port of the switch, of which those from 1 on are the slaves' that serve EoE.
+#[tactic(auto, unfolding(crate::specs::Ports::place_of))]
 pub(crate) fn place_of(slaves: &[SlaveSpec], port: u32) -> usize
     ensures { result ≡ place_of slaves.now port }
 {
@@ -66,12 +67,7 @@ pub(crate) fn has_port(bits: u32, port: u32) -> bool
 
 // The name of what is at a port, with a comma ahead, where a set has it.
 #[tactic(auto, unfolding(crate::specs::Ports::name_item))]
-fn add_item(
-    line: &mut Octets,
-    slaves: &[SlaveSpec],
-    bits: u32,
-    port: u32,
-) -> Result<(), NoMemory>
+fn add_item(line: &mut Octets, slaves: &[SlaveSpec], bits: u32, port: u32) -> Result<(), NoMemory>
     requires { port < 32 }
     ensures { OnOk result (line.new ≡ line.old ++ name_item slaves.now bits port) }
 {
@@ -83,6 +79,7 @@ fn add_item(
     Ok(())
 }
 
+#[tactic(auto, unfolding(crate::specs::Ports::names_below))]
 fn add_items(line: &mut Octets, slaves: &[SlaveSpec], bits: u32) -> Result<(), NoMemory>
     ensures { OnOk result (line.new ≡ line.old ++ names_below slaves.now bits 17) }
 {

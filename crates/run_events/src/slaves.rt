@@ -141,7 +141,15 @@ pub(crate) fn push_emergencies(
     for row in rows {
         let mut text = Octets::new(alloc);
         add_emergency(alloc, &mut text, row.octets.bytes())?;
-        push(alloc, events, at_frame(row.frame), EMERGENCY, at, name, text)?;
+        push(
+            alloc,
+            events,
+            at_frame(row.frame),
+            EMERGENCY,
+            at,
+            name,
+            text,
+        )?;
     }
     Ok(())
 }

@@ -128,11 +128,7 @@ fn add_events(
 
 /// Events in three columns with their heads, each of the first two as wide as its widest cell.
 #[tactic(auto, unfolding(crate::specs::Layout::table_text))]
-pub(crate) fn add_table(
-    alloc: Global,
-    text: &mut Octets,
-    events: &[Event],
-) -> Result<(), NoMemory>
+pub(crate) fn add_table(alloc: Global, text: &mut Octets, events: &[Event]) -> Result<(), NoMemory>
     ensures { OnOk result (text.new ≡ text.old ++ table_text events.now) }
 {
     let widths = widths_of(alloc, events)?;

@@ -72,10 +72,7 @@ fn push_outcome(
 }
 
 /// Appends what the scripted services of a slave came to.
-pub(crate) fn push_outcomes(
-    outcomes: &mut Vec<Outcome>,
-    row: &SlaveBook,
-) -> Result<(), NoMemory>
+pub(crate) fn push_outcomes(outcomes: &mut Vec<Outcome>, row: &SlaveBook) -> Result<(), NoMemory>
     ensures { OnOk result (outcomes.new.items ≡ outcomes.old.items ++ outcomes_from row.now.begun 0 row.now.answers) }
 {
     let begun = row.begun.as_slice();

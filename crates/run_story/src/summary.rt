@@ -59,12 +59,7 @@ fn add_done(alloc: Global, text: &mut Octets, many: usize) -> Result<(), NoMemor
 
 // A number of services with a word behind, where there are some.
 #[tactic(auto, unfolding(crate::specs::Summary::some_text))]
-fn add_some(
-    alloc: Global,
-    text: &mut Octets,
-    many: usize,
-    word: &str,
-) -> Result<(), NoMemory>
+fn add_some(alloc: Global, text: &mut Octets, many: usize, word: &str) -> Result<(), NoMemory>
     ensures { OnOk result (text.new ≡ text.old ++ some_text many word.now) }
 {
     if many == 0 {
@@ -90,12 +85,7 @@ fn add_counts(alloc: Global, text: &mut Octets, outcomes: &[Outcome]) -> Result<
 
 // A slave and its AL state at the end.
 #[tactic(auto, unfolding(crate::specs::Summary::slave_text))]
-fn add_slave_head(
-    alloc: Global,
-    text: &mut Octets,
-    name: &[u8],
-    state: u8,
-) -> Result<(), NoMemory>
+fn add_slave_head(alloc: Global, text: &mut Octets, name: &[u8], state: u8) -> Result<(), NoMemory>
     ensures { OnOk result (text.new ≡ text.old ++ slave_text name.now state) }
 {
     text.add(b"slave ")?;

@@ -1,19 +1,13 @@
 -- Emergencies in words (CiA 301; ETG.1000.6, section 5.6.4).
-use Rattle.std.specs.Prelude.{ℕ, zero, suc, ◌*◌, ◌/◌, ◌%◌, ◌^◌, ◌==◌, nat_lt, Bool, List, [], ◌∷◌, ◌++◌, length, drop, find, slice_get, slice_index, codes, Option, Some, None, if◌then◌else◌}
+use Rattle.std.specs.Prelude.{ℕ, zero, suc, ◌*◌, ◌/◌, ◌%◌, ◌^◌, ◌==◌, nat_lt, Bool, List, [], ◌∷◌, ◌++◌, length, drop, slice_index, codes, if◌then◌else◌}
 use Rattle.ec_fields.specs.Fields.{number_at}
 use Rattle.value_texts.specs.of_reply_text.Reply.{hex_of}
 use Rattle.value_texts.specs.Texts.{octets_text}
-use Rattle.service_texts.specs.declared.emergencies.TheConstants.{CLASSES, BITS}
-use denote.Ref.{Bor}
-
--- what a row of the classes says that may be there
-abbrev pub said : Option (ℕ × Bor (List ℕ)) → List ℕ
-said (Some row) = row.1.now
-said None = []
+use Rattle.code_texts.specs.Meaning.{class}
 
 -- the class of a high octet, empty where it has none
-abbrev pub class_at : ℕ → List ℕ
-class_at octet = said (find (λ (row : ℕ × Bor (List ℕ)). row.0 == octet) CLASSES)
+unfoldable pub class_at : ℕ → List ℕ
+class_at octet = class (hex_of 2 octet)
 
 -- the class of a code by its high octet, or else by that one's high digit
 unfoldable pub class_of : ℕ → List ℕ
@@ -27,13 +21,20 @@ abbrev pub has_bit : ℕ → ℕ → Bool
 has_bit register bit = register / 2 ^ bit % 2 == 1
 
 -- the word of a bit
-abbrev pub word_in : Option (Bor (List ℕ)) → List ℕ
-word_in (Some word) = word.now
-word_in None = []
+abbrev pub bit_word : ℕ → List ℕ
+bit_word bit =
+    if bit == 0 then codes "generic"
+    else if bit == 1 then codes "current"
+    else if bit == 2 then codes "voltage"
+    else if bit == 3 then codes "temperature"
+    else if bit == 4 then codes "communication"
+    else if bit == 5 then codes "device profile"
+    else if bit == 6 then codes "reserved"
+    else codes "manufacturer"
 
 -- a bit of the error register with a comma ahead, where it is set
 unfoldable pub bit_item : ℕ → ℕ → List ℕ
-bit_item register bit = if has_bit register bit then codes ", " ++ word_in (slice_get BITS bit) else []
+bit_item register bit = if has_bit register bit then codes ", " ++ bit_word bit else []
 
 -- those below a bit
 unfoldable pub bits_below : ℕ → ℕ → List ℕ

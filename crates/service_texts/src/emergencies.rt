@@ -1,80 +1,52 @@
-ghost use Rattle.std.specs.Prelude.{◌≡◌, ◌≤◌, ◌<◌, ◌++◌, OnOk, length};
-ghost use Rattle.service_texts.specs.Emergencies.{class_at, class_of, has_bit, bit_item, bits_below, register_text, head_text, whole_text, emergency_text};
+ghost use Rattle.std.specs.Prelude.{◌≡◌, ◌≤◌, ◌<◌, ◌++◌, OnOk, IfOk, length};
+ghost use Rattle.service_texts.specs.Emergencies.{class_at, class_of, bit_word, has_bit, bit_item, bits_below, register_text, head_text, whole_text, emergency_text};
 
+use code_texts::emergency_class;
 use ec_fields::{NoMemory, Octets, u16_at};
 use std::alloc::Global;
 use value_texts::{add_octets, behind_comma};
-
-/// The classes of emergencies by the high octet of their codes, or where that isn't here by its high digit (CiA 301, "Emergency error codes";
-/// ETG.1000.6, section 5.6.4).
-pub const CLASSES: [(u8, &str); 26] = [
-    (0x00, "no error, or an error that is gone"),
-    (0x10, "generic error"),
-    (0x20, "current"),
-    (0x21, "current on the input side"),
-    (0x22, "current inside the device"),
-    (0x23, "current on the output side"),
-    (0x30, "voltage"),
-    (0x31, "mains voltage"),
-    (0x32, "voltage inside the device"),
-    (0x33, "output voltage"),
-    (0x40, "temperature"),
-    (0x41, "ambient temperature"),
-    (0x42, "device temperature"),
-    (0x50, "device hardware"),
-    (0x60, "device software"),
-    (0x61, "internal software"),
-    (0x62, "user software"),
-    (0x63, "data set"),
-    (0x70, "additional modules"),
-    (0x80, "monitoring"),
-    (0x81, "communication"),
-    (0x82, "protocol"),
-    (0x90, "external error"),
-    (0xa0, "EtherCAT state change"),
-    (0xf0, "additional functions"),
-    (0xff, "specific to the device"),
-];
-
-/// The bits of the error register, from the lowest on (CiA 301, object 1001).
-pub const BITS: [&str; 8] = [
-    "generic",
-    "current",
-    "voltage",
-    "temperature",
-    "communication",
-    "device profile",
-    "reserved",
-    "manufacturer",
-];
 
 /// The octets of an emergency: code, error register and five of the device's own.
 const SIZE: usize = 8;
 
 // The class of a high octet, empty where it has none.
-fn class_at(octet: u8) -> &'static str
-    ensures { result.now ≡ class_at octet }
+#[tactic(auto, unfolding(crate::specs::Emergencies::class_at))]
+fn class_at(alloc: Global, octet: u8) -> Result<&'static str, NoMemory>
+    ensures { IfOk result (λ class. class.now ≡ class_at octet) }
 {
-    match CLASSES.iter().find(|class| class.0 == octet) {
-        Some(class) => class.1,
-        None => "",
-    }
+    let digits = format!(in alloc; "{octet:02x}")?;
+    emergency_class(alloc, digits.as_str())
 }
 
 // The class of a code by its high octet, or else by that one's high digit.
 #[tactic(auto, unfolding(crate::specs::Emergencies::class_of))]
-fn class_of(octet: u8) -> &'static str
-    ensures { result.now ≡ class_of octet }
+fn class_of(alloc: Global, octet: u8) -> Result<&'static str, NoMemory>
+    ensures { IfOk result (λ class. class.now ≡ class_of octet) }
 {
-    let own = class_at(octet);
+    let own = class_at(alloc, octet)?;
     if !own.is_empty() {
-        return own;
+        return Ok(own);
     }
-    let wider = class_at(octet / 16 * 16);
-    if wider.is_empty() {
-        "unknown class"
-    } else {
-        wider
+    let wider = class_at(alloc, octet / 16 * 16)?;
+    if !wider.is_empty() {
+        return Ok(wider);
+    }
+    Ok("unknown class")
+}
+
+// The word of a bit of the error register, from the lowest on (CiA 301, object 1001).
+fn bit_word(bit: usize) -> &'static str
+    ensures { result.now ≡ bit_word bit }
+{
+    match bit {
+        0 => "generic",
+        1 => "current",
+        2 => "voltage",
+        3 => "temperature",
+        4 => "communication",
+        5 => "device profile",
+        6 => "reserved",
+        _ => "manufacturer",
     }
 }
 
@@ -95,10 +67,11 @@ fn add_bit(line: &mut Octets, register: u8, bit: usize) -> Result<(), NoMemory>
         return Ok(());
     }
     line.add(b", ")?;
-    line.add(BITS[bit].as_bytes())?;
+    line.add(bit_word(bit).as_bytes())?;
     Ok(())
 }
 
+#[tactic(auto, unfolding(crate::specs::Emergencies::bits_below))]
 fn add_bits(line: &mut Octets, register: u8) -> Result<(), NoMemory>
     ensures { OnOk result (line.new ≡ line.old ++ bits_below register 8) }
 {
@@ -128,8 +101,9 @@ fn add_head(alloc: Global, line: &mut Octets, code: u16, register: u8) -> Result
 {
     let number = format!(in alloc; "emergency {code:04x}: ")?;
     let digits = format!(in alloc; "; error register {register:02x}: ")?;
+    let class = class_of(alloc, (code / 256) as u8)?;
     line.add(number.as_bytes())?;
-    line.add(class_of((code / 256) as u8).as_bytes())?;
+    line.add(class.as_bytes())?;
     line.add(digits.as_bytes())?;
     add_register(alloc, line, register)?;
     Ok(())

@@ -53,7 +53,12 @@ fn add_whole(alloc: Global, line: &mut Octets, octets: &[u8]) -> Result<(), NoMe
     add_mac(alloc, line, octets, SOURCE)?;
     line.add(b" to ")?;
     add_target(alloc, line, octets)?;
-    add_tail(alloc, line, BigEndian::read_u16(&octets[TYPE..]), octets.len())?;
+    add_tail(
+        alloc,
+        line,
+        BigEndian::read_u16(&octets[TYPE..]),
+        octets.len(),
+    )?;
     Ok(())
 }
 

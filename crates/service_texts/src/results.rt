@@ -14,12 +14,7 @@ use value_texts::{
 
 // What a code says, where its family has it.
 #[tactic(auto, unfolding(crate::specs::Results::meaning_text))]
-fn add_meaning(
-    alloc: Global,
-    line: &mut Octets,
-    family: Family,
-    code: &str,
-) -> Result<(), NoMemory>
+fn add_meaning(alloc: Global, line: &mut Octets, family: Family, code: &str) -> Result<(), NoMemory>
     ensures { OnOk result (line.new ≡ line.old ++ meaning_text family code.now) }
 {
     let says = meaning(alloc, family, code)?;
@@ -144,7 +139,13 @@ pub fn add_ended(alloc: Global, line: &mut Octets, kind: ReplyKind) -> Result<()
             add_coded(alloc, line, "eoe ", Family::EoeResult, u32::from(code))
         }
         ReplyKind::MailboxError(code) => {
-            add_coded(alloc, line, "mailbox ", Family::MailboxError, u32::from(code))
+            add_coded(
+                alloc,
+                line,
+                "mailbox ",
+                Family::MailboxError,
+                u32::from(code),
+            )
         }
         ReplyKind::StateRefused(code) => {
             add_coded(alloc, line, "AL status ", Family::AlStatus, u32::from(code))
