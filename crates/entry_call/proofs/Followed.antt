@@ -17,11 +17,11 @@ told_among planned text old new end (inl memory) = inr (inr memory)
 told_among planned text old new end (inr (inl done)) = inl done.0
 told_among planned text old new end (inr (inr cut)) = inr (inl cut.0)
 
--- another end than these is the planned one
-pub only_planned : (planned end wanted : Ended) → IsAmong planned end → wanted ≢ Ended.As statuses.SinkFault → wanted ≢ Ended.As statuses.NoMemory → end ≡ wanted → planned ≡ wanted
-only_planned planned end wanted (inl same) sink memory is = sym same ∙ is
-only_planned planned end wanted (inr (inl fault)) sink memory is = absurd (sink (sym is ∙ fault))
-only_planned planned end wanted (inr (inr none)) sink memory is = absurd (memory (sym is ∙ none))
+-- a text that is no line of a fault of the files doesn't end with one
+pub no_file_fault : {A : Type 0} (planned end : Ended) → IsAmong planned end → planned ≢ Ended.As statuses.FileFault → end ≡ Ended.As statuses.FileFault → A
+no_file_fault planned end (inl same) other is = absurd (other (sym same ∙ is))
+no_file_fault planned end (inr (inl fault)) other is = absurd cc
+no_file_fault planned end (inr (inr memory)) other is = absurd cc
 
 -- a course that another one is part of
 pub turned : (one other : Ended → List ℕ → Type 0) → ((planned : Ended) (text : List ℕ) → one planned text → other planned text) → (old new : Option (List ℕ)) (end : Ended) → Follows one old new end → Follows other old new end
