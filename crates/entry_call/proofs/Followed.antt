@@ -20,7 +20,7 @@ told_among planned text old new end (inr (inr cut)) = inr (inl cut.0)
 -- a text that is no line of a fault of the files doesn't end with one
 pub no_file_fault : {A : Type 0} (planned end : Ended) → IsAmong planned end → planned ≢ Ended.As statuses.FileFault → end ≡ Ended.As statuses.FileFault → A
 no_file_fault planned end (inl same) other is = absurd (other (sym same ∙ is))
-no_file_fault planned end (inr (inl fault)) other is = absurd cc
+no_file_fault planned end (inr (inl cut)) other is = absurd cc
 no_file_fault planned end (inr (inr memory)) other is = absurd cc
 
 -- a course that another one is part of

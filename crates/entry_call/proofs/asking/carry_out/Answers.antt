@@ -31,6 +31,5 @@ returns-in-PortFault-clause-course g c =
 pub returns-in-PortFault-clause-file : goal.returns-in-PortFault-clause-file
 returns-in-PortFault-clause-file g c is = no_file_fault (Ended.As statuses.PortFault) c.put-in-PortFault.result c.put-in-PortFault.ensures.among (λ same. absurd cc) is
 
-pub returns-in-NoMemory-clause-course : goal.returns-in-NoMemory-clause-course
-returns-in-NoMemory-clause-course g c =
-    (Ended.As statuses.NoMemory, [], ServiceCourse.starved c.ask.new.value c.in-NoMemory.ensures.ended refl, inl refl)
+pub returns-clause-course : goal.returns-clause-course
+returns-clause-course g c = (Ended.As statuses.NoMemory, [], ServiceCourse.starved c.ask.new.value c.in-NoMemory.ensures.ended refl, inl refl)

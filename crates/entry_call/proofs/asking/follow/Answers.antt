@@ -15,8 +15,8 @@ returns-then-saves-clause-course g c =
     (λ planned text came. ReplyCourse.saved planned text (sym c.saves.ensures ∙ c.if-saves.true) came)
     (g.O.Sink.written c.args.out.now) (g.O.Sink.written c.save.new.out) c.save.result course
 
-pub put-requires-else-saves : goal.put-requires-else-saves
-put-requires-else-saves g c is = end_of_no_sink c.args.reply.now.kind (sym c.end_of.ensures ∙ is)
+pub put-requires : goal.put-requires
+put-requires g c is = end_of_no_sink c.args.reply.now.kind (sym c.end_of.ensures ∙ is)
 
 pub returns-else-saves-clause-course : goal.returns-else-saves-clause-course
 returns-else-saves-clause-course g c =

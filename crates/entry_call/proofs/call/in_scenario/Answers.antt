@@ -22,16 +22,18 @@ returns-in-Ok-clause-course g c =
 pub returns-in-Err-NoMemory-clause-course : goal.returns-in-Err-NoMemory-clause-course
 returns-in-Err-NoMemory-clause-course g c = (Ended.As statuses.NoMemory, [], OctetsCourse.starved refl refl, inl refl)
 
-pub returns-in-Err-Refused-clause-course : goal.returns-in-Err-Refused-clause-course
-returns-in-Err-Refused-clause-course g c =
+pub returns-clause-course : goal.returns-clause-course
+returns-clause-course g c =
     let why = rw c.in-Err-Refused.field-0-is at c.in-Err-Refused.ensures in
     let exact = rw c.bytes.ensures at why.exact in
-    let named = rw c.scenario_word.ensures at c.put_refused.ensures.course in
+    let told_so = rw c.in-Err-Refused.field-0-is at c.put_refused.ensures.course in
+    let named = rw c.scenario_word.ensures at told_so in
     let course = rw c.bytes-in-Err-Refused.ensures at named in
     refused_at (map string_bytes c.args.words.now) c.args.task c.args.octets (g.F.Files.table c.args.files.now) (g.F.Files.table c.args.files.now) (c.args.port.now ≡ c.args.port.now)
     (told g.P.Port.heard g.P.Port.sent g.P.Port.over g.P.Port.port_faults c.args.port.now) (told g.P.Port.heard g.P.Port.sent g.P.Port.over g.P.Port.port_faults c.args.port.now)
     c.in-Err-Refused.rule c.in-Err-Refused.place (g.O.Sink.written c.args.out.now) (g.O.Sink.written c.put_refused.new.out) c.put_refused.result (plan_of c.args.octets) refl exact course refl refl
 
-pub returns-in-Err-Refused-clause-file : goal.returns-in-Err-Refused-clause-file
-returns-in-Err-Refused-clause-file g c is =
-    refused_no_file c.scenario_word.result.now c.bytes-in-Err-Refused.result.now c.in-Err-Refused.rule c.in-Err-Refused.place (g.O.Sink.written c.args.out.now) (g.O.Sink.written c.put_refused.new.out) c.put_refused.result c.put_refused.ensures.course is
+pub returns-clause-file : goal.returns-clause-file
+returns-clause-file g c is =
+    let told_so = rw c.in-Err-Refused.field-0-is at c.put_refused.ensures.course in
+    refused_no_file c.scenario_word.result.now c.bytes-in-Err-Refused.result.now c.in-Err-Refused.rule c.in-Err-Refused.place (g.O.Sink.written c.args.out.now) (g.O.Sink.written c.put_refused.new.out) c.put_refused.result told_so is
