@@ -1,9 +1,11 @@
 -- What is left of a list of which some items were told.
-use Rattle.std.proofs.Common.{◌≡◌, ◌==◌, ℕ, ◌+◌, ◌-◌, ◌<◌, ◌≤◌, nat_lt, nat_le, Bool, true, false, List, [], ◌∷◌, ◌++◌, length, map, cond, get_or, take, drop, refl, sym, ◌∙◌, ap, append_assoc}
+use Rattle.std.proofs.Common.{◌≡◌, ◌==◌, ℕ, ◌+◌, ◌-◌, ◌<◌, ◌≤◌, nat_lt, nat_le, Bool, true, false, List, [], ◌∷◌, ◌++◌, length, map, cond, get_or, take, drop, Option, Some, None, option_map, option_copied, Bor, refl, sym, ◌∙◌, ap, append_assoc}
 use Rattle.std.proofs.lemmas.List.{drop_more, drop_all, append-nil}
 use Rattle.std.proofs.lemmas.Bool.{lt-ltb, le-leb}
-use Rattle.std.specs.List.{filter, flat_map, list_all}
+use Rattle.std.specs.List.{filter, flat_map, list_all, find}
 use Rattle.code_texts.specs.Fitting.{is_same, is_padded}
+use Rattle.code_texts.specs.Rows.{text_of}
+use Rattle.code_texts.specs.Meaning.{has_code, said, said_in}
 use Rattle.code_texts.specs.Telling.{or_else}
 
 -- a text so far, behind which the items that pass from a place on are still to be told, gives what the whole list gives behind the old text
@@ -70,3 +72,22 @@ through_one v f false x xs ys same = same
 pub through : {X Y : Type 0} (v : X → Y) (p : Y → Bool) (f : Y → List ℕ) (xs : List X) → flat_map (λ x. f (v x)) (filter (λ x. p (v x)) xs) ≡ flat_map f (filter p (map v xs))
 through v p f [] = refl
 through v p f (x ∷ xs) = through_one v f (p (v x)) x (filter (λ x. p (v x)) xs) (filter p (map v xs)) (through v p f xs)
+
+first_or : {X Y : Type 0} (v : X → Y) (b : Bool) (x : X) (one : Option X) (other : Option Y) → other ≡ option_map v one → cond b (Some (v x)) other ≡ option_map v (cond b (Some x) one)
+first_or v true x one other same = refl
+first_or v false x one other same = same
+
+-- what is found of what is seen of items is seen of the item that is found
+pub find_through : {X Y : Type 0} (v : X → Y) (p : Y → Bool) (xs : List X) → find p (map v xs) ≡ option_map v (find (λ x. p (v x)) xs)
+find_through v p [] = refl
+find_through v p (x ∷ xs) = first_or v (p (v x)) x (find (λ x. p (v x)) xs) (find p (map v xs)) (find_through v p xs)
+
+-- a row that was found says its text
+pub said_found : (rows : List (Bor (List ℕ))) (code text : List ℕ) (row : Bor (Bor (List ℕ))) (found : Option (Bor (Bor (List ℕ)))) → option_copied found ≡ find (λ row. has_code code row.now) rows → found ≡ Some row → text ≡ text_of row.now.now → text ≡ said_in code (map (λ row. row.now) rows)
+said_found rows code text row found same is says =
+    says ∙ ap said (sym (ap (option_map (λ row. row.now)) (sym same ∙ ap option_copied is)) ∙ sym (find_through (λ row. row.now) (has_code code) rows))
+
+-- and where none was found nothing is said
+pub said_none : (rows : List (Bor (List ℕ))) (code text : List ℕ) (found : Option (Bor (Bor (List ℕ)))) → option_copied found ≡ find (λ row. has_code code row.now) rows → found ≡ None → text ≡ [] → text ≡ said_in code (map (λ row. row.now) rows)
+said_none rows code text found same is says =
+    says ∙ ap said (sym (ap (option_map (λ row. row.now)) (sym same ∙ ap option_copied is)) ∙ sym (find_through (λ row. row.now) (has_code code) rows))

@@ -152,3 +152,33 @@ pub const AL_STATUS_CODES: &str = "\
 0051 an error of the EEPROM
 0060 the slave started again by itself
 ";
+
+/// Classes of emergencies by the high octet of their codes (CiA 301, "Emergency error codes"; ETG.1000.6, section 5.6.4).
+pub const CLASSES: &str = "\
+00 no error, or an error that is gone
+10 generic error
+20 current
+21 current on the input side
+22 current inside the device
+23 current on the output side
+30 voltage
+31 mains voltage
+32 voltage inside the device
+33 output voltage
+40 temperature
+41 ambient temperature
+42 device temperature
+50 device hardware
+60 device software
+61 internal software
+62 user software
+63 data set
+70 additional modules
+80 monitoring
+81 communication
+82 protocol
+90 external error
+a0 EtherCAT state change
+f0 additional functions
+ff specific to the device
+";

@@ -3,3 +3,4 @@ pub mod States
 pub mod Packets
 pub mod Services
 pub mod Results
+pub mod Emergencies

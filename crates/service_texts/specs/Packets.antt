@@ -26,3 +26,7 @@ whole_text octets = mac_text octets 6 ++ (codes " to " ++ (target_text octets ++
 -- A PACKET by its addresses, type and length, or octets that are too few
 unfoldable pub packet_text : List ℕ → List ℕ
 packet_text octets = if nat_lt (length octets) 14 then octets_text octets else whole_text octets
+
+-- a packet that is handed over
+unfoldable pub gets_text : List ℕ → List ℕ
+gets_text octets = codes "gets " ++ packet_text octets

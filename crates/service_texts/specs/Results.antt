@@ -53,14 +53,19 @@ brought slave (services.ReadIdn drive idn elements) value = idn_text slave drive
 brought slave services.GetIp value = block_text value
 brought slave _ value = octets_text value
 
--- WHAT A SERVICE CAME TO: done, handed over, the value that it brought by its type, or refused with the code and what it says
+-- HOW A SERVICE ENDED that brought no value: done, handed over, or refused with the code and what it says
+unfoldable pub ended_text : ReplyKind → List ℕ
+ended_text kinds.Done = codes "done"
+ended_text kinds.Value = codes "done"
+ended_text (kinds.Abort code) = abort_text code
+ended_text (kinds.FoeError code) = coded_text (codes "foe ") families.FoeError code
+ended_text (kinds.SoeError code) = coded_text (codes "soe ") families.SoeError code
+ended_text (kinds.EoeResult code) = coded_text (codes "eoe ") families.EoeResult code
+ended_text (kinds.MailboxError code) = coded_text (codes "mailbox ") families.MailboxError code
+ended_text (kinds.StateRefused code) = coded_text (codes "AL status ") families.AlStatus code
+ended_text kinds.Handed = codes "handed over"
+
+-- WHAT A SERVICE CAME TO: the value that it brought, by its type, or how it ended
 unfoldable pub result_text : SlaveSpec → Service → ReplyKind → List ℕ → List ℕ
-result_text slave service kinds.Done value = codes "done"
 result_text slave service kinds.Value value = brought slave service value
-result_text slave service (kinds.Abort code) value = abort_text code
-result_text slave service (kinds.FoeError code) value = coded_text (codes "foe ") families.FoeError code
-result_text slave service (kinds.SoeError code) value = coded_text (codes "soe ") families.SoeError code
-result_text slave service (kinds.EoeResult code) value = coded_text (codes "eoe ") families.EoeResult code
-result_text slave service (kinds.MailboxError code) value = coded_text (codes "mailbox ") families.MailboxError code
-result_text slave service (kinds.StateRefused code) value = coded_text (codes "AL status ") families.AlStatus code
-result_text slave service kinds.Handed value = codes "handed over"
+result_text slave service kind value = ended_text kind

@@ -13,7 +13,7 @@ use Rattle.value_texts.specs.Names.{kind_at, names_text, object_text}
 use Rattle.value_texts.specs.Whole.{whole_text}
 use Rattle.value_texts.specs.Idns.{element_text, idn_text}
 use Rattle.value_texts.specs.Blocks.{block_text}
-use Rattle.service_texts.specs.Packets.{packet_text}
+use Rattle.service_texts.specs.Packets.{gets_text}
 use Rattle.service_texts.specs.States.{state_text}
 
 -- an index and a subindex behind a word
@@ -90,10 +90,6 @@ set_ip_text block = codes "set_ip = " ++ block_text block
 -- the question for an AL state
 unfoldable pub target_text : ℕ → List ℕ
 target_text target = codes "state " ++ state_text target
-
--- a packet that is handed over
-unfoldable pub gets_text : List ℕ → List ℕ
-gets_text packet = codes "gets " ++ packet_text packet
 
 -- A SERVICE, with the names that the slave's plan has for what it is about, and what is written by its type
 unfoldable pub service_text : SlaveSpec → Service → List ℕ

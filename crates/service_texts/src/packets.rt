@@ -1,5 +1,5 @@
-ghost use Rattle.std.specs.Prelude.{◌≡◌, ◌≤◌, ◌++◌, OnOk, length, codes};
-ghost use Rattle.service_texts.specs.Packets.{is_for_all, target_text, tail_text, whole_text, packet_text};
+ghost use Rattle.std.specs.Prelude.{◌≡◌, ◌≤◌, ◌++◌, OnOk, length};
+ghost use Rattle.service_texts.specs.Packets.{is_for_all, target_text, tail_text, whole_text, packet_text, gets_text};
 
 use byteorder::{BigEndian, ByteOrder};
 use ec_fields::{NoMemory, Octets};
@@ -53,7 +53,12 @@ fn add_whole(alloc: Global, line: &mut Octets, octets: &[u8]) -> Result<(), NoMe
     add_mac(alloc, line, octets, SOURCE)?;
     line.add(b" to ")?;
     add_target(alloc, line, octets)?;
-    add_tail(alloc, line, BigEndian::read_u16(&octets[TYPE..]), octets.len())?;
+    add_tail(
+        alloc,
+        line,
+        BigEndian::read_u16(&octets[TYPE..]),
+        octets.len(),
+    )?;
     Ok(())
 }
 
@@ -68,4 +73,14 @@ pub fn add_packet(alloc: Global, line: &mut Octets, octets: &[u8]) -> Result<(),
     } else {
         add_whole(alloc, line, octets)
     }
+}
+
+/// A packet that is handed over.
+#[tactic(auto, unfolding(crate::specs::Packets::gets_text))]
+pub fn add_gets(alloc: Global, line: &mut Octets, octets: &[u8]) -> Result<(), NoMemory>
+    ensures { OnOk result (line.new ≡ line.old ++ gets_text octets.now) }
+{
+    line.add(b"gets ")?;
+    add_packet(alloc, line, octets)?;
+    Ok(())
 }

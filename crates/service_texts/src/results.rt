@@ -1,5 +1,5 @@
 ghost use Rattle.std.specs.Prelude.{◌≡◌, ◌++◌, OnOk};
-ghost use Rattle.service_texts.specs.Results.{meaning_text, refusal_text, coded_text, abort_text, sdo_value, brought, result_text};
+ghost use Rattle.service_texts.specs.Results.{meaning_text, refusal_text, coded_text, abort_text, sdo_value, brought, ended_text, result_text};
 
 use code_texts::{Family, meaning};
 use ec_fields::{NoMemory, Octets};
@@ -14,12 +14,7 @@ use value_texts::{
 
 // What a code says, where its family has it.
 #[tactic(auto, unfolding(crate::specs::Results::meaning_text))]
-fn add_meaning(
-    alloc: Global,
-    line: &mut Octets,
-    family: Family,
-    code: &str,
-) -> Result<(), NoMemory>
+fn add_meaning(alloc: Global, line: &mut Octets, family: Family, code: &str) -> Result<(), NoMemory>
     ensures { OnOk result (line.new ≡ line.old ++ meaning_text family code.now) }
 {
     let says = meaning(alloc, family, code)?;
@@ -128,7 +123,38 @@ fn add_brought(
     }
 }
 
-/// What a service of a slave came to: `done`, `handed over`, the value that it brought by its type, or `refused` with the code and what it says.
+/// How a service ended that brought no value: `done`, `handed over`, or `refused` with the code and what it says.
+#[tactic(auto, unfolding(crate::specs::Results::ended_text))]
+pub fn add_ended(alloc: Global, line: &mut Octets, kind: ReplyKind) -> Result<(), NoMemory>
+    ensures { OnOk result (line.new ≡ line.old ++ ended_text kind) }
+{
+    match kind {
+        ReplyKind::Done | ReplyKind::Value => line.add(b"done"),
+        ReplyKind::Abort(code) => add_abort(alloc, line, code),
+        ReplyKind::FoeError(code) => add_coded(alloc, line, "foe ", Family::FoeError, code),
+        ReplyKind::SoeError(code) => {
+            add_coded(alloc, line, "soe ", Family::SoeError, u32::from(code))
+        }
+        ReplyKind::EoeResult(code) => {
+            add_coded(alloc, line, "eoe ", Family::EoeResult, u32::from(code))
+        }
+        ReplyKind::MailboxError(code) => {
+            add_coded(
+                alloc,
+                line,
+                "mailbox ",
+                Family::MailboxError,
+                u32::from(code),
+            )
+        }
+        ReplyKind::StateRefused(code) => {
+            add_coded(alloc, line, "AL status ", Family::AlStatus, u32::from(code))
+        }
+        ReplyKind::Handed => line.add(b"handed over"),
+    }
+}
+
+/// What a service of a slave came to: the value that it brought, by its type, or how it ended.
 #[tactic(auto, unfolding(crate::specs::Results::result_text))]
 pub fn add_result(
     alloc: Global,
@@ -141,22 +167,7 @@ pub fn add_result(
     ensures { OnOk result (line.new ≡ line.old ++ result_text slave.now service.now kind value.now) }
 {
     match kind {
-        ReplyKind::Done => line.add(b"done"),
         ReplyKind::Value => add_brought(alloc, line, slave, service, value),
-        ReplyKind::Abort(code) => add_abort(alloc, line, code),
-        ReplyKind::FoeError(code) => add_coded(alloc, line, "foe ", Family::FoeError, code),
-        ReplyKind::SoeError(code) => {
-            add_coded(alloc, line, "soe ", Family::SoeError, u32::from(code))
-        }
-        ReplyKind::EoeResult(code) => {
-            add_coded(alloc, line, "eoe ", Family::EoeResult, u32::from(code))
-        }
-        ReplyKind::MailboxError(code) => {
-            add_coded(alloc, line, "mailbox ", Family::MailboxError, u32::from(code))
-        }
-        ReplyKind::StateRefused(code) => {
-            add_coded(alloc, line, "AL status ", Family::AlStatus, u32::from(code))
-        }
-        ReplyKind::Handed => line.add(b"handed over"),
+        _ => add_ended(alloc, line, kind),
     }
 }

@@ -1,7 +1,7 @@
 ghost use Rattle.std.specs.Prelude.{◌≡◌, ◌++◌, OnOk};
-ghost use Rattle.service_texts.specs.Services.{place_text, object_place, from_text, download_text, upload_text, whole_place, download_all_text, list_service, sdo_text, named, sized, write_file_text, idn_place, write_idn_text, set_ip_text, target_text, gets_text, service_text};
+ghost use Rattle.service_texts.specs.Services.{place_text, object_place, from_text, download_text, upload_text, whole_place, download_all_text, list_service, sdo_text, named, sized, write_file_text, idn_place, write_idn_text, set_ip_text, target_text, service_text};
 
-use crate::packets::add_packet;
+use crate::packets::add_gets;
 use crate::states::add_state;
 use ec_fields::{NoMemory, Octets};
 use object_dictionary::SdoService;
@@ -253,15 +253,6 @@ fn add_target(alloc: Global, line: &mut Octets, target: u8) -> Result<(), NoMemo
 {
     line.add(b"state ")?;
     add_state(alloc, line, target)?;
-    Ok(())
-}
-
-#[tactic(auto, unfolding(crate::specs::Services::gets_text))]
-fn add_gets(alloc: Global, line: &mut Octets, packet: &[u8]) -> Result<(), NoMemory>
-    ensures { OnOk result (line.new ≡ line.old ++ gets_text packet.now) }
-{
-    line.add(b"gets ")?;
-    add_packet(alloc, line, packet)?;
     Ok(())
 }
 

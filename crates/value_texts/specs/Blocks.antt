@@ -1,6 +1,5 @@
 -- Address blocks of EoE (ETG.1000.6, "EoE set IP parameter").
-use Rattle.std.specs.Prelude.{ℕ, ◌+◌, ◌==◌, nat_lt, not, List, [], ◌++◌, length, drop, slice_index, codes, if◌then◌else◌}
-use Rattle.std.specs.List.{before_first}
+use Rattle.std.specs.Prelude.{ℕ, ◌+◌, ◌==◌, nat_lt, not, List, [], ◌++◌, length, take, drop, slice_index, position, codes, Option, Some, None, if◌then◌else◌}
 use Rattle.std.specs.Fmt.{decimal}
 use Rattle.reply_text.specs.Reply.{hex_of}
 use Rattle.eoe.specs.Address.{is_block}
@@ -22,9 +21,14 @@ address_text octets at =
 unfoldable pub address_at : List ℕ → List ℕ → ℕ → List ℕ
 address_at word octets at = if nat_lt (length octets) (at + 4) then [] else word ++ address_text octets at
 
+-- octets up to a place, where there is one
+abbrev pub up_to : Option ℕ → List ℕ → List ℕ
+up_to (Some end) octets = take end octets
+up_to None octets = octets
+
 -- the octets of a name, up to the first that is 0
-abbrev pub name_of : List ℕ → List ℕ
-name_of octets = before_first (λ octet. octet == 0) octets
+unfoldable pub name_of : List ℕ → List ℕ
+name_of octets = up_to (position (λ octet. octet == 0) octets) octets
 
 -- the DNS name, where the block has one
 unfoldable pub name_at : List ℕ → List ℕ

@@ -1,7 +1,7 @@
-ghost use Rattle.std.specs.Prelude.{◌≡◌, ◌≤◌, ◌+◌, ◌++◌, OnOk, length};
+ghost use Rattle.std.specs.Prelude.{◌≡◌, ◌≤◌, ◌<◌, ◌+◌, ◌==◌, ◌++◌, OnOk, IfSome, length, position};
 ghost use Rattle.value_texts.specs.Blocks.{mac_text, address_text, address_at, name_of, name_at, fields_text, block_text};
 
-use crate::texts::{add_octets, add_quoted};
+use crate::texts::{add_octets, add_quoted, cut_at};
 use ec_fields::{NoMemory, Octets};
 use eoe::is_block;
 use std::alloc::Global;
@@ -65,11 +65,20 @@ fn add_address_at(
     Ok(())
 }
 
+// Where the first octet stands that is 0.
+fn end_of(octets: &[u8]) -> Option<usize>
+    ensures value { result ≡ position (λ octet. octet == 0) octets.now }
+    ensures inside { IfSome result (λ at. at < length octets.now) }
+{
+    octets.iter().position(|octet| *octet == 0)
+}
+
 // The octets of a name, up to the first that is 0.
+#[tactic(auto, unfolding(crate::specs::Blocks::name_of))]
 fn name_of(octets: &[u8]) -> &[u8]
     ensures { result.now ≡ name_of octets.now }
 {
-    match octets.iter().position(|octet| *octet == 0) {
+    match end_of(octets) {
         Some(end) => &octets[..end],
         None => octets,
     }
@@ -83,8 +92,9 @@ fn add_name(alloc: Global, line: &mut Octets, octets: &[u8]) -> Result<(), NoMem
     if octets.len() <= NAME {
         return Ok(());
     }
+    let (_, name) = cut_at(octets, NAME);
     line.add(b", name ")?;
-    add_quoted(alloc, line, name_of(&octets[NAME..]))?;
+    add_quoted(alloc, line, name_of(name))?;
     Ok(())
 }
 

@@ -1,7 +1,7 @@
 ghost use Rattle.std.specs.Prelude.{◌≡◌, ◌++◌, OnOk};
 ghost use Rattle.value_texts.specs.Lists.{word_text, words_text, first_text, more, indexes_text, counts_text, list_in, list_text};
 
-use crate::texts::{add_octets, behind_comma};
+use crate::texts::{add_octets, behind_comma, cut_at};
 use ec_fields::{NoMemory, Octets};
 use std::alloc::Global;
 
@@ -69,7 +69,8 @@ fn add_indexes(alloc: Global, line: &mut Octets, kind: u16, octets: &[u8]) -> Re
     if octets.len() <= FIRST {
         return add_first(alloc, line, kind, octets);
     }
-    add_first(alloc, line, kind, &octets[..FIRST])?;
+    let (front, _) = cut_at(octets, FIRST);
+    add_first(alloc, line, kind, front)?;
     add_more(alloc, line, octets.len() / 2)?;
     Ok(())
 }
@@ -101,12 +102,7 @@ fn add_listed(alloc: Global, line: &mut Octets, kind: u16, octets: &[u8]) -> Res
 /// A list of objects by their indexes: of more than 16 the first 16, and how many there are; or the lengths of the lists (ETG.1000.6, section
 /// 5.6.3).
 #[tactic(auto, unfolding(crate::specs::Lists::list_text))]
-pub fn add_list(
-    alloc: Global,
-    line: &mut Octets,
-    kind: u16,
-    octets: &[u8],
-) -> Result<(), NoMemory>
+pub fn add_list(alloc: Global, line: &mut Octets, kind: u16, octets: &[u8]) -> Result<(), NoMemory>
     ensures { OnOk result (line.new ≡ line.old ++ list_text kind octets.now) }
 {
     if octets.len() < KIND || octets.len() % 2 == 1 {

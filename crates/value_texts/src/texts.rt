@@ -1,5 +1,6 @@
-ghost use Rattle.std.specs.Prelude.{◌≡◌, ◌++◌, OnOk, drop};
-ghost use Rattle.std.specs.List.{flat_map};
+ghost use Rattle.std.specs.Prelude.{◌≡◌, ◌++◌, ◌&&◌, nat_le, OnOk, codes, take, drop};
+ghost use Rattle.std.specs.List.{flat_map, list_all};
+ghost use Rattle.hex.specs.Hex.{encode_lower};
 ghost use Rattle.value_texts.specs.Texts.{character, quoted, cut, text, octets_text, is_printable, file_text};
 
 use ec_fields::{NoMemory, Octets};
@@ -12,6 +13,18 @@ const CHARACTERS: usize = 60;
 const OCTETS: usize = 24;
 
 const FIRST_OCTETS: usize = 16;
+
+/// The first octets, and those behind them.
+pub(crate) fn cut_at(octets: &[u8], size: usize) -> (&[u8], &[u8])
+    ensures front { result.0.now ≡ take size octets.now }
+    ensures back { result.1.now ≡ drop size octets.now }
+{
+    if size <= octets.len() {
+        octets.split_at(size)
+    } else {
+        (octets, &[])
+    }
+}
 
 // A character of a text in quotes, one that can't stand there by its code.
 #[tactic(auto, unfolding(crate::specs::Texts::character))]
@@ -67,7 +80,8 @@ pub(crate) fn add_text(alloc: Global, line: &mut Octets, octets: &[u8]) -> Resul
     if octets.len() <= CHARACTERS {
         return add_quoted(alloc, line, octets);
     }
-    add_quoted(alloc, line, &octets[..CHARACTERS])?;
+    let (front, _) = cut_at(octets, CHARACTERS);
+    add_quoted(alloc, line, front)?;
     add_cut(alloc, line, octets.len())?;
     Ok(())
 }
@@ -98,11 +112,19 @@ pub fn add_octets(alloc: Global, line: &mut Octets, octets: &[u8]) -> Result<(),
     Ok(())
 }
 
-// Whether octets are some, and each a character of ASCII that can be printed.
+// Whether each octet is a character of ASCII that can be printed.
+fn are_printable(octets: &[u8]) -> bool
+    ensures { result ≡ list_all (λ octet. nat_le 32 octet && nat_le octet 126) octets.now }
+{
+    octets.iter().all(|octet| b' ' <= *octet && *octet <= b'~')
+}
+
+// Whether octets are some, and each is so.
+#[tactic(auto, unfolding(crate::specs::Texts::is_printable))]
 fn is_printable(octets: &[u8]) -> bool
     ensures { result ≡ is_printable octets.now }
 {
-    !octets.is_empty() && octets.iter().all(|octet| b' ' <= *octet && *octet <= b'~')
+    !octets.is_empty() && are_printable(octets)
 }
 
 /// What a file holds: a text where all of it can be printed.

@@ -8,12 +8,7 @@ use std::alloc::Global;
 
 // A value of a data type, with the type where it doesn't show it.
 #[tactic(auto, unfolding(crate::specs::Values::typed))]
-fn add_typed(
-    alloc: Global,
-    line: &mut Octets,
-    kind: u16,
-    octets: &[u8],
-) -> Result<(), NoMemory>
+fn add_typed(alloc: Global, line: &mut Octets, kind: u16, octets: &[u8]) -> Result<(), NoMemory>
     ensures { OnOk result (line.new ≡ line.old ++ typed kind octets.now) }
 {
     let reading = read_as(kind, octets);

@@ -1,8 +1,8 @@
-ghost use Rattle.std.specs.Prelude.{◌≡◌, ◌≤◌, ◌++◌, OnOk, length, take, drop};
+ghost use Rattle.std.specs.Prelude.{◌≡◌, ◌≤◌, ◌++◌, OnOk, length};
 ghost use Rattle.value_texts.specs.Whole.{fits, item, values_text, counted, items_text, whole_in, whole_text};
 
 use crate::names::object_in;
-use crate::texts::{add_octets, behind_comma};
+use crate::texts::{add_octets, behind_comma, cut_at};
 use crate::types::{add_number, add_plain, read_as};
 use ec_fields::{NoMemory, Octets, u16_at};
 use object_dictionary::EntrySpec;
@@ -24,18 +24,6 @@ fn fits(entries: &[EntrySpec], size: usize) -> bool
         left -= entry.most as usize;
     }
     left == 0
-}
-
-// The first octets, and those behind them.
-fn cut_at(octets: &[u8], size: usize) -> (&[u8], &[u8])
-    ensures front { result.0.now ≡ take size octets.now }
-    ensures back { result.1.now ≡ drop size octets.now }
-{
-    if size <= octets.len() {
-        octets.split_at(size)
-    } else {
-        (octets, &[])
-    }
 }
 
 // The values of entries that stand one behind the other, each with a comma ahead.
