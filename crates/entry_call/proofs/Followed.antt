@@ -5,7 +5,7 @@ use Rattle.ec_outside.specs.Files.{Table}
 use Rattle.ecmbx_words.specs.declared.status.Status.{Status}
 use Rattle.ecmbx_words.specs.declared.status.Status.TheVariants as statuses
 use Rattle.ecmbx_words.specs.Ends.{Ended as StatusEnded}
-use Rattle.ecmbx_words.specs.Files.{FileCourse, IsUnloaded}
+use Rattle.ecmbx_words.specs.Files.{FileCourse, Followed, IsUnloaded}
 use Rattle.ecmbx_words.specs.Files.FileCourse.{fault, absent, long, found}
 use Rattle.people_words.specs.Ended.{Told}
 use Rattle.people_words.specs.declared.ended.Ended.{Ended}
@@ -17,11 +17,11 @@ told_among planned text old new end (inl memory) = inr (inr memory)
 told_among planned text old new end (inr (inl done)) = inl done.0
 told_among planned text old new end (inr (inr cut)) = inr (inl cut.0)
 
--- another end than these is the planned one
-pub only_planned : (planned end wanted : Ended) → IsAmong planned end → wanted ≢ Ended.As statuses.SinkFault → wanted ≢ Ended.As statuses.NoMemory → end ≡ wanted → planned ≡ wanted
-only_planned planned end wanted (inl same) sink memory is = sym same ∙ is
-only_planned planned end wanted (inr (inl fault)) sink memory is = absurd (sink (sym is ∙ fault))
-only_planned planned end wanted (inr (inr none)) sink memory is = absurd (memory (sym is ∙ none))
+-- a text that is no line of a fault of the files doesn't end with one
+pub no_file_fault : {A : Type 0} (planned end : Ended) → IsAmong planned end → planned ≢ Ended.As statuses.FileFault → end ≡ Ended.As statuses.FileFault → A
+no_file_fault planned end (inl same) other is = absurd (other (sym same ∙ is))
+no_file_fault planned end (inr (inl cut)) other is = absurd cc
+no_file_fault planned end (inr (inr memory)) other is = absurd cc
 
 -- a course that another one is part of
 pub turned : (one other : Ended → List ℕ → Type 0) → ((planned : Ended) (text : List ℕ) → one planned text → other planned text) → (old new : Option (List ℕ)) (end : Ended) → Follows one old new end → Follows other old new end
@@ -35,6 +35,17 @@ as_told : (planned status : Status) (text : List ℕ) (old new : Option (List �
 as_told planned status text old new (inl done) = inr (inl (ap Ended.As done.0, done.1))
 as_told planned status text old new (inr cut) = inr (inr (ap Ended.As cut.0, cut.1))
 
+-- a fault of the files is planned where it is the end
+pub planned_fault : (planned status : Status) (text : List ℕ) (old new : Option (List ℕ)) → StatusEnded planned text old new status → status ≡ statuses.FileFault → planned ≡ statuses.FileFault
+planned_fault planned status text old new (inl done) is = sym done.0 ∙ is
+planned_fault planned status text old new (inr cut) is = absurd cc
+
+-- a course that ends with a status
+pub followed_as : (one : Status → List ℕ → Type 0) (course : Ended → List ℕ → Type 0) → ((planned : Status) (text : List ℕ) → one planned text → course (Ended.As planned) text) → course (Ended.As statuses.NoMemory) []
+    → (old new : Option (List ℕ)) (status : Status) → Followed one old new status → Follows course old new (Ended.As status)
+followed_as one course turn none old new status (inl memory) = starved_at course old new (Ended.As status) none (ap Ended.As memory)
+followed_as one course turn none old new status (inr (planned, text, c, ended)) = (Ended.As planned, text, turn planned text c, as_told planned status text old new ended)
+
 module _ (limit : ℕ) (name : List ℕ) (table : Option Table) (faulted : Type 0) where
   unloaded_as : (planned : Status) (text : List ℕ) → FileCourse limit name table faulted (Unit {0}) (λ octets planned text. ⊥) planned text → Unloaded limit name table (Ended.As planned) text
   unloaded_as _ _ (fault rose u) = Unloaded.fault
@@ -44,19 +55,15 @@ module _ (limit : ℕ) (name : List ℕ) (table : Option Table) (faulted : Type 
 
   -- a file that couldn't be had
   pub unloaded : (course : Ended → List ℕ → Type 0) → ((planned : Ended) (text : List ℕ) → Unloaded limit name table planned text → course planned text) → course (Ended.As statuses.NoMemory) []
-    → (old new : Option (List ℕ)) (status : Status) → IsUnloaded limit name table faulted old new status → Follows course old new (Ended.As status)
-  unloaded course turn none old new status (inl memory) = starved_at course old new (Ended.As status) none (ap Ended.As memory)
-  unloaded course turn none old new status (inr (planned, text, c, ended)) = (Ended.As planned, text, turn (Ended.As planned) text (unloaded_as planned text c), as_told planned status text old new ended)
+      → (old new : Option (List ℕ)) (status : Status) → IsUnloaded limit name table faulted old new status → Follows course old new (Ended.As status)
+  unloaded course turn none old new status lost =
+      followed_as (FileCourse limit name table faulted (Unit {0}) (λ octets planned text. ⊥)) course (λ planned text c. turn (Ended.As planned) text (unloaded_as planned text c)) none old new status lost
 
   fault_of : (planned : Status) (text : List ℕ) → planned ≡ statuses.FileFault → FileCourse limit name table faulted (Unit {0}) (λ octets planned text. ⊥) planned text → faulted
   fault_of _ _ is (fault rose u) = rose
   fault_of _ _ is (absent holds u) = absurd cc
   fault_of _ _ is (long long_is u) = absurd cc
   fault_of _ _ is (found octets planned text holds fits never) = absurd never
-
-  planned_fault : (planned status : Status) (text : List ℕ) (old new : Option (List ℕ)) → StatusEnded planned text old new status → status ≡ statuses.FileFault → planned ≡ statuses.FileFault
-  planned_fault planned status text old new (inl done) is = sym done.0 ∙ is
-  planned_fault planned status text old new (inr cut) is = absurd cc
 
   -- that it couldn't be had for a fault
   pub unloaded_fault : (old new : Option (List ℕ)) (status : Status) → IsUnloaded limit name table faulted old new status → Ended.As status ≡ Ended.As statuses.FileFault → faulted

@@ -1,2 +1,4 @@
 mod Followed
 mod Saves
+mod Acts
+mod Refused

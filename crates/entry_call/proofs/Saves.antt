@@ -41,7 +41,7 @@ end_of_no_file kinds.Handed is = absurd cc
 module _ (words : List (List ℕ)) (slave : SlaveSpec) (service : Service) (octets file : List ℕ) (before behind : Option Table) (old new : Option (List ℕ)) (end : Ended) where
   -- a value that was saved
   pub saved_in : file ≡ last_in words → Saves before behind file octets (Ok tt) → Told (Ended.As statuses.Done) (saved_line slave service octets file) old new end
-    → Follows (SaveCourse words slave service octets before behind) old new end
+      → Follows (SaveCourse words slave service octets before behind) old new end
   saved_in same saves told =
       let under = rw same at saves in
       let line = rw same at told in
@@ -49,14 +49,14 @@ module _ (words : List (List ℕ)) (slave : SlaveSpec) (service : Service) (octe
 
   -- one that wasn't for a fault
   pub unsaved_in : file ≡ last_in words → Saves before behind file octets (Err errors.Failed) → Told (Ended.As statuses.FileFault) fault_line old new end
-    → Follows (SaveCourse words slave service octets before behind) old new end
+      → Follows (SaveCourse words slave service octets before behind) old new end
   unsaved_in same saves told =
       let under = rw same at saves in
       (Ended.As statuses.FileFault, fault_line, SaveCourse.unsaved under, told)
 
   -- and one for want of memory
   pub starved_in : file ≡ last_in words → Saves before behind file octets (Err errors.NoMemory) → end ≡ Ended.As statuses.NoMemory
-    → Follows (SaveCourse words slave service octets before behind) old new end
+      → Follows (SaveCourse words slave service octets before behind) old new end
   starved_in same saves is =
       let under = rw same at saves in
       (Ended.As statuses.NoMemory, [], SaveCourse.starved under, inl is)

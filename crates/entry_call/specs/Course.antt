@@ -1,9 +1,9 @@
 -- What the words of get and put come to: one case for each row of the table of answers.
 use Rattle.std.specs.Prelude.{◌≡◌, ◌≤◌, ℕ, List, [], length, Option, Some, None, Ok, Err}
 use Rattle.ec_outside.specs.Files.{Table}
+use Rattle.ecmbx_words.specs.declared.status.Status.{Status}
 use Rattle.ecmbx_words.specs.declared.status.Status.TheVariants as statuses
 use Rattle.ecmbx_words.specs.Files.{IsLoaded}
-use Rattle.ecmbx_words.specs.Texts.{refused_line}
 use Rattle.gateway_tool.specs.Told.{Told as PortTold}
 use Rattle.people_words.specs.declared.ended.Ended.{Ended}
 use Rattle.scenario.specs.Document.{plan_of}
@@ -11,6 +11,7 @@ use Rattle.segment_plan.specs.declared.plan.Scenario.{Scenario}
 use Rattle.segment_plan.specs.declared.service.Service.{Service}
 use Rattle.segment_plan.specs.declared.slave.SlaveSpec.{SlaveSpec}
 use Rattle.scenario_keys.specs.declared.refusal.Refusal.{Refusal}
+use Rattle.scenario_keys.specs.Rules.{number_of}
 use Rattle.arrayvec.specs.ArrayVec.{ArrayVec}
 use Rattle.entry_act.specs.declared.acts.Act.{Act}
 use Rattle.entry_act.specs.declared.words.Task.{Task}
@@ -19,6 +20,7 @@ use Rattle.entry_act.specs.Acts.{act_in}
 use Rattle.entry_lines.specs.Slaves.{no_slave_line}
 use Rattle.entry_words.specs.Slaves.{slave_in as meant_in}
 use Rattle.entry_call.specs.Ends.{Unloaded}
+use Rattle.entry_call.specs.Refused.{RefusedCourse}
 use Rattle.entry_call.specs.Service.{ServiceCourse}
 
 -- the most octets of a scenario, and of a file that is written
@@ -61,10 +63,11 @@ pub data PlanCourse (words : List (List ℕ)) (task : Task) (slaves : List Slave
       → SlaveCourse words task slave before behind still first last planned text
       → PlanCourse words task slaves before behind still first last planned text
 
--- what is done by the octets of a scenario: they are refused as by a run, or their plan is followed
+-- what is done by the octets of a scenario: they are refused as by a check, or their plan is followed
 pub data OctetsCourse (words : List (List ℕ)) (task : Task) (octets : List ℕ) (before behind : Option Table) (still : Type 0) (first last : PortTold) : Ended → List ℕ → Type 0 where
-  refused : (refusal : Refusal) → plan_of octets ≡ Err refusal → behind ≡ before → still
-      → OctetsCourse words task octets before behind still first last (Ended.As statuses.Refused) (refused_line refusal)
+  refused : (refusal : Refusal) (planned : Status) (text : List ℕ) → plan_of octets ≡ Err refusal
+      → RefusedCourse (scenario_in words) octets (number_of refusal.rule) refusal.place planned text → behind ≡ before → still
+      → OctetsCourse words task octets before behind still first last (Ended.As planned) text
   planned : (plan : Scenario) (end : Ended) (text : List ℕ) → plan_of octets ≡ Ok plan → PlanCourse words task plan.slaves before behind still first last end text
       → OctetsCourse words task octets before behind still first last end text
   starved : behind ≡ before → still → OctetsCourse words task octets before behind still first last (Ended.As statuses.NoMemory) []

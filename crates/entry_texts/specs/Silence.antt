@@ -6,10 +6,13 @@ use Rattle.entry_act.specs.declared.words.Task.{Task}
 use Rattle.entry_act.specs.Words.{scenario_in, slave_in, what_in}
 use Rattle.entry_texts.specs.Replies.{head_text}
 
+-- the words SCENARIO SLAVE WHAT
+unfoldable pub words_text : List (List ℕ) → List ℕ
+words_text words = scenario_in words ++ (codes " " ++ (slave_in words ++ (codes " " ++ what_in words)))
+
 -- where a write is in doubt: that it is to be read before it is written again
 unfoldable pub again_line : List (List ℕ) → List ℕ
-again_line words =
-    codes "read it before you write it again: ecmbx get " ++ (scenario_in words ++ (codes " " ++ (slave_in words ++ (codes " " ++ (what_in words ++ codes "\n")))))
+again_line words = codes "read it before you write it again: ecmbx get " ++ (words_text words ++ codes "\n")
 
 -- the same where something is written
 abbrev pub again_in : List (List ℕ) → Task → List ℕ

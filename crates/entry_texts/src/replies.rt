@@ -60,6 +60,13 @@ pub fn reply_line(
     Ok(line)
 }
 
+/// Puts a word behind a line.
+pub(crate) fn add_word(line: &mut Octets, word: &str) -> Result<(), NoMemory>
+    ensures { OnOk result (line.new ≡ line.old ++ word.now) }
+{
+    line.add(word.as_bytes())
+}
+
 // So many octets.
 #[tactic(auto, unfolding(crate::specs::Replies::count_text))]
 fn add_count(alloc: Global, line: &mut Octets, count: usize) -> Result<(), NoMemory>
@@ -87,7 +94,7 @@ pub fn saved_line(
     let mut line = head(alloc, slave, service)?;
     add_count(alloc, &mut line, octets.len())?;
     line.add(b", saved in ")?;
-    line.add(file.as_bytes())?;
+    add_word(&mut line, file)?;
     line.add(b"\n")?;
     Ok(line)
 }
