@@ -45,11 +45,17 @@ bits_below register (suc bit) = bits_below register bit ++ bit_item register bit
 unfoldable pub register_text : ℕ → List ℕ
 register_text register = if register == 0 then codes "clear" else drop 2 (bits_below register 8)
 
+-- the code
+unfoldable pub code_text : ℕ → List ℕ
+code_text code = codes "emergency " ++ (hex_of 4 code ++ codes ": ")
+
+-- the octet of the error register
+unfoldable pub number_text : ℕ → List ℕ
+number_text register = hex_of 2 register ++ codes ": "
+
 -- the code with its class, and the error register
 unfoldable pub head_text : ℕ → ℕ → List ℕ
-head_text code register =
-    codes "emergency " ++ (hex_of 4 code ++ (codes ": " ++ (class_of (code / 256) ++ (codes "; error register " ++ (hex_of 2 register
-    ++ (codes ": " ++ register_text register))))))
+head_text code register = code_text code ++ (class_of (code / 256) ++ (codes "; error register " ++ (number_text register ++ register_text register)))
 
 -- an emergency: code, error register, and the device's own octets
 unfoldable pub whole_text : List ℕ → List ℕ

@@ -1,5 +1,5 @@
 ghost use Rattle.std.specs.Prelude.{◌≡◌, ◌≤◌, ◌<◌, ◌++◌, OnOk, IfOk, length};
-ghost use Rattle.service_texts.specs.Emergencies.{class_at, class_of, bit_word, has_bit, bit_item, bits_below, register_text, head_text, whole_text, emergency_text};
+ghost use Rattle.service_texts.specs.Emergencies.{class_at, class_of, bit_word, has_bit, bit_item, bits_below, register_text, code_text, number_text, head_text, whole_text, emergency_text};
 
 use code_texts::emergency_class;
 use ec_fields::{NoMemory, Octets, u16_at};
@@ -95,16 +95,32 @@ fn add_register(alloc: Global, line: &mut Octets, register: u8) -> Result<(), No
     Ok(())
 }
 
-#[tactic(auto, unfolding(crate::specs::Emergencies::head_text))]
+#[tactic(auto, unfolding(crate::specs::Emergencies::code_text))]
+fn add_code(alloc: Global, line: &mut Octets, code: u16) -> Result<(), NoMemory>
+    ensures { OnOk result (line.new ≡ line.old ++ code_text code) }
+{
+    let text = format!(in alloc; "emergency {code:04x}: ")?;
+    line.add(text.as_bytes())?;
+    Ok(())
+}
+
+#[tactic(auto, unfolding(crate::specs::Emergencies::number_text))]
+fn add_number(alloc: Global, line: &mut Octets, register: u8) -> Result<(), NoMemory>
+    ensures { OnOk result (line.new ≡ line.old ++ number_text register) }
+{
+    let text = format!(in alloc; "{register:02x}: ")?;
+    line.add(text.as_bytes())?;
+    Ok(())
+}
+
 fn add_head(alloc: Global, line: &mut Octets, code: u16, register: u8) -> Result<(), NoMemory>
     ensures { OnOk result (line.new ≡ line.old ++ head_text code register) }
 {
-    let number = format!(in alloc; "emergency {code:04x}: ")?;
-    let digits = format!(in alloc; "; error register {register:02x}: ")?;
     let class = class_of(alloc, (code / 256) as u8)?;
-    line.add(number.as_bytes())?;
+    add_code(alloc, line, code)?;
     line.add(class.as_bytes())?;
-    line.add(digits.as_bytes())?;
+    line.add(b"; error register ")?;
+    add_number(alloc, line, register)?;
     add_register(alloc, line, register)?;
     Ok(())
 }
