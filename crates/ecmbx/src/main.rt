@@ -7,7 +7,7 @@
 mod notices;
 mod output;
 
-use crate::notices::{listening, say_hint};
+use crate::notices::listening;
 use crate::output::Output;
 use ec_links::TcpLink;
 use ec_outside::{DiskFiles, Peer, UdpPort};
@@ -62,9 +62,6 @@ fn for_scripts(
     let mut port = ListeningPort::new(rt, listening(alloc, datagrams(words)), socket);
     let link = ListeningLink::new(rt, listening(alloc, stream_of(words)), TcpLink::new(rt));
     let (status, _) = program(alloc, words, files, out, &mut port, link, book);
-    if matches!(status, Status::Refused) {
-        say_hint(rt, words);
-    }
     status
 }
 

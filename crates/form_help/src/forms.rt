@@ -3,7 +3,6 @@
 /// The forms in the order in which they are listed: a line each, with the words behind the program's name, `|` and what it does.
 pub const FORMS: &str = "\
 run SCENARIO [CAPTURE]|run a segment and print the report; save every frame as a capture for Wireshark
-check SCENARIO|say whether a scenario can be run, or where it is wrong, what is wanted and why
 explain [CODE]|say what a code means, as 06090031, S6 or foe 8008; alone, list all codes
 decode CAPTURE|print a capture, a line for each packet, datagram and mail
 audit CAPTURE|say whether the traffic in a capture obeys the rules of the mailboxes

@@ -21,30 +21,17 @@ is_version word = bytes_eq word (codes "version") || (bytes_eq word (codes "--ve
 unfoldable pub is_told : List ℕ → Bool
 is_told word = bytes_eq word (codes "explain") || (is_help word || is_version word)
 
--- a form that takes one file; with other words its own are told
-abbrev pub alone : Form → List (List ℕ) → Form
-alone form [] = forms.Told
-alone form (file ∷ []) = form
-alone form (file ∷ word ∷ words) = forms.Told
-
--- the form of a word and those behind it
-unfoldable pub form_by : List ℕ → List (List ℕ) → Form
-form_by word behind =
+-- the form of a first word
+unfoldable pub form_by : List ℕ → Form
+form_by word =
     if is_told word then forms.Told
-    else if bytes_eq word (codes "check") then alone forms.Check behind
     else if bytes_eq word (codes "get") || bytes_eq word (codes "put") then forms.Entry
     else forms.Other
 
 -- THE FORM OF THE WORDS
 unfoldable pub form_in : List (List ℕ) → Form
 form_in [] = forms.Other
-form_in (word ∷ behind) = form_by word behind
-
--- the file of a form that takes one
-abbrev pub file_in : List (List ℕ) → List ℕ
-file_in (word ∷ file ∷ words) = file
-file_in (word ∷ []) = []
-file_in [] = []
+form_in (word ∷ behind) = form_by word
 
 -- what the words behind `version` ask for
 unfoldable pub version_of : List (List ℕ) → Told
@@ -56,8 +43,7 @@ unfoldable pub told_of : List ℕ → List (List ℕ) → Told
 told_of word behind =
     if bytes_eq word (codes "explain") then explained FAMILIES behind
     else if is_help word then help_of FORMS.now behind
-    else if is_version word then version_of behind
-    else record { is_known = false; text = usage_of FORMS.now word }
+    else version_of behind
 
 -- WHAT IS TOLD OF THE WORDS
 unfoldable pub told_in : List (List ℕ) → Told

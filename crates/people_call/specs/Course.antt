@@ -3,33 +3,24 @@ use Rattle.std.specs.Prelude.{◌≡◌, ℕ, List, Option, Some, None, if◌the
 use Rattle.ec_outside.specs.declared.files.Files.{Ghosts as FilesTell}
 use Rattle.ec_outside.specs.declared.sink.Sink.{Ghosts as SinkTells}
 use Rattle.ec_outside.specs.declared.port.Port.{Ghosts as PortTells}
-use Rattle.ecmbx_words.specs.declared.status.Status.{Status}
 use Rattle.ecmbx_words.specs.declared.status.Status.TheVariants as statuses
 use Rattle.form_help.specs.declared.telling.Told.{Told}
 use Rattle.people_words.specs.declared.ended.Ended.{Ended}
 use Rattle.people_words.specs.declared.ended.Ended.TheVariants as ends
 use Rattle.people_words.specs.Ended.{Told as Puts}
-use Rattle.check_call.specs.Call.{ChecksFile}
 use Rattle.entry_call.specs.Course.{EntryCourse}
 use Rattle.entry_call.specs.Objects.{Does}
 use Rattle.people_call.specs.declared.forms.Form.TheVariants as forms
-use Rattle.people_call.specs.Call.{form_in, file_in, told_in}
+use Rattle.people_call.specs.Call.{form_in, told_in}
 
 -- the lines of what is known were put and the status is Done, or those of what isn't and it is Usage
 abbrev pub Tells : Told → Option (List ℕ) → Option (List ℕ) → Ended → Type 0
 Tells t old new end = Puts (ends.As (if t.is_known then statuses.Done else statuses.Usage)) t.text old new end
 
--- a file is checked
-abbrev pub Checks : {F O : Type 0} → FilesTell F → SinkTells O → List ℕ → F → F → O → O → Ended → Type 0
-Checks files_tell sink_tells name files files' out out' end = (status : Status) × (end ≡ ends.As status) × ChecksFile files_tell.table files_tell.file_faults sink_tells.written name files files' out out' status
-
 -- WHAT A CALL COMES TO, by the form of its words, and its end where it is one for people
 pub data Comes {F O P : Type 0} (files_tell : FilesTell F) (sink_tells : SinkTells O) (port_tells : PortTells P) (words : List (List ℕ)) (files files' : F) (out out' : O) (port port' : P) : Option Ended → Type 0 where
   told : (end : Ended) → form_in words ≡ forms.Told → Tells (told_in words) (sink_tells.written out) (sink_tells.written out') end
       → files' ≡ files → port' ≡ port
-      → Comes files_tell sink_tells port_tells words files files' out out' port port' (Some end)
-  checked : (end : Ended) → form_in words ≡ forms.Check → Checks files_tell sink_tells (file_in words) files files' out out' end
-      → files_tell.table files' ≡ files_tell.table files → port' ≡ port
       → Comes files_tell sink_tells port_tells words files files' out out' port port' (Some end)
   entered : (end : Ended) → form_in words ≡ forms.Entry → Does files_tell sink_tells port_tells (EntryCourse words) files files' out out' port port' end
       → Comes files_tell sink_tells port_tells words files files' out out' port port' (Some end)

@@ -4,15 +4,14 @@ ghost use Rattle.ecmbx_words.specs.declared.status.Status.TheVariants as statuse
 ghost use Rattle.people_words.specs.declared.ended.Ended.TheVariants as ends;
 ghost use Rattle.people_call.specs.Course.{Comes};
 
-use crate::forms::{Form, file_of, form_of};
+use crate::forms::{Form, form_of};
 use crate::telling::tell_words;
-use check_call::check;
 use ec_outside::{Files, Port, Sink};
 use entry_call::get_or_put;
 use people_words::Ended;
 use std::alloc::Global;
 
-/// Does what the words ask for, where the first is that of a form for people: `explain`, `help`, `version`, `check`, `get` or `put`.
+/// Does what the words ask for, where the first is that of a form for people: `explain`, `help`, `version`, `get` or `put`.
 /// None of any other words, for which nothing is done.
 pub fn people_call<F: Files, O: Sink, P: Port>(
     alloc: Global,
@@ -27,7 +26,6 @@ pub fn people_call<F: Files, O: Sink, P: Port>(
 {
     match form_of(words) {
         Form::Told => Some(tell_words(alloc, words, out)),
-        Form::Check => Some(Ended::As(check(alloc, file_of(words), files, out))),
         Form::Entry => Some(get_or_put(alloc, words, files, out, port)),
         Form::Other => None,
     }

@@ -1,14 +1,11 @@
 ghost use Rattle.std.specs.Prelude.{◌≡◌, map, string_bytes};
-ghost use Rattle.people_call.specs.declared.forms.Form.TheVariants as forms;
-ghost use Rattle.people_call.specs.Call.{is_help, is_version, is_told, alone, form_by, form_in, file_in};
+ghost use Rattle.people_call.specs.Call.{is_help, is_version, is_told, form_by, form_in};
 
 /// The forms for people.
 #[derive(Clone, Copy)]
 pub(crate) enum Form {
     /// Something is told, and nothing else is done.
     Told,
-    /// `check SCENARIO`
-    Check,
     /// `get ..` and `put ..`
     Entry,
     /// Any other words.
@@ -23,7 +20,7 @@ pub(crate) fn is_help(word: &str) -> bool
 }
 
 #[tactic(auto, unfolding(crate::specs::Call::is_version))]
-pub(crate) fn is_version(word: &str) -> bool
+fn is_version(word: &str) -> bool
     ensures { result ≡ is_version word.now }
 {
     word == "version" || word == "--version" || word == "-V"
@@ -37,25 +34,13 @@ fn is_told(word: &str) -> bool
     word == "explain" || is_help(word) || is_version(word)
 }
 
-// A form that takes one file; with other words its own are told.
-fn alone(form: Form, behind: &[String]) -> Form
-    ensures { result ≡ alone form (map string_bytes behind.now) }
-{
-    match behind {
-        [_] => form,
-        _ => Form::Told,
-    }
-}
-
-// The form of a word and those behind it.
+// The form of a first word.
 #[tactic(auto, unfolding(crate::specs::Call::form_by))]
-fn form_by(word: &str, behind: &[String]) -> Form
-    ensures { result ≡ form_by word.now (map string_bytes behind.now) }
+fn form_by(word: &str) -> Form
+    ensures { result ≡ form_by word.now }
 {
     if is_told(word) {
         Form::Told
-    } else if word == "check" {
-        alone(Form::Check, behind)
     } else if word == "get" || word == "put" {
         Form::Entry
     } else {
@@ -69,17 +54,7 @@ pub(crate) fn form_of(words: &[String]) -> Form
     ensures { result ≡ form_in (map string_bytes words.now) }
 {
     match words {
-        [word, behind @ ..] => form_by(word.as_str(), behind),
+        [word, ..] => form_by(word.as_str()),
         [] => Form::Other,
-    }
-}
-
-/// The file of a form that takes one.
-pub(crate) fn file_of(words: &[String]) -> &str
-    ensures { result.now ≡ file_in (map string_bytes words.now) }
-{
-    match words {
-        [_, file, ..] => file.as_str(),
-        _ => "",
     }
 }

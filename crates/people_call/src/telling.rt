@@ -6,7 +6,7 @@ ghost use Rattle.people_call.specs.Call.{version_of, told_of, told_in};
 ghost use Rattle.people_call.specs.Course.{Tells};
 
 use crate::explain::explained;
-use crate::forms::{is_help, is_version};
+use crate::forms::is_help;
 use code_texts::FAMILIES;
 use ec_fields::{NoMemory, Octets};
 use ec_outside::Sink;
@@ -42,13 +42,8 @@ fn told_of(alloc: Global, word: &str, behind: &[String]) -> Result<Told, NoMemor
         explained(alloc, &FAMILIES, behind)
     } else if is_help(word) {
         help(alloc, FORMS, behind)
-    } else if is_version(word) {
-        version(alloc, behind)
     } else {
-        Ok(Told {
-            is_known: false,
-            text: usage(alloc, FORMS, word)?,
-        })
+        version(alloc, behind)
     }
 }
 

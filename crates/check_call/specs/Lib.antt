@@ -1,3 +1,0 @@
-pub mod Diagnosis
-pub mod Places
-pub mod Call

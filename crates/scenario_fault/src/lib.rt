@@ -1,6 +1,0 @@
-//! Stand-in.
-#![tactic(auto)]
-
-mod fault;
-
-pub use fault::{Fault, find_fault};

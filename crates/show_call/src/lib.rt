@@ -1,6 +1,0 @@
-//! `show SCENARIO`: runs a segment and tells what happened in it, in the order of time.
-#![tactic(auto)]
-
-mod call;
-
-pub use call::show;
