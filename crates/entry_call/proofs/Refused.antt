@@ -15,7 +15,7 @@ use Rattle.segment_plan.specs.declared.plan.Scenario.{Scenario}
 use Rattle.entry_act.specs.declared.words.Task.{Task}
 use Rattle.entry_act.specs.Words.{scenario_in}
 use Rattle.entry_call.specs.Ends.{Follows}
-use Rattle.entry_call.specs.Refused.{RefusedCourse}
+use Rattle.check_call.specs.Call.{RefusedCourse}
 use Rattle.entry_call.specs.Course.{OctetsCourse}
 use Rattle.entry_call.proofs.Followed.{followed_as, planned_fault}
 

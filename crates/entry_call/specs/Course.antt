@@ -4,6 +4,7 @@ use Rattle.ec_outside.specs.Files.{Table}
 use Rattle.ecmbx_words.specs.declared.status.Status.{Status}
 use Rattle.ecmbx_words.specs.declared.status.Status.TheVariants as statuses
 use Rattle.ecmbx_words.specs.Files.{IsLoaded}
+use Rattle.check_call.specs.Call.{RefusedCourse}
 use Rattle.gateway_tool.specs.Told.{Told as PortTold}
 use Rattle.people_words.specs.declared.ended.Ended.{Ended}
 use Rattle.scenario.specs.Document.{plan_of}
@@ -20,7 +21,6 @@ use Rattle.entry_act.specs.Acts.{act_in}
 use Rattle.entry_lines.specs.Slaves.{no_slave_line}
 use Rattle.entry_words.specs.Slaves.{slave_in as meant_in}
 use Rattle.entry_call.specs.Ends.{Unloaded}
-use Rattle.entry_call.specs.Refused.{RefusedCourse}
 use Rattle.entry_call.specs.Service.{ServiceCourse}
 
 -- the most octets of a scenario, and of a file that is written

@@ -8,8 +8,8 @@ ghost use Rattle.entry_call.specs.Course.{WriteCourse, SlaveCourse, PlanCourse, 
 ghost use Rattle.entry_call.specs.Objects.{Does};
 
 use crate::asking::carry_out;
-use crate::loading::put_refused;
 use crate::putting::put;
+use check_call::put_refused;
 use ec_fields::Octets;
 use ec_outside::{Files, Port, Sink};
 use ecmbx_words::{Status, load};

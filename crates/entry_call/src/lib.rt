@@ -3,7 +3,6 @@
 
 mod asking;
 mod call;
-mod loading;
 mod putting;
 
 pub use call::get_or_put;
