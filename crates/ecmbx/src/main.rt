@@ -55,13 +55,15 @@ fn for_scripts(
     words: &[String],
     files: &mut DiskFiles<'_, HostRuntime>,
     out: &mut Output<'_, HostRuntime>,
-    book: &mut Book,
 ) -> Status {
     let alloc = rt.alloc();
+    let mut book = Book::new(alloc);
     let socket = UdpPort::new(rt, LOCALHOST, port_for(words));
     let mut port = ListeningPort::new(rt, listening(alloc, datagrams(words)), socket);
     let link = ListeningLink::new(rt, listening(alloc, stream_of(words)), TcpLink::new(rt));
-    let (status, _) = program(alloc, words, files, out, &mut port, link, book);
+    let (status, _) = program(alloc, words, files, out, &mut port, link, &mut book);
+    // The process ends: letting go frame by frame what it gives back whole would only cost time.
+    mem::forget(book);
     status
 }
 
@@ -78,7 +80,6 @@ fn main(rt: HostRuntime) -> ExitCode {
     let words = words.as_slice();
     let mut files = DiskFiles::new(&rt);
     let mut out = Output::new(alloc, &rt);
-    let mut book = Book::new(alloc);
     let gateway = Peer {
         ip: LOCALHOST,
         port: GATEWAY,
@@ -86,10 +87,8 @@ fn main(rt: HostRuntime) -> ExitCode {
     let mut port = PatientPort::new(&rt, gateway);
     let ended = match people_call(alloc, words, &mut files, &mut out, &mut port) {
         Some(ended) => ended,
-        None => Ended::As(for_scripts(&rt, words, &mut files, &mut out, &mut book)),
+        None => Ended::As(for_scripts(&rt, words, &mut files, &mut out)),
     };
-    // The process ends: letting go frame by frame what it gives back whole would only cost time.
-    mem::forget(book);
     match out.flush() {
         Err(_) if !matches!(ended, Ended::As(Status::NoMemory)) => {
             ExitCode::from(Status::SinkFault.number())
