@@ -74,11 +74,6 @@ fn port_of(page: &mut Page, from: Peer, sent: &[SentGram]) -> MemPort {
     MemPort::new(alloc, items, Rows::new(alloc))
 }
 
-// Whether a form for people asks a gateway.
-fn asks(word: &str) -> bool {
-    word == "get" || word == "put"
-}
-
 impl<F: Files + Drop> Stage<F> {
     // Tells what the last call put, behind a name.
     fn tell_put(&self, page: &mut Page, name: &str) {
@@ -185,30 +180,5 @@ impl<F: Files + Drop> Stage<F> {
         tell_number(page, "heard", heard);
         tell_number(page, "status", status);
         page.put("\n");
-    }
-
-    /// Makes the call for people whose words stand in NAME.people, one a line, over the port NAME.port where the call asks a gateway. Tells what it put, and
-    /// its status.
-    pub fn tell_people(&mut self, page: &mut Page, name: &str) {
-        let octets = octets_of(page, &mut self.files, name, ".people");
-        let mut words = Vec::new(page.alloc());
-        for word in page.text_in(octets.bytes()).lines() {
-            match String::from_str(page.alloc(), word) {
-                Ok(word) => page.check(words.push(word).is_ok()),
-                Err(_) => page.fail(),
-            }
-        }
-        if words.as_slice().first().is_some_and(|word| asks(word)) {
-            let Script { grams, failing, .. } = script_of(page, &mut self.files, name, ".port");
-            self.port = MemPort::new(page.alloc(), grams, failing);
-        }
-        match self.call_for_people(page.alloc(), words.as_slice()) {
-            Some(status) => {
-                self.tell_put(page, name);
-                tell_number(page, "status", status);
-                page.put("\n");
-            }
-            None => page.fail(),
-        }
     }
 }

@@ -2,8 +2,8 @@
 //! calls of all kinds, what a client of the gateway asks, audits of captures, and the examples, each run as a user runs it.
 //!
 //! Behind them runs made again, runs, servings, streams and what is asked over their replies: what each left is printed. A word is the kind of the call
-//! and its names, `replay:SCENARIO`, `run:SCENARIO`, `serve:SCENARIO=PORT`, `stream:SCENARIO=LINK`, `ask:SCENARIO=CALL` or `people:CALL`: the scenario is SCENARIO.toml,
-//! what its port or link has to give stands in PORT.port or LINK.link, the words of a call of a tool in CALL.words and of one for people in CALL.people. Where both names are the same it is
+//! and its names, `replay:SCENARIO`, `run:SCENARIO`, `serve:SCENARIO=PORT`, `stream:SCENARIO=LINK` or `ask:SCENARIO=CALL`: the scenario is SCENARIO.toml,
+//! what its port or link has to give stands in PORT.port or LINK.link, the words of a call of a tool in CALL.words. Where both names are the same it is
 //! written once.
 #![tactic(auto)]
 
@@ -71,7 +71,6 @@ fn tell_word<F: Files + Drop>(page: &mut Page, stage: &mut Stage<F>, word: &str)
         "serve" => stage.tell_serving(page, scenario, name),
         "stream" => stage.tell_streaming(page, scenario, name),
         "ask" => stage.tell_asking(page, scenario, name),
-        "people" => stage.tell_people(page, name),
         _ => page.fail(),
     }
 }
@@ -102,6 +101,7 @@ fn tell_calls(rt: &HostRuntime) -> Result<()> {
         let bench = CallBench::new(rt.alloc(), DiskFiles::new(rt));
         tell(rt, name, Some(bench))?;
     }
+    fs::remove_file(rt, "kept.bin")?;
     Ok(())
 }
 
@@ -117,6 +117,5 @@ fn main(rt: HostRuntime) -> Result<()> {
             bail!("a fault");
         }
     }
-    fs::remove_file(&rt, "kept.bin")?;
     Ok(())
 }

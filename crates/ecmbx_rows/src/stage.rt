@@ -2,7 +2,6 @@ use ec_fields::Rows;
 use ec_links::MemLink;
 use ec_outside::{Files, MemPort, MemSink};
 use ecmbx_call::{Book, program};
-use people_call::people_call;
 use row_table::{Page, Row};
 use std::alloc::Global;
 use std::mem;
@@ -59,13 +58,6 @@ impl<F: Files + Drop> Stage<F> {
             book: Book::new(alloc),
             failing,
         }
-    }
-
-    /// Makes the call for people of these words: the number of its status, or none where they are no form for people.
-    pub fn call_for_people(&mut self, alloc: Global, words: &[String]) -> Option<u64> {
-        self.out = MemSink::new(alloc, numbers(alloc, self.failing));
-        let ended = people_call(alloc, words, &mut self.files, &mut self.out, &mut self.port)?;
-        Some(u64::from(ended.number()))
     }
 
     /// Makes the call of the words that are left: the number of its status.
